@@ -1,0 +1,67 @@
+-- Paper 01, 'Words to prove', and the program's example: one list, one proof, by computing the passes.
+-- Assumes nothing.
+use Prim.Native.Nat.{ℕ}
+use mathlib.Core.Path.{_≡_, refl}
+use mathlib.Core.List.{List, [], _∷_, map}
+use Rattle.message.specs.Alphabet.{gap, pause, mark, «а», «б», «в», «г», «д», «е», «ж», «з», «и», «к», «л», «м», «н», «о», «п», «р», «с», «т», «у», «ъ», «ы», «ь»}
+use Rattle.message.specs.Codes.{J, А*, А1, А2, Б, В, Г, Д, Ж, З, З', К, Л, М, Н, О*, П, Р, С, С', Т, Т', У*, У1, Ы*, Ы1, Э*}
+use Rattle.message.specs.Tape.{tape}
+use Rattle.message.specs.Joints.{joined, liveCount}
+use Rattle.message.proofs.Computed.{everything}
+
+-- what is heard of a message, whole and cut
+pub record Heard : Type 0 where
+  pub whole : List ℕ
+  pub parts : List ℕ
+  pub live : ℕ
+
+pub record Example : Type 0 where
+  pub message : List ℕ
+  pub cuts : List ℕ
+  pub whole : List ℕ
+  pub parts : List ℕ
+  pub live : ℕ
+
+-- a word without cuts: its only part is the whole
+abbrev pub word : List ℕ → List ℕ → Example
+word m t = record { message = m; cuts = []; whole = t; parts = t; live = 0 }
+
+unfoldable pub examples : List Example
+examples =
+    -- вода*
+    (word («в» ∷ «о» ∷ «д» ∷ «а» ∷ mark ∷ []) (В ∷ А1 ∷ Д ∷ А* ∷ [])) ∷
+    -- ду*б го*л
+    (word («д» ∷ «у» ∷ mark ∷ «б» ∷ gap ∷ «г» ∷ «о» ∷ mark ∷ «л» ∷ []) (Д ∷ У* ∷ Б ∷ 0 ∷ Г ∷ О* ∷ Л ∷ [])) ∷
+    -- ду*б#го*л
+    (word («д» ∷ «у» ∷ mark ∷ «б» ∷ pause ∷ «г» ∷ «о» ∷ mark ∷ «л» ∷ []) (Д ∷ У* ∷ П ∷ 63 ∷ Г ∷ О* ∷ Л ∷ [])) ∷
+    -- са*д и*вы
+    (word («с» ∷ «а» ∷ mark ∷ «д» ∷ gap ∷ «и» ∷ mark ∷ «в» ∷ «ы» ∷ []) (С ∷ А* ∷ Т ∷ 0 ∷ Ы* ∷ В ∷ Ы1 ∷ [])) ∷
+    -- подъе*зд
+    (word («п» ∷ «о» ∷ «д» ∷ «ъ» ∷ «е» ∷ mark ∷ «з» ∷ «д» ∷ []) (П ∷ А1 ∷ Д ∷ J ∷ Э* ∷ С ∷ Т ∷ [])) ∷
+    -- по*здно
+    (word («п» ∷ «о» ∷ mark ∷ «з» ∷ «д» ∷ «н» ∷ «о» ∷ []) (П ∷ О* ∷ З ∷ Н ∷ А2 ∷ [])) ∷
+    -- сте*нды
+    (word («с» ∷ «т» ∷ «е» ∷ mark ∷ «н» ∷ «д» ∷ «ы» ∷ []) (С' ∷ Т' ∷ Э* ∷ Н ∷ Д ∷ Ы1 ∷ [])) ∷
+    -- про*сьба
+    (word («п» ∷ «р» ∷ «о» ∷ mark ∷ «с» ∷ «ь» ∷ «б» ∷ «а» ∷ []) (П ∷ Р ∷ О* ∷ З' ∷ Б ∷ А2 ∷ [])) ∷
+    -- жена*
+    (word («ж» ∷ «е» ∷ «н» ∷ «а» ∷ mark ∷ []) (Ж ∷ Ы1 ∷ Н ∷ А* ∷ [])) ∷
+    -- ду*б ра*д
+    (word («д» ∷ «у» ∷ mark ∷ «б» ∷ gap ∷ «р» ∷ «а» ∷ mark ∷ «д» ∷ []) (24 ∷ 6 ∷ 39 ∷ 0 ∷ 41 ∷ 1 ∷ 45 ∷ [])) ∷
+    -- са*д к до*му
+    (record { message = «с» ∷ «а» ∷ mark ∷ «д» ∷ gap ∷ «к» ∷ gap ∷ «д» ∷ «о» ∷ mark ∷ «м» ∷ «у» ∷ []; cuts = []; whole = С ∷ А* ∷ Д ∷ 0 ∷ Г ∷ 0 ∷ Д ∷ О* ∷ М ∷ У1 ∷ []; parts = С ∷ А* ∷ Д ∷ 0 ∷ Г ∷ 0 ∷ Д ∷ О* ∷ М ∷ У1 ∷ []; live = 0 }) ∷
+    -- са*д к до*му, cut at 4
+    (record { message = «с» ∷ «а» ∷ mark ∷ «д» ∷ gap ∷ «к» ∷ gap ∷ «д» ∷ «о» ∷ mark ∷ «м» ∷ «у» ∷ []; cuts = 4 ∷ []; whole = С ∷ А* ∷ Д ∷ 0 ∷ Г ∷ 0 ∷ Д ∷ О* ∷ М ∷ У1 ∷ []; parts = С ∷ А* ∷ Т ∷ 0 ∷ Г ∷ 0 ∷ Д ∷ О* ∷ М ∷ У1 ∷ []; live = 1 }) ∷
+    -- са*д к до*му, cut at 4 and 6
+    (record { message = «с» ∷ «а» ∷ mark ∷ «д» ∷ gap ∷ «к» ∷ gap ∷ «д» ∷ «о» ∷ mark ∷ «м» ∷ «у» ∷ []; cuts = 4 ∷ 6 ∷ []; whole = С ∷ А* ∷ Д ∷ 0 ∷ Г ∷ 0 ∷ Д ∷ О* ∷ М ∷ У1 ∷ []; parts = С ∷ А* ∷ Т ∷ 0 ∷ К ∷ 0 ∷ Д ∷ О* ∷ М ∷ У1 ∷ []; live = 2 }) ∷
+    []
+
+abbrev pub expected : Example → Heard
+expected e = record { whole = e .whole; parts = e .parts; live = e .live }
+
+abbrev pub found : Example → Heard
+found e = record { whole = tape (e .message); parts = joined (e .message) (e .cuts); live = liveCount (e .message) (e .cuts) }
+
+pub words : map found examples ≡ map expected examples
+unfolding everything examples
+words = refl

@@ -1,0 +1,66 @@
+-- Paper 01, 'Turned-away messages', what is answered and what the lent output holds afterwards, for every operation.
+-- Assumes nothing: these are definitions.
+use Prim.Native.Nat.{ℕ}
+use mathlib.Core.Path.{_≡_}
+use mathlib.Core.Bool.{Bool, cond}
+use mathlib.Core.List.{List, [], _∷_, _++_}
+use lib.Dec.{eqb, leb}
+use lib.ListN.{length, drop}
+use Rattle.message.specs.Tape.{tape, names}
+use Rattle.message.specs.Refusals.{refusal, checkOf}
+use Rattle.message.specs.Joints.{joined, liveCount, badCut}
+use Rattle.message.specs.declared.Refusal.{Refusal}
+use Rattle.message.specs.declared.Checked.{Checked}
+use Rattle.message.specs.declared.Answer.{Answer}
+use Rattle.message.specs.declared.Checked.the-variants as checked
+use Rattle.message.specs.declared.Answer.the-variants.{Written, Refused}
+
+-- The paper's number, place, length and live count of an answer; an accepted message has number 0 and place 0.
+unfoldable pub numberOf : Answer → ℕ
+numberOf (Written n k) = 0
+numberOf (Refused r) = r .number
+
+unfoldable pub placeOf : Answer → ℕ
+placeOf (Written n k) = 0
+placeOf (Refused r) = r .place
+
+unfoldable pub lengthOf : Answer → ℕ
+lengthOf (Written n k) = n
+lengthOf (Refused r) = 0
+
+unfoldable pub liveOf : Answer → ℕ
+liveOf (Written n k) = k
+liveOf (Refused r) = 0
+
+-- number 11: a lent output of this room is too short for n bytes; the place is n
+unfoldable pub within : ℕ → ℕ → ℕ → Answer
+within room n live = cond (leb n room) (Written n live) (Refused (refusal 11 n))
+
+-- the check's refusals come first
+unfoldable pub afterCheck : Checked → Answer → Answer
+afterCheck (checked.Accepted counts) a = a
+afterCheck (checked.Refused r) a = Refused r
+
+-- what the lent output holds afterwards: the answer's bytes and then its own, or its own alone
+unfoldable pub outputAfter : Answer → List ℕ → List ℕ → List ℕ
+outputAfter (Written n k) text out = text ++ drop n out
+outputAfter (Refused r) text out = out
+
+-- An operation answered as it must, with these bytes, and left in the output what it must.
+pub record Answered (due : Answer) (text out out′ : List ℕ) (r : Answer) : Type 0 where
+  pub answer : r ≡ due
+  pub output : out′ ≡ outputAfter due text out
+
+-- the naming operation, lent an output of this room
+unfoldable pub nameAnswer : List ℕ → ℕ → Answer
+nameAnswer m room = afterCheck (checkOf m) (within room (length (names m)) 0)
+
+-- the transcriber
+unfoldable pub tapeAnswer : List ℕ → ℕ → Answer
+tapeAnswer m room = afterCheck (checkOf m) (within room (length (tape m)) 0)
+
+-- the joiner: number 12 after the check's and before 11
+unfoldable pub joinAnswer : List ℕ → List ℕ → ℕ → Answer
+joinAnswer m cuts room =
+    afterCheck (checkOf m)
+    (cond (eqb (badCut m cuts) (length cuts)) (within room (length (joined m cuts)) (liveCount m cuts)) (Refused (refusal 12 (badCut m cuts))))

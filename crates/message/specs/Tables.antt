@@ -1,0 +1,21 @@
+-- What the tables of paper 01 are written with: a class is a list of bytes, and a table a list of entries.
+-- Assumes nothing: these are definitions.
+use Prim.Native.Nat.{ℕ}
+use mathlib.Core.Bool.{Bool, true, false, cond, _||_}
+use mathlib.Core.List.{List, [], _∷_}
+use lib.Dec.{eqb, leb}
+
+infix 40 _gives_
+-- is b one of the list?
+unfoldable pub among : List ℕ → ℕ → Bool
+among [] b = false
+among (x ∷ xs) b = eqb b x || among xs b
+
+-- an entry of a table from letters to codes
+pub data Entry : Type 0 where
+  _gives_ : ℕ → ℕ → Entry
+
+-- what the first entry for b gives; 0, which is no sound, where there is none
+unfoldable pub entry : List Entry → ℕ → ℕ
+entry [] b = 0
+entry ((x gives c) ∷ es) b = cond (eqb b x) c (entry es b)

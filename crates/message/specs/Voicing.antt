@@ -1,0 +1,52 @@
+-- Paper 01, pass 4, voice: an obstruent (the paper's noise letter) is voiced or voiceless by the sound after it.
+-- Assumes nothing: these are definitions.
+use Prim.Native.Nat.{ℕ}
+use mathlib.Core.Bool.{Bool, cond}
+use mathlib.Core.List.{List, [], _∷_}
+use Rattle.message.specs.Alphabet.{«б», «в», «г», «д», «ж», «з», «к», «п», «с», «т», «ф», «х», «ц», «ч», «ш», «щ»}
+use Rattle.message.specs.Tables.{Entry, _gives_, entry}
+use Rattle.message.specs.Letters.{isObstruent}
+use Rattle.message.specs.Codes.{Б, В, Г, Х1, Д, Ж, Ж', З, К, П, С, Т, Ф, Х, Ц, Ц1, Ч, Ч1, Ш, Щ, isVoicing, isDevoicing}
+use Rattle.message.specs.Vowels.{Phone}
+
+-- the pairs, voiced: х ц ч щ give Х1 Ц1 Ч1 Ж'
+unfoldable pub voicedCode : ℕ → ℕ
+voicedCode b =
+    entry
+    ((«б» gives Б) ∷ («п» gives Б) ∷ («в» gives В) ∷ («ф» gives В) ∷ («г» gives Г) ∷ («к» gives Г) ∷ («д» gives Д) ∷ («т» gives Д) ∷ («ж» gives Ж) ∷ («ш» gives Ж) ∷ («з» gives З) ∷ («с» gives З) ∷ («х» gives Х1) ∷ («ц» gives Ц1) ∷ («ч» gives Ч1) ∷ («щ» gives Ж') ∷ [])
+    b
+
+-- the pairs, voiceless: х ц ч щ are so as written
+unfoldable pub voicelessCode : ℕ → ℕ
+voicelessCode b =
+    entry
+    ((«б» gives П) ∷ («п» gives П) ∷ («в» gives Ф) ∷ («ф» gives Ф) ∷ («г» gives К) ∷ («к» gives К) ∷ («д» gives Т) ∷ («т» gives Т) ∷ («ж» gives Ш) ∷ («ш» gives Ш) ∷ («з» gives С) ∷ («с» gives С) ∷ («х» gives Х) ∷ («ц» gives Ц) ∷ («ч» gives Ч) ∷ («щ» gives Щ) ∷ [])
+    b
+
+-- what the sounds after it make of an obstruent
+pub data Tone : Type 0 where
+  voiced voiceless asWritten : Tone
+
+unfoldable pub toneBefore : ℕ → Tone
+toneBefore c = cond (isVoicing c) voiced (cond (isDevoicing c) voiceless asWritten)
+
+-- before the later sounds of its word; with none, by whether the next word of the phrase begins with a voicing sound
+unfoldable pub toneOf : Bool → List Phone → Tone
+toneOf next [] = cond next voiced voiceless
+toneOf next (x ∷ xs) = toneBefore (x .code)
+
+-- the code of an obstruent b that is c as written
+unfoldable pub toned : Tone → ℕ → ℕ → ℕ
+toned voiced b c = voicedCode b
+toned voiceless b c = voicelessCode b
+toned asWritten b c = c
+
+-- one sound before the finished sounds xs: only an obstruent changes
+unfoldable pub voiceOne : Bool → Phone → List Phone → Phone
+voiceOne next x xs =
+    record { letter = x .letter; softened = x .softened; code = cond (isObstruent (x .letter)) (toned (toneOf next xs) (x .letter) (x .code)) (x .code) }
+
+-- pass 4, from right to left
+unfoldable pub voice : Bool → List Phone → List Phone
+voice next [] = []
+voice next (x ∷ xs) = let rest = voice next xs in voiceOne next x rest ∷ rest

@@ -1,0 +1,128 @@
+-- Paper 01, pass 3: the sounds of vowels. The words here have been through pass 1.
+-- Assumes nothing: these are definitions.
+use Prim.Native.Nat.{ℕ}
+use mathlib.Core.Bool.{Bool, true, false, cond, _&&_, _||_}
+use mathlib.Core.List.{List, [], _∷_, _++_}
+use lib.Dec.{eqb}
+use Rattle.message.specs.Alphabet.{«а», «б», «в», «г», «д», «е», «ж», «з», «и», «й», «к», «л», «м», «н», «о», «п», «р», «с», «т», «у», «ф», «х», «ц», «ч», «ш», «щ», «ы», «ь», «э», «ю», «я», «ё»}
+use Rattle.message.specs.Tables.{among, Entry, _gives_, entry}
+use Rattle.message.specs.Letters.{Letter, firstByte, isHardOnly, isPaired, isSoftOnly, isSign, isVowel, isSofteningVowel}
+use Rattle.message.specs.Codes.{А*, О*, Э*, Ы*, И*, У*, А1, Э1, Ы1, И1, У1, А2, Э2, Б, В, Г, Д, Ж, J, З, К, Л, М, Н, П, Р, С, Т, Ф, Х, Ц, Ч, Ш, Щ}
+use Rattle.message.specs.Syllables.{syllableOf}
+use Rattle.message.specs.declared.Cover.{Cover}
+use Rattle.message.specs.declared.Cover.the-variants.{Bare, Covered}
+use Rattle.message.specs.declared.Level.{Level}
+use Rattle.message.specs.declared.Level.the-variants.{Stressed, First, Second}
+use Rattle.message.specs.declared.Syllable.{Syllable}
+
+-- the last letter of a word is p and the one before it is q: does the word end in T or P, or in ь with T before it?
+unfoldable pub hardEnd : ℕ → ℕ → Bool
+hardEnd q p = isHardOnly p || (isPaired p || (eqb p «ь» && isHardOnly q))
+
+unfoldable pub endsHardFrom : ℕ → ℕ → List Letter → Bool
+endsHardFrom q p [] = hardEnd q p
+endsHardFrom q p (l ∷ w) = endsHardFrom p (l .byte) w
+
+-- the word before a hard boundary (the paper's hard joint) ends so; 0 stands for no letter
+unfoldable pub endsHard : List Letter → Bool
+endsHard w = endsHardFrom 0 0 w
+
+-- a row that has one sound for level S, and one for levels 1 and 2
+unfoldable pub byStress : Level → ℕ → ℕ → ℕ
+byStress Stressed s u = s
+byStress First s u = u
+byStress Second s u = u
+
+-- a row that has one sound for each level
+unfoldable pub byLevel : Level → ℕ → ℕ → ℕ → ℕ
+byLevel Stressed s one two = s
+byLevel First s one two = one
+byLevel Second s one two = two
+
+-- "initial": no letter of the word stands before
+unfoldable pub initial : ℕ → Bool
+initial p = eqb p 0
+
+-- The vowel table, a row a vowel. p is the letter before ("after"); hard says that a hard boundary stands right before this letter.
+module _ (hard : Bool) (p : ℕ) (level : Level) where
+  unfoldable pub rowА : ℕ
+  rowА = byLevel level А* (cond (isSoftOnly p) Э1 А1) (cond (initial p) А1 (cond (isSoftOnly p) Э2 А2))
+
+  unfoldable pub rowО : ℕ
+  rowО = byLevel level О* А1 (cond (initial p) А1 (cond (isSoftOnly p) Э2 А2))
+
+  unfoldable pub rowУ : ℕ
+  rowУ = byStress level У* У1
+
+  unfoldable pub rowЫ : ℕ
+  rowЫ = byStress level Ы* Ы1
+
+  unfoldable pub rowЭ : ℕ
+  rowЭ = byLevel level Э* (cond (initial p && hard) Ы1 Э1) (cond (initial p && hard) Ы1 Э2)
+
+  unfoldable pub rowЕ : ℕ
+  rowЕ = byLevel level Э* (cond (isHardOnly p) Ы1 Э1) (cond (initial p) Э1 (cond (isHardOnly p) А2 Э2))
+
+  unfoldable pub rowЁ : ℕ
+  rowЁ = О*
+
+  unfoldable pub rowЮ : ℕ
+  rowЮ = byStress level У* У1
+
+  unfoldable pub rowЯ : ℕ
+  rowЯ = byLevel level А* Э1 (cond (initial p) Э1 Э2)
+
+  unfoldable pub rowИ : ℕ
+  rowИ = cond (isHardOnly p || (initial p && hard)) (byStress level Ы* Ы1) (byStress level И* И1)
+
+  -- the row of the vowel b
+  unfoldable pub vowelSound : ℕ → ℕ
+  unfolding rowА rowО rowУ rowЫ rowЭ rowЕ rowЁ rowЮ rowЯ rowИ
+  vowelSound b =
+      entry
+      ((«а» gives rowА) ∷ («о» gives rowО) ∷ («у» gives rowУ) ∷ («ы» gives rowЫ) ∷ («э» gives rowЭ) ∷ («е» gives rowЕ) ∷ («ё» gives rowЁ) ∷ («ю» gives rowЮ) ∷ («я» gives rowЯ) ∷ («и» gives rowИ) ∷ [])
+      b
+
+-- J: before the sound of е ё ю я when the syllable is bare or the letter is after a sign, and before that of и after a sign
+unfoldable pub bare : Cover → Bool
+bare Bare = true
+bare Covered = false
+
+unfoldable pub glides : ℕ → Cover → ℕ → Bool
+glides p cover b =
+    (among («е» ∷ «ё» ∷ «ю» ∷ «я» ∷ []) b && (bare cover || isSign p))
+    || (eqb b «и» && isSign p)
+
+-- What the passes know of a sound: its letter, whether the next letter palatalizes it (used in pass 5), and its code so far.
+pub record Phone : Type 0 where
+  pub letter : ℕ
+  pub softened : Bool
+  pub code : ℕ
+
+-- a consonant's sound as written
+unfoldable pub writtenCode : ℕ → ℕ
+writtenCode b =
+    entry
+    ((«б» gives Б) ∷ («в» gives В) ∷ («г» gives Г) ∷ («д» gives Д) ∷ («ж» gives Ж) ∷ («з» gives З) ∷ («й» gives J) ∷ («к» gives К) ∷ («л» gives Л) ∷ («м» gives М) ∷ («н» gives Н) ∷ («п» gives П) ∷ («р» gives Р) ∷ («с» gives С) ∷ («т» gives Т) ∷ («ф» gives Ф) ∷ («х» gives Х) ∷ («ц» gives Ц) ∷ («ч» gives Ч) ∷ («ш» gives Ш) ∷ («щ» gives Щ) ∷ [])
+    b
+
+-- pass 5, its first sentence: the next letter is ь or a softening vowel
+unfoldable pub softens : ℕ → Bool
+softens b = eqb b «ь» || isSofteningVowel b
+
+unfoldable pub vowelPhones : Bool → ℕ → ℕ → Syllable → List Phone
+vowelPhones hard p b s =
+    let v : Phone = record { letter = b; softened = false; code = vowelSound hard p (s .level) b } in
+    cond (glides p (s .cover) b) (record { letter = b; softened = false; code = J } ∷ v ∷ []) (v ∷ [])
+
+-- pass 4, its first sentence: a sign makes no sound, each other letter one, with J two
+unfoldable pub phonesOf : Bool → Bool → ℕ → Letter → List Letter → List Phone
+phonesOf hard marked p l w =
+    cond (isSign (l .byte)) []
+    (cond (isVowel (l .byte)) (vowelPhones hard p (l .byte) (syllableOf marked p l w))
+    (record { letter = l .byte; softened = softens (firstByte w); code = writtenCode (l .byte) } ∷ []))
+
+-- Pass 3, over w, the rest of a word whose letter before is p. Only a word's first letter can have a hard boundary before it.
+unfoldable pub phonesFrom : Bool → Bool → ℕ → List Letter → List Phone
+phonesFrom hard marked p [] = []
+phonesFrom hard marked p (l ∷ w) = phonesOf hard marked p l w ++ phonesFrom false marked (l .byte) w

@@ -1,0 +1,89 @@
+//! A second implementation of document 01, written from the paper for comparison. It says what
+//! each operation must answer; it is plain rather than fast.
+//!
+//! The modules follow the paper's sections: letters, refusals, the five passes, codes, joints.
+
+pub mod answers;
+pub mod codes;
+pub mod elision;
+pub mod gen;
+pub mod joints;
+pub mod letters;
+pub mod message;
+pub mod palatalization;
+pub mod refusals;
+pub mod syllables;
+pub mod text;
+pub mod transcription;
+pub mod voicing;
+pub mod vowels;
+
+pub use answers::{expected_join, expected_names, expected_print, expected_transcribe, Answer};
+pub use codes::spell;
+pub use refusals::Refusal;
+pub use text::{cp1251, hex, show};
+
+use refusals::first_refusal;
+
+/// How long the answers for an accepted message are.
+#[derive(Clone, Copy, Debug, PartialEq, Eq)]
+pub struct Counts {
+    pub codes: usize,
+    pub names: usize,
+}
+
+/// What the joiner gives.
+#[derive(Clone, Debug, PartialEq, Eq)]
+pub struct Joined {
+    pub tape: Vec<u8>,
+    pub live: usize,
+}
+
+/// The message check: refusals 1 to 10, or the lengths of the answers.
+pub fn check(msg: &[u8]) -> Result<Counts, Refusal> {
+    accept(msg)?;
+    Ok(Counts {
+        codes: transcription::transcribe(msg).len(),
+        names: transcription::syllable_names(msg).len(),
+    })
+}
+
+/// The naming operation with an output of `cap` bytes.
+pub fn names(msg: &[u8], cap: usize) -> Result<Vec<u8>, Refusal> {
+    accept(msg)?;
+    fit(transcription::syllable_names(msg), cap)
+}
+
+/// The transcriber with an output of `cap` bytes.
+pub fn tape(msg: &[u8], cap: usize) -> Result<Vec<u8>, Refusal> {
+    accept(msg)?;
+    fit(transcription::transcribe(msg), cap)
+}
+
+/// The joiner with an output of `cap` bytes.
+pub fn join(msg: &[u8], cuts: &[usize], cap: usize) -> Result<Joined, Refusal> {
+    accept(msg)?;
+    if let Some(refusal) = joints::bad_cut(msg, cuts) {
+        return Err(refusal);
+    }
+    let tape = fit(joints::second_tape(msg, cuts), cap)?;
+    let live_places = joints::live_places(msg);
+    let is_live = |cut: &&usize| live_places.binary_search(cut).is_ok();
+    Ok(Joined {
+        tape,
+        live: cuts.iter().filter(is_live).count(),
+    })
+}
+
+fn accept(msg: &[u8]) -> Result<(), Refusal> {
+    first_refusal(msg).map_or(Ok(()), Err)
+}
+
+/// Row 11 of the refusals: the answer must fit the lent output; the place is its full length.
+fn fit(answer: Vec<u8>, cap: usize) -> Result<Vec<u8>, Refusal> {
+    if answer.len() > cap {
+        let place = answer.len();
+        return Err(Refusal { number: 11, place });
+    }
+    Ok(answer)
+}

@@ -1,0 +1,103 @@
+//! The generators do what they promise: their accepted messages are accepted, their damaged ones
+//! refused as made, their lists of cuts good or bad as asked. This tries the check from both sides.
+
+use govorun_tests::gen::cuts::BAD_CUTS;
+use govorun_tests::gen::damaged::SPOTS;
+use govorun_tests::gen::lexicon;
+use govorun_tests::gen::{
+    bad_cuts, damaged, every_list, good_cuts, message, message_of_any_length, noise, Rng,
+};
+use govorun_tests::{check, cp1251, hex, join, show, tape, Refusal};
+
+#[test]
+fn listed_words_are_accepted() {
+    let words = lexicon::words();
+    assert!(words.len() >= 150);
+    for word in words {
+        assert!(check(&cp1251(word)).is_ok(), "{word}");
+    }
+}
+
+#[test]
+fn accepted_messages_of_every_length() {
+    let mut rng = Rng::for_test(1);
+    for length in (1..=600)
+        .chain((600..=4096).step_by(23))
+        .chain([4095, 4096])
+    {
+        let msg = message(&mut rng, length);
+        assert_eq!(msg.len(), length);
+        assert!(check(&msg).is_ok(), "{}", show(&msg));
+    }
+}
+
+#[test]
+fn accepted_messages_meet_every_sound() {
+    let mut rng = Rng::for_test(2);
+    let mut seen = [false; 256];
+    for _ in 0..3000 {
+        let msg = message_of_any_length(&mut rng);
+        let tape = tape(&msg, usize::MAX).unwrap_or_else(|_| panic!("{}", show(&msg)));
+        tape.iter().for_each(|&code| seen[usize::from(code)] = true);
+    }
+    let unseen: Vec<usize> = (0..256).filter(|&code| !seen[code]).collect();
+    let never: Vec<usize> = [14, 15].into_iter().chain(57..63).chain(64..256).collect();
+    assert_eq!(unseen, never);
+}
+
+#[test]
+fn damaged_messages_are_refused_as_made() {
+    let mut rng = Rng::for_test(4);
+    for number in 1..=10 {
+        for spot in SPOTS {
+            for _ in 0..300 {
+                let (msg, refusal) = damaged(&mut rng, number, spot);
+                assert_eq!(check(&msg), Err(refusal), "{}", hex(&msg));
+            }
+        }
+    }
+}
+
+#[test]
+fn bad_cuts_are_refused_at_their_index() {
+    let mut rng = Rng::for_test(5);
+    for _ in 0..1500 {
+        let msg = message_of_any_length(&mut rng);
+        for kind in BAD_CUTS {
+            if let Some((cuts, place)) = bad_cuts(&mut rng, &msg, kind) {
+                let refusal = Refusal { number: 12, place };
+                let told = format!("{kind:?} {cuts:?} {}", show(&msg));
+                assert_eq!(join(&msg, &cuts, 0), Err(refusal), "{told}");
+            }
+        }
+    }
+}
+
+#[test]
+fn good_cuts_are_taken() {
+    let mut rng = Rng::for_test(6);
+    for _ in 0..1000 {
+        let msg = message_of_any_length(&mut rng);
+        let cuts = good_cuts(&mut rng, &msg);
+        assert!(
+            join(&msg, &cuts, usize::MAX).is_ok(),
+            "{cuts:?} {}",
+            show(&msg)
+        );
+    }
+    let lists = every_list(b"\xE0 \xE0#\xE0");
+    assert_eq!(lists, [vec![], vec![1], vec![3], vec![1, 3]]);
+}
+
+#[test]
+fn random_bytes_get_an_answer() {
+    let mut rng = Rng::for_test(7);
+    for _ in 0..20_000 {
+        let length = rng.below(40);
+        let msg = noise::bytes(&mut rng, length);
+        if let Err(refusal) = check(&msg) {
+            assert!((1..=10).contains(&refusal.number), "{}", hex(&msg));
+            assert!(refusal.place < msg.len().max(1), "{}", hex(&msg));
+        }
+    }
+}

@@ -1,0 +1,343 @@
+//! The examples of document 01, its refusal table, its words to prove, the mistakes it names, and
+//! the settled readings.
+
+use govorun_tests::codes::NAMES;
+use govorun_tests::{
+    check, cp1251, expected_join, expected_names, expected_print, expected_transcribe, join, names,
+    spell, tape, Answer, Counts, Refusal,
+};
+
+fn sounds(text: &str) -> String {
+    spell(&tape(&cp1251(text), usize::MAX).expect("an accepted message"))
+}
+
+fn named(text: &str) -> Vec<u8> {
+    names(&cp1251(text), usize::MAX).expect("an accepted message")
+}
+
+fn refused(text: &str) -> (u8, usize) {
+    let refusal = check(&cp1251(text)).expect_err("a refused message");
+    (refusal.number, refusal.place)
+}
+
+fn joined(text: &str, cuts: &[usize]) -> (String, usize) {
+    let joined = join(&cp1251(text), cuts, usize::MAX).expect("good cuts");
+    (spell(&joined.tape), joined.live)
+}
+
+#[test]
+fn refusal_table() {
+    assert_eq!(refused(""), (1, 0));
+    assert_eq!(refused(&"а".repeat(4097)), (2, 0));
+    assert_eq!(refused("а7"), (3, 1));
+    assert_eq!(refused("а#"), (4, 1));
+    assert_eq!(refused("б*"), (5, 1));
+    assert_eq!(refused("ьа"), (6, 0));
+    assert_eq!(refused("бьъ"), (7, 2));
+    assert_eq!(refused("бък"), (8, 2));
+    assert_eq!(refused("а*ья"), (9, 3));
+    assert_eq!(refused(&"а".repeat(65)), (10, 64));
+    assert_eq!(tape(&cp1251("а"), 0), Err(Refusal::new(11, 1)));
+    assert_eq!(names(&cp1251("а"), 0), Err(Refusal::new(11, 1)));
+    assert_eq!(join(&cp1251("а"), &[], 0), Err(Refusal::new(11, 1)));
+    assert_eq!(join(&cp1251("а б"), &[0], 9), Err(Refusal::new(12, 0)));
+}
+
+#[test]
+fn order_of_refusals() {
+    // The smallest place first, whatever the numbers.
+    assert_eq!(refused("ьа7"), (6, 0));
+    assert_eq!(refused("а# 7"), (4, 2));
+    // At one place the smallest number: the 65th letter may be wrong in another way too.
+    let long = "б".repeat(63);
+    assert_eq!(refused(&format!("{long}ьь")), (7, 64));
+    assert_eq!(refused(&format!("{long}ъб")), (8, 64));
+    assert_eq!(refused(&format!("{}аьа", "б".repeat(62))), (9, 64));
+    assert_eq!(refused(&format!("{long}аб")), (10, 64));
+    // Number 2 comes before everything that the bytes could tell.
+    assert_eq!(refused(&"#".repeat(4097)), (2, 0));
+    // The message before the cuts, the cuts before the output.
+    assert_eq!(join(&cp1251("а7"), &[0], 0), Err(Refusal::new(3, 1)));
+    assert_eq!(join(&cp1251("а б"), &[1, 1], 0), Err(Refusal::new(12, 1)));
+    assert_eq!(join(&cp1251("а б"), &[1, 3], 9), Err(Refusal::new(12, 1)));
+    assert_eq!(join(&cp1251("а б"), &[1], 2), Err(Refusal::new(11, 3)));
+}
+
+#[test]
+fn refusals_near_the_edge() {
+    assert_eq!(refused(" "), (4, 0));
+    assert_eq!(refused("#а"), (4, 0));
+    assert_eq!(refused("а  б"), (4, 2));
+    assert_eq!(refused("*"), (5, 0));
+    assert_eq!(refused("а**"), (5, 2));
+    assert_eq!(refused("а *б"), (5, 2));
+    assert_eq!(refused("а ъ"), (6, 2));
+    assert_eq!(refused("а\n"), (3, 1));
+    assert!(check(&cp1251(&"а".repeat(64))).is_ok());
+    assert!(check(&cp1251(&"а*".repeat(64))).is_ok());
+    assert_eq!(refused(&"а*".repeat(65)), (10, 128));
+    let longest = format!("{}а", "а ".repeat(2047));
+    assert_eq!(cp1251(&longest).len(), 4095);
+    assert!(check(&cp1251(&format!("{longest}а"))).is_ok());
+    assert_eq!(refused(&format!("{longest} ")), (4, 4095));
+}
+
+#[test]
+fn words_to_prove() {
+    let list = [
+        ("вода*", "В А1 Д А*"),
+        ("ду*б го*л", "Д У* Б | Г О* Л"),
+        ("ду*б#го*л", "Д У* П # Г О* Л"),
+        ("са*д и*вы", "С А* Т | Ы* В Ы1"),
+        ("са*д к до*му", "С А* Д | Г | Д О* М У1"),
+        ("подъе*зд", "П А1 Д J Э* С Т"),
+        ("по*здно", "П О* З Н А2"),
+        ("сте*нды", "С' Т' Э* Н Д Ы1"),
+        ("про*сьба", "П Р О* З' Б А2"),
+        ("жена*", "Ж Ы1 Н А*"),
+    ];
+    for (text, expected) in list {
+        assert_eq!(sounds(text), expected, "{text}");
+        assert_eq!(sounds(&text.to_uppercase()), expected, "{text} in capitals");
+    }
+}
+
+#[test]
+fn joins_to_prove() {
+    let text = "са*д к до*му";
+    let whole = "С А* Д | Г | Д О* М У1";
+    assert_eq!(joined(text, &[]), (whole.to_string(), 0));
+    let at_4 = "С А* Т | Г | Д О* М У1";
+    assert_eq!(joined(text, &[4]), (at_4.to_string(), 1));
+    let at_4_and_6 = "С А* Т | К | Д О* М У1";
+    assert_eq!(joined(text, &[4, 6]), (at_4_and_6.to_string(), 2));
+    assert_eq!(joined(text, &[6]), (at_4_and_6.to_string(), 1));
+}
+
+#[test]
+fn program_example() {
+    let print = |text: &str| expected_print(&cp1251(text));
+    assert_eq!(print("ду*б ра*д"), "24 6 39 0 41 1 45\n");
+    assert_eq!(print("ду*б#ра*д"), "24 6 39 63 41 1 45\n");
+    assert_eq!(print("ду*б\n"), "refused 3 at 4\n");
+    assert_eq!(print(""), "refused 1 at 0\n");
+    assert_eq!(print(&"а".repeat(5000)), "refused 2 at 0\n");
+}
+
+#[test]
+fn mistakes_near_at_hand() {
+    assert_eq!(sounds("свой"), "С В А1 J");
+    assert_eq!(sounds("сво*й"), "С В О* J");
+    assert_eq!(sounds("са*д к до*му"), "С А* Д | Г | Д О* М У1");
+    assert_eq!(sounds("подъе*зд"), "П А1 Д J Э* С Т");
+    assert_eq!(sounds("са*д#и*вы"), "С А* Т # И* В Ы1");
+}
+
+#[test]
+fn silent_letters() {
+    assert_eq!(sounds("ме*стный"), "М' Э* С Н Ы1 J");
+    assert_eq!(sounds("тури*стский"), "Т У1 Р' И* С С К' И1 J");
+    assert_eq!(sounds("гига*нтский"), "Г' И1 Г А* Н С К' И1 J");
+    assert_eq!(sounds("сердчи*шко"), "С' Э1 Р Ч И* Ш К А2");
+    assert_eq!(sounds("се*рдце"), "С' Э* Р Ц А2");
+    assert_eq!(sounds("уздцы*"), "У1 С Ц Ы*");
+    assert_eq!(sounds("исла*ндцы"), "И1 С Л А* Н Ц Ы1");
+    assert_eq!(sounds("исла*ндский"), "И1 С Л А* Н С К' И1 J");
+    assert_eq!(sounds("ла*ндштурм"), "Л А* Н Ш Т У1 Р М");
+    // Not silent: the cluster lacks a letter or has another between.
+    assert_eq!(sounds("ка*стка"), "К А* С Т К А2");
+    assert_eq!(sounds("ба*ндша"), "Б А* Н Т Ш А2");
+    assert_eq!(sounds("стьна"), "С' Т' Н А1");
+}
+
+#[test]
+fn vowel_rows() {
+    let list = [
+        // а and о: after ч щ й, initial, elsewhere.
+        ("часы*", "Ч Э1 С Ы*"),
+        ("часовщи*к", "Ч Э2 С А1 Ф Щ И* К"),
+        ("аванга*рд", "А1 В А1 Н Г А* Р Т"),
+        ("огоро*д", "А1 Г А1 Р О* Т"),
+        ("голова*", "Г А2 Л А1 В А*"),
+        ("чо*рочо", "Ч О* Р А2 Ч Э2"),
+        // у and ы have two sounds only.
+        ("уу*", "У1 У*"),
+        ("мы*ры", "М Ы* Р Ы1"),
+        // э at a hard boundary and elsewhere.
+        ("до*м эта*п", "Д О* М | Ы1 Т А* П"),
+        ("до*м э*ры", "Д О* М | Э* Р Ы1"),
+        ("эта*п", "Э1 Т А* П"),
+        ("моя* эконо*м", "М А1 J А* | Э2 К А1 Н О* М"),
+        // е after ж ш ц and elsewhere, with the glide where the syllable is bare.
+        ("желе*зо", "Ж Ы1 Л' Э* З А2"),
+        ("железняка*", "Ж А2 Л' Э2 З' Н' Э1 К А*"),
+        ("езда*", "J Э1 З Д А*"),
+        ("ералаши*", "J Э1 Р А2 Л А1 Ш Ы*"),
+        ("вереща*ть", "В' Э2 Р' Э1 Щ А* Т'"),
+        // ё, ю, я.
+        ("королёв", "К А1 Р А1 Л' О* Ф"),
+        ("ёж", "J О* Ш"),
+        ("ю*ла юла*", "J У* Л А2 | J У1 Л А*"),
+        ("язы*к", "J Э1 З Ы* К"),
+        ("языки*", "J Э1 З Ы1 К' И*"),
+        ("мая*к", "М А1 J А* К"),
+        ("бря*кнется", "Б Р' А* К Н' Э2 Т' С' Э2"),
+        // и after ж ш ц, at a hard boundary, after a sign.
+        ("жи*ли", "Ж Ы* Л' И1"),
+        ("мышь и*х", "М Ы1 Ш | Ы* Х"),
+        ("ночь и*х", "Н А1 Ч | И* Х"),
+        ("воробьи*", "В А2 Р А1 Б' J И*"),
+    ];
+    for (text, expected) in list {
+        assert_eq!(sounds(text), expected, "{text}");
+    }
+}
+
+#[test]
+fn voice_and_softness() {
+    let list = [
+        ("та*кже", "Т А* Г Ж А2"),
+        ("афга*нец", "А1 В Г А* Н' Э2 Ц"),
+        ("пло*щадь", "П Л О* Щ Э2 Т'"),
+        ("но*чь бы", "Н О* Ч1 | Б Ы1"),
+        ("ве*щь бы", "В' Э* Ж' | Б Ы1"),
+        ("оте*ц бы", "А1 Т' Э* Ц1 | Б Ы1"),
+        ("мо*х бы", "М О* Х1 | Б Ы1"),
+        ("ко*нчик", "К О* Н' Ч И1 К"),
+        ("ка*нщик", "К А* Н' Щ И1 К"),
+        ("ра*нняя", "Р А* Н' Н' Э2 J Э2"),
+        ("субби*ть", "С У1 Б' Б' И* Т'"),
+        ("вфе", "Ф' Ф' Э1"),
+        ("ххе", "Х' Х' Э1"),
+        ("лле рре мме", "Л' Л' Э1 | Р' Р' Э1 | М' М' Э1"),
+        // Voice passes through a chain of words, but not through В and not over a pause.
+        ("к с б до*м", "Г | З | Б | Д О* М"),
+        ("к с#б до*м", "К | С # Б | Д О* М"),
+        // ф gains voice before set D but passes none on; в loses it before set U and does.
+        ("кфба", "К В Б А1"),
+        ("квта", "К Ф Т А1"),
+        ("звта", "С Ф Т А1"),
+        ("зва сва", "З В А1 | С В А1"),
+    ];
+    for (text, expected) in list {
+        assert_eq!(sounds(text), expected, "{text}");
+    }
+}
+
+#[test]
+fn syllable_names() {
+    assert_eq!(named("вода*"), [3, 1]);
+    assert_eq!(named("а*о"), [2, 6]);
+    assert_eq!(named("оа*"), [4, 2]);
+    assert_eq!(named("ба*боо"), [1, 5, 6]);
+    assert_eq!(named("боа"), [3, 4]);
+    assert_eq!(named("к до*му#в"), [7, 1, 5, 7]);
+    assert_eq!(named("подъе*зд"), [3, 1, 7]);
+    assert_eq!(named("го*ло*с"), [1, 1, 7]);
+    assert_eq!(named("со*рокова*я"), [1, 5, 3, 1, 6]);
+}
+
+#[test]
+fn counts_of_the_check() {
+    let counts = |text: &str| check(&cp1251(text)).expect("an accepted message");
+    assert_eq!(counts("вода*"), Counts { codes: 4, names: 2 });
+    assert_eq!(counts("ду*б ра*д"), Counts { codes: 7, names: 4 });
+    assert_eq!(counts("яя"), Counts { codes: 4, names: 2 });
+}
+
+#[test]
+fn settled_readings() {
+    // ё without a mark sounds the same but makes no level S.
+    assert_eq!(named("королёв"), [3, 3, 3, 7]);
+    assert_eq!(named("королё*в"), [5, 3, 1, 7]);
+    assert_eq!(sounds("королё*в"), "К А2 Р А1 Л' О* Ф");
+    // Several marks in a word.
+    assert_eq!(
+        sounds("желе*знодоро*жный"),
+        "Ж Ы1 Л' Э* З Н А2 Д А1 Р О* Ж Н Ы1 J"
+    );
+    // A sign after the last vowel is a letter left over.
+    assert_eq!(named("аь"), [4, 7]);
+    // A word that ends in ъ makes no hard boundary.
+    assert_eq!(sounds("са*дъ и*вы"), "С А* Т | И* В Ы1");
+    assert_eq!(sounds("ижъ и*вы"), "И1 Ш | И* В Ы1");
+    assert_eq!(joined("са*дъ и*вы", &[5]).1, 0);
+    // A vowel after ь is not after ж.
+    assert_eq!(sounds("ружьи*"), "Р У1 Ж J И*");
+    assert_eq!(sounds("ружье"), "Р У1 Ж J Э1");
+    // В is in neither set.
+    assert_eq!(sounds("са*д в до*м"), "С А* Т | В | Д О* М");
+    assert_eq!(sounds("к в до*м"), "К | В | Д О* М");
+    assert_eq!(
+        joined("к в до*м", &[1, 3]),
+        ("К | Ф | Д О* М".to_string(), 1)
+    );
+    // г is no partner of Х1'; х is.
+    assert_eq!(sounds("гхьба"), "Г Х1' Б А1");
+    assert_eq!(sounds("ххьба"), "Х1' Х1' Б А1");
+}
+
+#[test]
+fn live_joints() {
+    assert_eq!(joined("ду*бъ го*л", &[5]).1, 1);
+    assert_eq!(joined("ду*бь го*л", &[5]).1, 1);
+    assert_eq!(joined("ду*б#го*л", &[4]).1, 0);
+    assert_eq!(joined("ду*б на*", &[4]).1, 0);
+    assert_eq!(joined("са*н го*л", &[4]).1, 0);
+    assert_eq!(
+        joined("са*д и*вы", &[4]),
+        ("С А* Т | И* В Ы1".to_string(), 1)
+    );
+    assert_eq!(
+        joined("са*д эта*п", &[4]),
+        ("С А* Т | Э1 Т А* П".to_string(), 1)
+    );
+    assert_eq!(joined("са*д э*ры", &[4]).1, 0);
+    assert_eq!(joined("мо*й и*вы", &[4]).1, 0);
+    assert_eq!(joined("мышь и", &[4]), ("М Ы1 Ш | И1".to_string(), 1));
+}
+
+#[test]
+fn answers_and_lent_output() {
+    let answer = |number, place, length, live| Answer {
+        number,
+        place,
+        length,
+        live,
+    };
+    let msg = cp1251("ду*б го*л");
+    let taped = [24, 6, 16, 0, 20, 2, 33];
+    assert_eq!(
+        expected_transcribe(&msg, &[9; 8]),
+        (answer(0, 0, 7, 0), [&taped[..], &[9]].concat())
+    );
+    assert_eq!(
+        expected_transcribe(&msg, &[9; 6]),
+        (answer(11, 7, 0, 0), vec![9; 6])
+    );
+    assert_eq!(
+        expected_names(&msg, &[9; 5]),
+        (answer(0, 0, 4, 0), vec![1, 7, 1, 7, 9])
+    );
+    assert_eq!(
+        expected_join(&msg, &[4], &[9; 7]),
+        (answer(0, 0, 7, 1), vec![24, 6, 39, 0, 20, 2, 33])
+    );
+    assert_eq!(
+        expected_join(&msg, &[3], &[9; 7]),
+        (answer(12, 0, 0, 0), vec![9; 7])
+    );
+    assert_eq!(expected_names(b"7", &[]), (answer(3, 0, 0, 0), Vec::new()));
+}
+
+#[test]
+fn code_list() {
+    let code = |name: &str| NAMES.iter().position(|&n| n == name).expect("a name") + 1;
+    let numbers = ["А*", "Е", "Б", "J", "К", "Х", "Ц", "Щ"].map(code);
+    assert_eq!(numbers, [1, 15, 16, 28, 31, 49, 51, 56]);
+    // Softening a sound takes the next code: the list must have it there.
+    for letter in "БВГДЗКЛМНПРСТФХ".chars() {
+        assert_eq!(code(&format!("{letter}'")), code(&letter.to_string()) + 1);
+    }
+    assert_eq!(code("Х1'"), code("Х1") + 1);
+}
