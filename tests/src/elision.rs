@@ -1,6 +1,6 @@
 //! Section "Pass 1, silent letters".
 
-use crate::message::{Letter, Word};
+use crate::message::Word;
 
 /// The words without their silent letters. All letters are judged on the word as written, so the
 /// answer does not depend on the order of judging.
@@ -8,31 +8,36 @@ pub fn elide(words: &[Word]) -> Vec<Word> {
     words.iter().map(elide_word).collect()
 }
 
-fn elide_word(word: &Word) -> Word {
-    let written: Vec<char> = word.letters.iter().map(|l| l.letter).collect();
-    let heard: Vec<Letter> = (0..written.len())
-        .filter(|&index| !is_silent(&written, index))
-        .map(|index| word.letters[index])
-        .collect();
+fn elide_word(written: &Word) -> Word {
+    let mut letters = Vec::with_capacity(written.letters.len());
+    for (index, &letter) in written.letters.iter().enumerate() {
+        if !is_silent(written, index) {
+            letters.push(letter);
+        }
+    }
     Word {
-        before: word.before,
-        letters: heard,
+        before: written.before,
+        letters,
     }
 }
 
-fn is_silent(written: &[char], index: usize) -> bool {
-    if index == 0 {
-        return false;
-    }
-    let after = &written[index + 1..];
-    match (written[index - 1], written[index]) {
-        ('с', 'т') => after.starts_with(&['с', 'к']) || after.starts_with(&['н']),
-        ('н', 'т') => after.starts_with(&['с', 'к']),
-        ('р', 'д') => after.starts_with(&['ч']) || after.starts_with(&['ц']),
-        ('з', 'д') => after.starts_with(&['н']) || after.starts_with(&['ц']),
-        ('н', 'д') => {
-            after.starts_with(&['ц']) || after.starts_with(&['с']) || after.starts_with(&['ш', 'т'])
-        }
-        _ => false,
-    }
+/// Whether the second of four letters is silent: т in the first three patterns, д in the others.
+fn is_silent(word: &Word, index: usize) -> bool {
+    let around = [
+        word.previous(index),
+        Some(word.letters[index].letter),
+        word.next(index),
+        word.next(index + 1),
+    ];
+    // Outside the word there is no letter, and a space fits none of the patterns.
+    matches!(
+        around.map(|letter| letter.unwrap_or(' ')),
+        ['с', 'т', 'с', 'к']
+            | ['с', 'т', 'н', _]
+            | ['н', 'т', 'с', 'к']
+            | ['р', 'д', 'ч' | 'ц', _]
+            | ['з', 'д', 'н' | 'ц', _]
+            | ['н', 'д', 'ц' | 'с', _]
+            | ['н', 'д', 'ш', 'т']
+    )
 }

@@ -41,37 +41,23 @@ pub fn is_break(byte: u8) -> bool {
     matches!(symbol(byte), Some(Symbol::Gap | Symbol::Pause))
 }
 
-/// Class T.
-const ALWAYS_HARD: [char; 3] = ['ж', 'ш', 'ц'];
-/// Class P.
-const PAIRED: [char; 15] = [
-    'б', 'в', 'г', 'д', 'з', 'к', 'л', 'м', 'н', 'п', 'р', 'с', 'т', 'ф', 'х',
-];
-/// Class Q.
-const ALWAYS_SOFT: [char; 3] = ['ч', 'щ', 'й'];
-const SIGNS: [char; 2] = ['ъ', 'ь'];
-/// Class V1.
-const PLAIN_VOWELS: [char; 5] = ['а', 'о', 'у', 'ы', 'э'];
-/// Class V2.
-const SOFTENING_VOWELS: [char; 5] = ['е', 'ё', 'и', 'ю', 'я'];
-/// The noise letters.
-const OBSTRUENTS: [char; 16] = [
-    'б', 'п', 'в', 'ф', 'г', 'к', 'д', 'т', 'ж', 'ш', 'з', 'с', 'х', 'ц', 'ч', 'щ',
-];
-
 /// Class T: consonants that are never soft.
 pub fn is_always_hard(letter: char) -> bool {
-    ALWAYS_HARD.contains(&letter)
+    matches!(letter, 'ж' | 'ш' | 'ц')
 }
 
 /// Class P: consonants with a hard and a soft sound.
+#[rustfmt::skip]
 pub fn is_paired(letter: char) -> bool {
-    PAIRED.contains(&letter)
+    matches!(
+        letter,
+        'б' | 'в' | 'г' | 'д' | 'з' | 'к' | 'л' | 'м' | 'н' | 'п' | 'р' | 'с' | 'т' | 'ф' | 'х'
+    )
 }
 
 /// Class Q: consonants that are soft of themselves, and the glide.
 pub fn is_always_soft(letter: char) -> bool {
-    ALWAYS_SOFT.contains(&letter)
+    matches!(letter, 'ч' | 'щ' | 'й')
 }
 
 pub fn is_consonant(letter: char) -> bool {
@@ -79,19 +65,29 @@ pub fn is_consonant(letter: char) -> bool {
 }
 
 pub fn is_sign(letter: char) -> bool {
-    SIGNS.contains(&letter)
+    matches!(letter, 'ъ' | 'ь')
+}
+
+/// Class V1: vowels that leave the consonant before them hard.
+pub fn is_plain_vowel(letter: char) -> bool {
+    matches!(letter, 'а' | 'о' | 'у' | 'ы' | 'э')
 }
 
 /// Class V2: vowels that soften the consonant before them.
 pub fn is_softening_vowel(letter: char) -> bool {
-    SOFTENING_VOWELS.contains(&letter)
+    matches!(letter, 'е' | 'ё' | 'и' | 'ю' | 'я')
 }
 
 pub fn is_vowel(letter: char) -> bool {
-    PLAIN_VOWELS.contains(&letter) || is_softening_vowel(letter)
+    is_plain_vowel(letter) || is_softening_vowel(letter)
 }
 
-/// Whether a letter is a noise letter, one that may gain or lose voice.
+/// The noise letters, which may gain or lose voice.
+#[rustfmt::skip]
 pub fn is_obstruent(letter: char) -> bool {
-    OBSTRUENTS.contains(&letter)
+    matches!(
+        letter,
+        'б' | 'п' | 'в' | 'ф' | 'г' | 'к' | 'д' | 'т' | 'ж' | 'ш' | 'з' | 'с'
+        | 'х' | 'ц' | 'ч' | 'щ'
+    )
 }

@@ -42,10 +42,9 @@ pub struct Joined {
 /// The message check: refusals 1 to 10, or the lengths of the answers.
 pub fn check(msg: &[u8]) -> Result<Counts, Refusal> {
     accept(msg)?;
-    Ok(Counts {
-        codes: transcription::transcribe(msg).len(),
-        names: transcription::syllable_names(msg).len(),
-    })
+    let codes = transcription::transcribe(msg).len();
+    let names = transcription::syllable_names(msg).len();
+    Ok(Counts { codes, names })
 }
 
 /// The naming operation with an output of `cap` bytes.

@@ -1,6 +1,6 @@
 //! Section "Bytes of a message": an accepted message taken apart into words.
 
-use crate::letters::{is_break, symbol, Symbol};
+use crate::letters::{is_break, letter, symbol, Symbol};
 
 /// A letter of a word, with the stress mark that may follow it.
 #[derive(Clone, Copy, Debug, PartialEq, Eq)]
@@ -36,29 +36,34 @@ impl Word {
 /// The words of an accepted message.
 pub fn words(msg: &[u8]) -> Vec<Word> {
     let mut words = Vec::new();
-    let mut word = new_word(None);
-    for &byte in msg {
-        match symbol(byte).expect("an accepted message has named bytes only") {
-            Symbol::Letter(letter) => word.letters.push(Letter {
-                letter,
-                stressed: false,
-            }),
-            Symbol::Stress => {
-                let vowel = word.letters.last_mut();
-                vowel.expect("a mark follows a vowel").stressed = true;
-            }
-            Symbol::Gap => words.push(std::mem::replace(&mut word, new_word(Some(Break::Gap)))),
-            Symbol::Pause => words.push(std::mem::replace(&mut word, new_word(Some(Break::Pause)))),
-        }
+    let mut before = None;
+    for word in msg.split_inclusive(|&byte| is_break(byte)) {
+        words.push(Word {
+            before,
+            letters: letters(word),
+        });
+        before = word.last().and_then(|&byte| break_of(byte));
     }
-    words.push(word);
     words
 }
 
-fn new_word(before: Option<Break>) -> Word {
-    Word {
-        before,
-        letters: Vec::new(),
+/// The letters of a word; marks are joined to their vowels, and a break at the end adds nothing.
+fn letters(word: &[u8]) -> Vec<Letter> {
+    let mut letters = Vec::with_capacity(word.len());
+    for (index, &byte) in word.iter().enumerate() {
+        if let Some(letter) = letter(byte) {
+            let stressed = word.get(index + 1) == Some(&b'*');
+            letters.push(Letter { letter, stressed });
+        }
+    }
+    letters
+}
+
+fn break_of(byte: u8) -> Option<Break> {
+    match symbol(byte) {
+        Some(Symbol::Gap) => Some(Break::Gap),
+        Some(Symbol::Pause) => Some(Break::Pause),
+        _ => None,
     }
 }
 

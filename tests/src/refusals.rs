@@ -34,28 +34,36 @@ pub fn first_refusal(msg: &[u8]) -> Option<Refusal> {
             Some(Symbol::Gap | Symbol::Pause) => letters_of_word = 0,
             Some(Symbol::Stress) | None => {}
         }
-        let fitting = (3..=10).find(|&number| fits(number, msg, place, letters_of_word));
-        if let Some(number) = fitting {
+        if let Some(number) = number_at(msg, place, letters_of_word) {
             return Some(Refusal { number, place });
         }
     }
     None
 }
 
-/// Whether the row with this number fits at this place. The last argument counts the letters of
-/// the word up to this place and with it.
-fn fits(number: u8, msg: &[u8], place: usize, letters_of_word: usize) -> bool {
-    let is = |class: fn(char) -> bool| letter(msg[place]).is_some_and(class);
+/// The smallest of the numbers 3 to 10 that fits at this place. The last argument counts the
+/// letters of the word up to this place and with it.
+fn number_at(msg: &[u8], place: usize, letters_of_word: usize) -> Option<u8> {
+    match symbol(msg[place]) {
+        None => Some(3),
+        Some(Symbol::Gap | Symbol::Pause) => {
+            (begins_word(msg, place) || place + 1 == msg.len()).then_some(4)
+        }
+        Some(Symbol::Stress) => (!directly_after_vowel(msg, place)).then_some(5),
+        Some(Symbol::Letter(letter)) => {
+            (6..=10).find(|&number| letter_fits(number, letter, msg, place, letters_of_word))
+        }
+    }
+}
+
+fn letter_fits(number: u8, letter: char, msg: &[u8], place: usize, letters_of_word: usize) -> bool {
     match number {
-        3 => symbol(msg[place]).is_none(),
-        4 => is_break(msg[place]) && (begins_word(msg, place) || place + 1 == msg.len()),
-        5 => symbol(msg[place]) == Some(Symbol::Stress) && !directly_after_vowel(msg, place),
-        6 => is(is_sign) && begins_word(msg, place),
-        7 => is(is_sign) && adjacent_is(msg, place, is_sign).is_some(),
-        8 => is(is_consonant) && adjacent_is(msg, place, |before| before == 'ъ').is_some(),
-        9 => is(is_vowel) && after_vowel_and_sign(msg, place),
-        10 => letter(msg[place]).is_some() && letters_of_word == MAX_LETTERS + 1,
-        _ => unreachable!("rows 3 to 10 only"),
+        6 => is_sign(letter) && begins_word(msg, place),
+        7 => is_sign(letter) && adjacent_is(msg, place, is_sign).is_some(),
+        8 => is_consonant(letter) && adjacent_is(msg, place, |before| before == 'ъ').is_some(),
+        9 => is_vowel(letter) && after_vowel_and_sign(msg, place),
+        10 => letters_of_word == MAX_LETTERS + 1,
+        _ => unreachable!("the other numbers are not about a letter"),
     }
 }
 

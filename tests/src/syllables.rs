@@ -30,11 +30,17 @@ pub struct Syllable {
 /// The syllables of a word that have a vowel.
 pub fn syllables(word: &Word) -> Vec<Syllable> {
     let vowels = vowel_indices(word);
+    let unmarked = !word.letters.iter().any(|letter| letter.stressed);
     (0..vowels.len())
         .map(|index| Syllable {
             vowel: vowels[index],
             cover: cover(&vowels, index),
-            level: level(word, &vowels, index),
+            level: if unmarked {
+                // A word without any mark has every vowel on the first level.
+                Level::First
+            } else {
+                level(word, &vowels, index)
+            },
         })
         .collect()
 }
@@ -55,14 +61,12 @@ fn cover(vowels: &[usize], index: usize) -> Cover {
     }
 }
 
+/// The level of a vowel in a word with a mark.
 fn level(word: &Word, vowels: &[usize], index: usize) -> Level {
     let stressed = |vowel: &usize| word.letters[*vowel].stressed;
     if stressed(&vowels[index]) {
         Level::Stressed
     } else if vowels.get(index + 1).is_some_and(stressed) {
-        Level::First
-    } else if !vowels.iter().any(stressed) {
-        // A word without any mark has every vowel on the first level.
         Level::First
     } else {
         Level::Second

@@ -2,7 +2,7 @@
 //! refused as made, their lists of cuts good or bad as asked. This tries the check from both sides.
 
 use govorun_tests::gen::cuts::BAD_CUTS;
-use govorun_tests::gen::damaged::SPOTS;
+use govorun_tests::gen::damaged::{Spot, SPOTS};
 use govorun_tests::gen::lexicon;
 use govorun_tests::gen::{
     bad_cuts, damaged, every_list, good_cuts, message, message_of_any_length, noise, Rng,
@@ -52,6 +52,26 @@ fn damaged_messages_are_refused_as_made() {
         for spot in SPOTS {
             for _ in 0..300 {
                 let (msg, refusal) = damaged(&mut rng, number, spot);
+                assert_eq!(check(&msg), Err(refusal), "{}", hex(&msg));
+            }
+        }
+    }
+}
+
+#[test]
+fn bytes_after_the_refused_place_do_not_matter() {
+    let mut rng = Rng::for_test(10);
+    for number in 3..=10 {
+        for spot in SPOTS {
+            // A break at the end is the only refusal that depends on what comes after.
+            if (number, spot) == (4, Spot::Last) {
+                continue;
+            }
+            for _ in 0..100 {
+                let (mut msg, refusal) = damaged(&mut rng, number, spot);
+                msg.truncate(refusal.place + 1);
+                let length = rng.below(20);
+                msg.extend(noise::bytes(&mut rng, length));
                 assert_eq!(check(&msg), Err(refusal), "{}", hex(&msg));
             }
         }

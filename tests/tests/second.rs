@@ -205,7 +205,7 @@ fn names_agree_with_cutting() {
 
 #[test]
 fn voice_agrees_with_looking_ahead() {
-    every_string(&cp1251("сдва #"), 8, &mut |msg| {
+    every_string(&cp1251("сдва #"), 7, &mut |msg| {
         if let Ok(tape) = tape(msg, usize::MAX) {
             let text = show(msg);
             assert_eq!(spell(&tape), voiced_by_looking_ahead(&text), "{text}");

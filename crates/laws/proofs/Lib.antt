@@ -1,1 +1,6 @@
+pub mod Classes
 pub mod Word
+pub mod Cuts
+pub mod Stretch
+pub mod Parts
+pub mod Cutting

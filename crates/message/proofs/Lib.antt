@@ -1,2 +1,14 @@
+pub mod Accepted
+pub mod Before
+pub mod Bytes
+pub mod Checking
+pub mod Classes
 pub mod Computed
+pub mod Elided
+pub mod Fused
+pub mod Left
+pub mod Lengths
+pub mod ScanTable
+pub mod Silent
+pub mod Tail
 pub mod Words

@@ -11,3 +11,6 @@ pub mod Tape
 pub mod Refusals
 pub mod Joints
 pub mod Answers
+pub mod Scan
+pub mod Fused
+pub mod Places

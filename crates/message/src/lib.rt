@@ -1,3 +1,7 @@
+pub mod check;
+pub mod letters;
+pub mod tables;
+
 // The syllable that a vowel closes (paper 01, pass 2): whether anything stands before the vowel in it, and how near the stress is.
 pub enum Cover {
     Bare,
@@ -38,4 +42,18 @@ pub enum Checked {
 pub enum Answer {
     Written { length: usize, live: usize },
     Refused(Refusal),
+}
+
+// What the check has seen of a message: the kind of what stands before, the letters of this word, and the counts so far.
+pub struct Seen {
+    pub kind: usize,
+    pub letters: usize,
+    pub codes: usize,
+    pub names: usize,
+}
+
+// What one byte more comes to: a fault's number, or what is seen now.
+pub enum Step {
+    Fault(u8),
+    Next(Seen),
 }

@@ -4,7 +4,7 @@ use super::Rng;
 
 /// Bytes that are all equally likely.
 pub fn bytes(rng: &mut Rng, length: usize) -> Vec<u8> {
-    (0..length).map(|_| rng.next() as u8).collect()
+    (0..length).map(|_| rng.bits() as u8).collect()
 }
 
 /// A string over an alphabet; a small one meets the rules much more often than random bytes.
@@ -15,7 +15,7 @@ pub fn string(rng: &mut Rng, alphabet: &[u8], length: usize) -> Vec<u8> {
 /// A byte that the paper does not name.
 pub fn foreign_byte(rng: &mut Rng) -> u8 {
     loop {
-        let byte = rng.next() as u8;
+        let byte = rng.bits() as u8;
         if !matches!(byte, b' ' | b'#' | b'*' | 0xA8 | 0xB8 | 0xC0..=0xFF) {
             return byte;
         }

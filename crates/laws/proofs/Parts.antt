@@ -1,0 +1,287 @@
+-- A message from a place on, whole and in parts: each cut splits both tapes at its mark, and the two sides differ in the bits that come from over the cut alone.
+-- Assumes nothing.
+use Prim.Native.Nat.{ℕ, zero, suc, _+_, _-_, _<_, _≤_}
+use mathlib.Core.Path.{_≡_, refl, sym, ap, _∙_}
+use mathlib.Core.Bool.{Bool, true, false, cond, _&&_, _||_, and-comm, or-true, and-eq-true-iff, true≢false}
+use mathlib.Core.Logic.{⊎-elim, _≢_}
+use mathlib.Core.List.{List, [], _∷_, _++_, append-assoc}
+use native.Mathlib.Omega.{arith}
+use lib.ListN.{length, take, drop, getD, length-append, take-append-drop}
+use lib.Seq.{drop-cons, drop-drop, take-add}
+use Rattle.message.specs.Letters.{Message, read, firstWord, lastWord, isGap, isBreak}
+use Rattle.message.specs.Codes.{markOf, isVoicing}
+use Rattle.message.specs.Vowels.{endsHard}
+use Rattle.message.specs.Palatalization.{firstCode}
+use Rattle.message.specs.Tape.{segment, tape}
+use Rattle.message.specs.Joints.{joinedFrom, markIndex, wordBefore, wordAfter, endsInObstruent, beginsWithIOrE, liveByVoice, liveByHardness, isLive, liveCount}
+use Rattle.laws.proofs.Word.{lastCodeFrom, lastCode}
+use Rattle.laws.proofs.Cuts.{RisingFrom, CutOf, break-within, cut-above}
+use Rattle.laws.proofs.Stretch.{first-meet, last-meet, read-join, segment-join, segment-length, segment-quiet, segment-ends-differ, segment-firm, first-differ, segment-starts-differ, last-append}
+
+-- the bytes from place a up to place c
+abbrev pub part : List ℕ → ℕ → ℕ → List ℕ
+part m a c = take (c - a) (drop a m)
+
+-- a part may begin at a: at the message's start, or just after a break
+abbrev pub Begins : List ℕ → ℕ → Type 0
+Begins m zero = Unit {0}
+Begins m (suc c) = isBreak (getD m c 0) ≡ true
+
+-- does a hard boundary stand before place a of the whole message?
+unfoldable pub hardAt : List ℕ → ℕ → Bool
+hardAt m zero = false
+hardAt m (suc c) = isGap (getD m c 0) && endsHard (wordBefore m c)
+
+-- the whole message's tape from place a on
+unfoldable pub onward : List ℕ → ℕ → List ℕ
+onward m a = segment (hardAt m a) false (read (drop a m))
+
+-- does the whole message voice an obstruent before the break at place c?
+unfoldable pub voicedAt : List ℕ → ℕ → Bool
+voicedAt m c = isGap (getD m c 0) && isVoicing (firstCode (onward m (suc c)))
+
+-- 'Joints', (b): does a hard boundary change the first code from place a on?
+unfoldable pub changedAfter : List ℕ → ℕ → Bool
+changedAfter m a = hardAt m a && beginsWithIOrE (firstWord (read (drop a m)))
+
+-- 'Joints', (a): does a voicing sound change the last code before the break at place c?
+unfoldable pub changedBefore : List ℕ → ℕ → Bool
+changedBefore m c = voicedAt m c && endsInObstruent (wordBefore m c)
+
+-- the last code of a tape stands at the index before its end
+last-at : (x : ℕ) (s u : List ℕ) (n : ℕ) → length s ≡ n → getD (x ∷ (s ++ u)) n 0 ≡ lastCodeFrom x s
+unfolding lastCodeFrom
+last-at x [] u zero e = refl
+last-at x [] u (suc n) e = absurd (omega arith)
+last-at x (y ∷ s) u zero e = absurd (omega arith)
+last-at x (y ∷ s) u (suc n) e = last-at y s u n (omega arith)
+
+-- so two tapes whose last codes differ are told apart just before the mark k that follows them, and k is not the first index
+pub before-mark : (s t u v : List ℕ) (k : ℕ) → length s ≡ k → length t ≡ k → (lastCode s ≡ lastCode t → ⊥)
+    → (0 < k) × (getD (s ++ u) (k - 1) 0 ≢ getD (t ++ v) (k - 1) 0)
+unfolding lastCode lastCodeFrom
+before-mark [] [] u v k l l′ q = absurd (q refl)
+before-mark [] (y ∷ t) u v k l l′ q = absurd (omega arith)
+before-mark (x ∷ s) [] u v k l l′ q = absurd (omega arith)
+before-mark (x ∷ s) (y ∷ t) u v k l l′ q =
+    (omega arith, λ e. q (sym (last-at x s u (k - 1) (omega arith)) ∙ e ∙ last-at y t v (k - 1) (omega arith)))
+
+-- the code just after the mark k
+pub after-mark : (s : List ℕ) (x : ℕ) (t : List ℕ) (k : ℕ) → length s ≡ k → getD (s ++ (x ∷ t)) (suc k) 0 ≡ firstCode t
+unfolding firstCode
+after-mark [] x [] k e = refl
+after-mark [] x (c ∷ t) k e = rw (← e)
+after-mark (y ∷ s) x t k e = rw (← e) (after-mark s x t (length s) refl)
+
+-- an or that fails fails twice
+or-false : (s t : Bool) → (s || t) ≡ false → (s ≡ false) × (t ≡ false)
+or-false true t e = absurd (true≢false e)
+or-false false t e = (refl, e)
+
+-- a count of none has not counted this one
+none-counted : (t : Bool) (k : ℕ) → cond t (suc k) k ≡ 0 → (t ≡ false) × (k ≡ 0)
+none-counted true k e = absurd (omega arith)
+none-counted false k e = (refl, e)
+
+-- 'a gap, and this or that' is 'a gap and this, or a gap and that'
+and-or : (g o v i h : Bool) → (g && (o && v || i && h)) ≡ ((g && v && o) || (g && h && i))
+and-or true o v i h = rw (and-comm o v, and-comm i h)
+and-or false o v i h = refl
+
+-- a stretch that nothing on its left changes is transcribed as if nothing stood there
+own-left : (h n : Bool) (a : Message) → (h && beginsWithIOrE (firstWord a)) ≡ false → segment false n a ≡ segment h n a
+own-left true n a e = segment-firm false true n a e
+own-left false n a e = refl
+
+-- and so on its right
+own-right : (h n : Bool) (a : Message) → (n && endsInObstruent (lastWord a)) ≡ false → segment h false a ≡ segment h n a
+own-right h true a e = segment-quiet h false true a e
+own-right h false a e = refl
+
+-- in an or, only where the other one fails must two conditions agree
+or-when : (t x y : Bool) → (t ≡ false → x ≡ y) → (x || t) ≡ (y || t)
+or-when true x y f = or-true x ∙ sym (or-true y)
+or-when false x y f = ap (λ (s : Bool). s || false) (f refl)
+
+module _ (m : List ℕ) where
+  -- a break splits the bytes from place a on
+  rest-split : (a c : ℕ) → a ≤ c → c < length m → drop a m ≡ part m a c ++ (getD m c 0 ∷ drop (suc c) m)
+  rest-split a c le lt =
+      let e : a + (c - a) ≡ c = omega arith in
+      sym (take-append-drop (c - a) (drop a m)) ∙ ap (λ (t : List ℕ). part m a c ++ t) (rw (drop-drop, e, drop-cons m c 0))
+
+  -- and the bytes of a part
+  part-split : (a b c : ℕ) → a ≤ b → b < c → b < length m → part m a c ≡ part m a b ++ (getD m b 0 ∷ part m (suc b) c)
+  part-split a b c le lt within =
+      let e : (b - a) + (c - b) ≡ c - a = omega arith in
+      let f : a + (b - a) ≡ b = omega arith in
+      let g : c - b ≡ suc (c - suc b) = omega arith in
+      rw (← e, take-add, drop-drop, f, drop-cons m b 0, g)
+
+  -- and so their tape
+  part-cut : (h n : Bool) (a b c : ℕ) → a ≤ b → b < c → isBreak (getD m b 0) ≡ true
+      → let p = read (part m a b) in
+      let t = segment (isGap (getD m b 0) && endsHard (lastWord p)) n (read (part m (suc b) c)) in
+      segment h n (read (part m a c)) ≡ segment h (isGap (getD m b 0) && isVoicing (firstCode t)) p ++ (markOf (getD m b 0) ∷ t)
+  part-cut h n a b c le lt e = rw (part-split a b c le lt (break-within m b e), read-join (part m a b) (part m (suc b) c) (getD m b 0) e, segment-join)
+
+  -- the part from the message's start on
+  pub part-first : (c : ℕ) → part m 0 c ≡ take c m
+  part-first c = let e : c - 0 ≡ c = omega arith in rw e
+
+  -- the word before the break at place c is the last one of the part that ends there
+  word-before : (a c : ℕ) → Begins m a → a ≤ c → c < length m → lastWord (read (part m a c)) ≡ wordBefore m c
+  unfolding wordBefore
+  word-before zero c b le within = rw part-first
+  word-before (suc d) c b le within =
+      let e : take c m ≡ part m 0 d ++ (getD m d 0 ∷ part m (suc d) c) = sym (part-first c) ∙ part-split 0 d c (omega arith) le (omega arith) in
+      rw (e, read-join (part m 0 d) (part m (suc d) c) (getD m d 0) b, last-meet)
+
+  module _ (a c : ℕ) (begins : Begins m a) (le : a ≤ c) (break : isBreak (getD m c 0) ≡ true) where
+    -- the first word of a part is the first one from its start on
+    first-word : firstWord (read (drop a m)) ≡ firstWord (read (part m a c))
+    first-word =
+        ap (λ (t : List ℕ). firstWord (read t)) (rest-split a c le (break-within m c break))
+        ∙ rw (read-join (part m a c) (drop (suc c) m) (getD m c 0) break) (first-meet (read (part m a c)) (getD m c 0) (read (drop (suc c) m)))
+
+    -- The whole message's tape at a break: the part before it with the bits from its neighbours, the mark, and the rest.
+    onward-cut : onward m a ≡ segment (hardAt m a) (voicedAt m c) (read (part m a c)) ++ (markOf (getD m c 0) ∷ onward m (suc c))
+    unfolding onward voicedAt hardAt
+    onward-cut =
+        let lt = break-within m c break in
+        ap (λ (t : List ℕ). segment (hardAt m a) false (read t)) (rest-split a c le lt)
+        ∙ rw (read-join (part m a c) (drop (suc c) m) (getD m c 0) break, segment-join, word-before a c begins le lt)
+
+  module _ (c : ℕ) (break : isBreak (getD m c 0) ≡ true) where
+    -- the same from the message's start on
+    pub tape-cut : tape m ≡ segment false (voicedAt m c) (read (take c m)) ++ (markOf (getD m c 0) ∷ onward m (suc c))
+    unfolding hardAt onward tape
+    tape-cut = rw (part-first c) at (onward-cut 0 c tt (omega arith) break)
+
+    -- the mark's index counts the codes before it
+    pub mark-index : length (segment false (voicedAt m c) (read (take c m))) ≡ markIndex m c
+    unfolding markIndex tape
+    mark-index = segment-length false false (voicedAt m c) false (read (take c m))
+
+    -- the first sound after the cut in the whole message's tape
+    pub code-after : getD (tape m) (suc (markIndex m c)) 0 ≡ firstCode (onward m (suc c))
+    code-after = rw tape-cut (after-mark (segment false (voicedAt m c) (read (take c m))) (markOf (getD m c 0)) (onward m (suc c)) (markIndex m c) mark-index)
+
+    -- a cut is live just when one of its two neighbours is changed from over the cut
+    pub live-here : isLive m c ≡ (changedBefore m c || changedAfter m (suc c))
+    unfolding isLive liveByVoice liveByHardness changedBefore changedAfter voicedAt hardAt wordAfter
+    live-here = rw (code-after, and-or)
+
+  -- what the tape from place a on is made of
+  onward-open : (a : ℕ) → onward m a ≡ segment (hardAt m a) false (read (drop a m))
+  unfolding onward
+  onward-open a = refl
+
+  -- from the start on it is the whole tape
+  pub onward-first : onward m 0 ≡ tape m
+  unfolding onward hardAt tape
+  onward-first = refl
+
+  -- where nothing changes what stands at place a, the bytes from there on may be transcribed alone
+  onward-alone : (a : ℕ) → changedAfter m a ≡ false → tape (drop a m) ≡ onward m a
+  unfolding tape changedAfter
+  onward-alone a q = rw (onward-open a) (own-left (hardAt m a) false (read (drop a m)) q)
+
+  -- Whether a cut is live can be told from the tape of what stands after it, transcribed alone: where that differs from the whole tape, the cut is live by (b).
+  pub live-alone : (c : ℕ) → isBreak (getD m c 0) ≡ true
+      → isLive m c
+      ≡ (isGap (getD m c 0)
+      && (endsInObstruent (wordBefore m c) && isVoicing (firstCode (tape (drop (suc c) m))) || beginsWithIOrE (wordAfter m c) && endsHard (wordBefore m c)))
+  unfolding changedBefore changedAfter voicedAt hardAt wordAfter
+  live-alone c break =
+      let g = isGap (getD m c 0) in
+      let o = endsInObstruent (wordBefore m c) in
+      let v = isVoicing (firstCode (tape (drop (suc c) m))) in
+      live-here c break
+      ∙ or-when (changedAfter m (suc c)) (changedBefore m c) (g && v && o) (λ q. rw (onward-alone (suc c) q))
+      ∙ sym (and-or g o v (beginsWithIOrE (wordAfter m c)) (endsHard (wordBefore m c)))
+
+  -- The two tapes from place a on have equal length.
+  pub joined-length : (a : ℕ) (cuts : List ℕ) → Begins m a → RisingFrom m a cuts → length (joinedFrom m a cuts) ≡ length (onward m a)
+  unfolding joinedFrom tape
+  joined-length a [] b r = rw (onward-open a) (segment-length false (hardAt m a) false false (read (drop a m)))
+  joined-length a (c ∷ cuts) b r =
+      rw (onward-cut a c b (r .0) (r .1))
+      (simp length-append
+      (omega (arith, segment-length false (hardAt m a) false (voicedAt m c) (read (part m a c)), joined-length (suc c) cuts (r .1) (r .2))))
+
+  -- Without a live cut they are equal, if nothing changes what stands at place a.
+  pub joined-dead : (a : ℕ) (cuts : List ℕ) → Begins m a → RisingFrom m a cuts → changedAfter m a ≡ false → liveCount m cuts ≡ 0
+      → joinedFrom m a cuts ≡ onward m a
+  unfolding joinedFrom tape changedAfter changedBefore liveCount
+  joined-dead a [] b r q n = onward-alone a q
+  joined-dead a (c ∷ cuts) b r q n =
+      let p = read (part m a c) in
+      let l = none-counted (isLive m c) (liveCount m cuts) n in
+      let o = or-false (changedBefore m c) (changedAfter m (suc c)) (sym (live-here c (r .1)) ∙ l .0) in
+      let left : (hardAt m a && beginsWithIOrE (firstWord p)) ≡ false = rw (first-word a c b (r .0) (r .1)) at q in
+      let right : (voicedAt m c && endsInObstruent (lastWord p)) ≡ false = rw (word-before a c b (r .0) (break-within m c (r .1))) (o .0) in
+      rw (onward-cut a c b (r .0) (r .1), own-left (hardAt m a) false p left, own-right (hardAt m a) (voicedAt m c) p right, joined-dead (suc c) cuts (r .1) (r .2) (o .1) (l .1))
+
+  -- At place a the first codes differ if something changes what stands there, whatever the cuts.
+  joined-starts : (a : ℕ) (cuts : List ℕ) → Begins m a → RisingFrom m a cuts → changedAfter m a ≡ true
+      → firstCode (onward m a) ≡ firstCode (joinedFrom m a cuts) → ⊥
+  unfolding joinedFrom tape changedAfter
+  joined-starts a [] b r q e =
+      let o = and-eq-true-iff (hardAt m a) (beginsWithIOrE (firstWord (read (drop a m)))) .0 q in
+      segment-starts-differ false false (read (drop a m)) (o .1) (rw (onward-open a, o .0) at e)
+  joined-starts a (c ∷ cuts) b r q e =
+      let p = read (part m a c) in
+      let o = and-eq-true-iff (hardAt m a) (beginsWithIOrE (firstWord (read (drop a m)))) .0 q in
+      first-differ (segment true (voicedAt m c) p) (segment false false p) _ _ (segment-length true false (voicedAt m c) false p)
+      (segment-starts-differ (voicedAt m c) false p (rw (first-word a c b (r .0) (r .1)) at (o .1)))
+      (rw (onward-cut a c b (r .0) (r .1), o .0) at e)
+
+-- A tape of the parts from place a on, at its cut c: split at the mark, with the codes on both sides made as if nothing stood over the cut.
+pub record CutAt (m : List ℕ) (a c : ℕ) (t : List ℕ) : Type 0 where
+  pub front : List ℕ
+  pub back : List ℕ
+  pub split : t ≡ front ++ (markOf (getD m c 0) ∷ back)
+  pub size : length front ≡ length (tape (part m a c))
+  pub ends : (h : Bool) (x y : ℕ) → endsInObstruent (wordBefore m c) ≡ true
+      → lastCodeFrom x (segment h true (read (part m a c))) ≡ lastCodeFrom y front → ⊥
+  pub starts : changedAfter m (suc c) ≡ true → firstCode (onward m (suc c)) ≡ firstCode back → ⊥
+
+module _ (m : List ℕ) where
+  -- at the first cut
+  cut-first : (a c : ℕ) (cuts : List ℕ) → Begins m a → RisingFrom m a (c ∷ cuts) → CutAt m a c (joinedFrom m a (c ∷ cuts))
+  unfolding joinedFrom tape
+  cut-first a c cuts b r = record {
+    front = tape (part m a c);
+    back = joinedFrom m (suc c) cuts;
+    split = refl;
+    size = refl;
+    ends = λ h x y q. segment-ends-differ h false x y (read (part m a c)) (rw (word-before m a c b (r .0) (break-within m c (r .1))) q);
+    starts = joined-starts m (suc c) cuts (r .1) (r .2);
+  }
+
+  -- at a later one
+  cut-later : (a c d : ℕ) (cuts : List ℕ) → RisingFrom m a (d ∷ cuts) → suc d ≤ c → CutAt m (suc d) c (joinedFrom m (suc d) cuts)
+      → CutAt m a c (joinedFrom m a (d ∷ cuts))
+  unfolding joinedFrom tape
+  cut-later a c d cuts r lt k = record {
+    front = tape (part m a d) ++ (markOf (getD m d 0) ∷ k .front);
+    back = k .back;
+    split = rw (k .split, append-assoc);
+    size =
+        let p = read (part m a d) in
+        let s = read (part m (suc d) c) in
+        let g = getD m d 0 in
+        let hard = isGap g && endsHard (lastWord p) in
+        rw (part-cut m false false a d c (r .0) lt (r .1))
+        (simp length-append
+        (omega (arith, k .size, segment-length false false false (isGap g && isVoicing (firstCode (segment hard false s))) p, segment-length hard false false false s)));
+    ends = λ h x y q e. k .ends _ _ _ q (simp last-append at (rw (part-cut m h true a d c (r .0) lt (r .1)) at e));
+    starts = k .starts;
+  }
+
+  -- at each cut of the list
+  pub cut-at : (a c : ℕ) (cuts : List ℕ) → Begins m a → RisingFrom m a cuts → CutOf c cuts → CutAt m a c (joinedFrom m a cuts)
+  cut-at a c [] b r i = absurd i
+  cut-at a c (d ∷ cuts) b r i =
+      ⊎-elim (λ e. rw e (cut-first a d cuts b r)) (λ j. cut-later a c d cuts r (cut-above m c (suc d) cuts (r .2) j) (cut-at (suc d) c cuts (r .1) (r .2) j)) i

@@ -1,0 +1,153 @@
+-- The tape of a stretch of a message: a break splits it in two, since nothing but the two bits crosses a break; and what the bits change, by its first and last word.
+-- Assumes nothing.
+use Prim.Native.Nat.{ℕ}
+use mathlib.Core.Path.{_≡_, refl, ap}
+use mathlib.Core.Bool.{Bool, true, false, cond, _&&_, _||_}
+use mathlib.Core.List.{List, [], _∷_, _++_, append-assoc}
+use native.Mathlib.Omega.{arith}
+use lib.Dec.{eqb}
+use borrow.Author.Tests.{eqb-true}
+use lib.ListN.{length, length-append}
+use Rattle.message.specs.Alphabet.{gap, pause, mark}
+use Rattle.message.specs.Tables.{among}
+use Rattle.message.specs.Letters.{Letter, Message, last, more, read, putLetter, beginsWithMark, firstWord, lastWord, isGap, isBreak, isMark}
+use Rattle.message.specs.Codes.{markOf, isVoicing}
+use Rattle.message.specs.Vowels.{endsHard}
+use Rattle.message.specs.Palatalization.{firstCode}
+use Rattle.message.specs.Tape.{wordTape, segment}
+use Rattle.message.specs.Joints.{endsInObstruent, beginsWithIOrE}
+use Rattle.laws.proofs.Word.{lastCodeFrom, lastCode, word-length, word-quiet, word-ends-differ, word-firm, word-starts-differ}
+
+-- the message a, the break x, and the message b, read as one
+unfoldable pub meet : Message → ℕ → Message → Message
+meet (last w) x b = more w x b
+meet (more w y r) x b = more w y (meet r x b)
+
+-- it begins as a
+pub first-meet : (a : Message) (x : ℕ) (b : Message) → firstWord (meet a x b) ≡ firstWord a
+unfolding meet firstWord
+first-meet (last w) x b = refl
+first-meet (more w y r) x b = refl
+
+-- it ends as b
+pub last-meet : (a : Message) (x : ℕ) (b : Message) → lastWord (meet a x b) ≡ lastWord b
+unfolding meet lastWord
+last-meet (last w) x b = refl
+last-meet (more w y r) x b = last-meet r x b
+
+-- a break is no stress mark
+break-unmarked : (x : ℕ) → isBreak x ≡ true → isMark x ≡ false
+unfolding isBreak isMark
+break-unmarked x e = by (eqb x gap) refl e
+  where
+    by : (t : Bool) → eqb x gap ≡ t → (t || eqb x pause) ≡ true → eqb x mark ≡ false
+    by true g e = rw (eqb-true x gap g)
+    by false g e = rw (eqb-true x pause e)
+
+-- so a break after bytes is no mark on their last letter
+mark-before-break : (p s : List ℕ) (x : ℕ) → isBreak x ≡ true → beginsWithMark (p ++ (x ∷ s)) ≡ beginsWithMark p
+unfolding beginsWithMark
+mark-before-break [] s x e = break-unmarked x e
+mark-before-break (b ∷ p) s x e = refl
+
+-- a letter put before two messages is put before the first one
+put-meet : (l : Letter) (a : Message) (x : ℕ) (b : Message) → putLetter l (meet a x b) ≡ meet (putLetter l a) x b
+unfolding putLetter meet
+put-meet l (last w) x b = refl
+put-meet l (more w y r) x b = refl
+
+-- one byte is read alike before two messages: t says that it is a break, u that it is a mark, and c is a with its letter
+read-one-meet : (t u : Bool) (y : ℕ) (a c : Message) (x : ℕ) (b : Message)
+    → cond t (more [] y (meet a x b)) (cond u (meet a x b) (meet c x b)) ≡ meet (cond t (more [] y a) (cond u a c)) x b
+unfolding meet
+read-one-meet true u y a c x b = refl
+read-one-meet false true y a c x b = refl
+read-one-meet false false y a c x b = refl
+
+-- reading bytes with a break in them: what stands before it, the break, what stands after it
+pub read-join : (p s : List ℕ) (x : ℕ) → isBreak x ≡ true → read (p ++ (x ∷ s)) ≡ meet (read p) x (read s)
+unfolding read meet
+read-join [] s x e = rw e
+read-join (b ∷ p) s x e = rw (read-join p s x e, mark-before-break p s x e, put-meet) (read-one-meet (isBreak b) (isMark b) b (read p) _ x (read s))
+
+-- a break's mark is no voicing sound, and neither is nothing, so a word is followed by the same voice with or without what stands behind the break
+voice-before-mark : (t u : List ℕ) (x : ℕ) → isVoicing (firstCode (t ++ (markOf x ∷ u))) ≡ isVoicing (firstCode t)
+unfolding firstCode markOf isVoicing among
+voice-before-mark [] u x = by (eqb x pause)
+  where
+    by : (b : Bool) → isVoicing (cond b 63 0) ≡ isVoicing 0
+    by true = refl
+    by false = refl
+voice-before-mark (c ∷ t) u x = refl
+
+-- The tape of two stretches with a break between them: each with the bits that come from the other, and the mark of the break.
+pub segment-join : (h n : Bool) (a : Message) (x : ℕ) (b : Message)
+    → let t = segment (isGap x && endsHard (lastWord a)) n b in
+    segment h n (meet a x b) ≡ segment h (isGap x && isVoicing (firstCode t)) a ++ (markOf x ∷ t)
+unfolding meet segment lastWord
+segment-join h n (last w) x b = refl
+segment-join h n (more w y r) x b =
+    let k = isGap y && endsHard w in
+    let t = segment (isGap x && endsHard (lastWord r)) n b in
+    let s = segment k (isGap x && isVoicing (firstCode t)) r in
+    rw (segment-join k n r x b, voice-before-mark s t x, append-assoc)
+
+-- the length depends on neither bit
+pub segment-length : (h h′ n n′ : Bool) (a : Message) → length (segment h n a) ≡ length (segment h′ n′ a)
+unfolding segment
+segment-length h h′ n n′ (last w) = word-length h h′ n n′ w
+segment-length h h′ n n′ (more w x r) =
+    let k = isGap x && endsHard w in
+    let v : Bool → Bool = λ b. isGap x && isVoicing (firstCode (segment k b r)) in
+    simp length-append (omega (arith, word-length h h′ (v n) (v n′) w, segment-length k k n n′ r))
+
+-- what follows changes nothing where the last word ends in no obstruent
+pub segment-quiet : (h n n′ : Bool) (a : Message) → endsInObstruent (lastWord a) ≡ false → segment h n a ≡ segment h n′ a
+unfolding segment lastWord
+segment-quiet h n n′ (last w) e = word-quiet h n n′ w e
+segment-quiet h n n′ (more w x r) e = rw (segment-quiet (isGap x && endsHard w) n n′ r e)
+
+-- two tapes of one length whose last codes differ are not empty, so they differ whatever stands before them
+last-differ : (s t : List ℕ) (c d : ℕ) → length s ≡ length t → (lastCode s ≡ lastCode t → ⊥) → lastCodeFrom c s ≡ lastCodeFrom d t → ⊥
+unfolding lastCode lastCodeFrom
+last-differ [] [] c d l q e = q refl
+last-differ [] (y ∷ t) c d l q e = omega arith
+last-differ (x ∷ s) [] c d l q e = omega arith
+last-differ (x ∷ s) (y ∷ t) c d l q e = q e
+
+-- a tape that ends as t, after a mark
+pub last-append : (c d : ℕ) (s t : List ℕ) → lastCodeFrom c (s ++ (d ∷ t)) ≡ lastCodeFrom d t
+unfolding lastCodeFrom
+last-append c d [] t = refl
+last-append c d (x ∷ s) t = last-append x d s t
+
+-- and else the last code differs, whatever stands before the stretch
+pub segment-ends-differ : (h h′ : Bool) (c d : ℕ) (a : Message) → endsInObstruent (lastWord a) ≡ true
+    → lastCodeFrom c (segment h true a) ≡ lastCodeFrom d (segment h′ false a) → ⊥
+unfolding segment lastWord
+segment-ends-differ h h′ c d (last w) e q = last-differ (wordTape h true w) (wordTape h′ false w) c d (word-length h h′ true false w) (word-ends-differ h h′ w e) q
+segment-ends-differ h h′ c d (more w x r) e q = segment-ends-differ _ _ (markOf x) (markOf x) r e (simp last-append at q)
+
+-- a hard boundary before it changes nothing unless the first word begins with и or unmarked э
+pub segment-firm : (h h′ n : Bool) (a : Message) → beginsWithIOrE (firstWord a) ≡ false → segment h n a ≡ segment h′ n a
+unfolding segment firstWord
+segment-firm h h′ n (last w) e = word-firm h h′ n w e
+segment-firm h h′ n (more w x r) e =
+    ap (λ (t : List ℕ). t ++ (markOf x ∷ segment (isGap x && endsHard w) n r)) (word-firm h h′ (isGap x && isVoicing (firstCode (segment (isGap x && endsHard w) n r))) w e)
+
+-- two tapes of one length whose first codes differ are not empty, so they differ whatever stands after them
+pub first-differ : (s t u v : List ℕ) → length s ≡ length t → (firstCode s ≡ firstCode t → ⊥) → firstCode (s ++ u) ≡ firstCode (t ++ v) → ⊥
+unfolding firstCode
+first-differ [] [] u v l q e = q refl
+first-differ [] (y ∷ t) u v l q e = omega arith
+first-differ (x ∷ s) [] u v l q e = omega arith
+first-differ (x ∷ s) (y ∷ t) u v l q e = q e
+
+-- and else the first code differs, whatever follows
+pub segment-starts-differ : (n n′ : Bool) (a : Message) → beginsWithIOrE (firstWord a) ≡ true
+    → firstCode (segment true n a) ≡ firstCode (segment false n′ a) → ⊥
+unfolding segment firstWord
+segment-starts-differ n n′ (last w) e = word-starts-differ n n′ w e
+segment-starts-differ n n′ (more w x r) e =
+    let v : Bool → Bool = λ b. isGap x && isVoicing (firstCode (segment (isGap x && endsHard w) b r)) in
+    first-differ (wordTape true (v n) w) (wordTape false (v n′) w) _ _ (word-length true false (v n) (v n′) w) (word-starts-differ (v n) (v n′) w e)

@@ -1,0 +1,118 @@
+-- The kind of what stands before a place tells the class of the last letter of the word: a letter's kind is its class, and a mark stands right after a vowel and counts as one.
+-- Assumes nothing.
+use Prim.Native.Nat.{ℕ, zero, suc, _+_, _<_, _≤_}
+use mathlib.Core.Path.{_≡_, refl, sym, _∙_}
+use mathlib.Core.Bool.{Bool, true, false, cond, _&&_, false≢true}
+use mathlib.Core.List.{List, [], _∷_, _++_, map}
+use lib.Dec.{eqb}
+use lib.ListN.{length, getD}
+use borrow.Author.Tests.{eqb-true}
+use native.Mathlib.Omega.{arith}
+use Rattle.message.specs.Letters.{small, plainVowels, softeningVowels, isMark, isBreak, isVowel, isSign, isConsonant}
+use Rattle.message.specs.Refusals.{vowelByte}
+use Rattle.message.specs.Scan.{classOf, isBreakClass, isConsonantClass, isSignClass, isVowelKind, isSignKind, isLetterClass, nextKind, kindAt}
+use Rattle.message.proofs.Bytes.{below, below-same, by-class, letter-class, vowel-break, vowel-mark}
+use Rattle.message.proofs.Classes.{among-same}
+use Rattle.message.specs.Places.{leftAt, letterOf, Steady}
+use Rattle.message.proofs.Left.{left-letter, left-mark, left-break}
+use Rattle.message.proofs.Computed.{everything}
+
+-- the kind k tells the class of the letter p, 0 for none
+pub record Kind (p k : ℕ) : Type 0 where
+  pub start : eqb p 0 ≡ isBreakClass k
+  pub consonant : isConsonant p ≡ isConsonantClass k
+  pub sign : isSign p ≡ isSignKind k
+  pub vowel : isVowel p ≡ isVowelKind k
+
+-- what is asked of a letter
+abbrev told : ℕ → List Bool
+told p = eqb p 0 ∷ isConsonant p ∷ isSign p ∷ isVowel p ∷ []
+
+-- what a kind answers
+abbrev tells : ℕ → List Bool
+tells k = isBreakClass k ∷ isConsonantClass k ∷ isSignKind k ∷ isVowelKind k ∷ []
+
+-- the kind after a byte, where v says that a vowel stands before it
+abbrev after : Bool → ℕ → ℕ
+after v b = cond (isSignClass (classOf b) && v) (classOf b + 9) (classOf b)
+
+-- the kind after each byte that passes a test is told by one computation
+kind-after : (test : ℕ → Bool) (p : ℕ → ℕ) (v : Bool) (b : ℕ)
+    → map (λ x. cond (test x) (told (p x)) []) (below 256) ≡ map (λ x. cond (test x) (tells (after v x)) []) (below 256)
+    → b < 256 → test b ≡ true → Kind (p b) (after v b)
+kind-after test p v b t h e =
+    let s : told (p b) ≡ tells (after v b) = rw e at (below-same (λ x. cond (test x) (told (p x)) []) (λ x. cond (test x) (tells (after v x)) []) 256 b t h) in
+    record { start = cc; consonant = cc; sign = cc; vowel = cc }
+
+-- so after a letter
+pub kind-letter : (v : Bool) (b : ℕ) → b < 256 → isLetterClass (classOf b) ≡ true → Kind (small b) (after v b)
+unfolding everything
+kind-letter true b = kind-after (λ x. isLetterClass (classOf x)) small true b refl
+kind-letter false b = kind-after (λ x. isLetterClass (classOf x)) small false b refl
+
+-- after a break
+pub kind-break : (v : Bool) (b : ℕ) → b < 256 → isBreak b ≡ true → Kind 0 (after v b)
+unfolding everything
+kind-break true b = kind-after isBreak (λ _. 0) true b refl
+kind-break false b = kind-after isBreak (λ _. 0) false b refl
+
+-- and after a mark, where the letter before is a vowel
+pub kind-mark : (v : Bool) (b : ℕ) → b < 256 → isMark b ≡ true → (p : ℕ) → isVowel p ≡ true → Kind p (after v b)
+unfolding everything
+kind-mark v b h k p e =
+    let vowels = plainVowels ++ softeningVowels in
+    let c : classOf b ≡ 1 = eqb-true _ _ (sym (by-class b h .mark) ∙ k) in
+    rw c (record {
+      start = among-same (λ x. eqb x 0) (λ _. false) vowels p refl e;
+      consonant = among-same isConsonant (λ _. false) vowels p refl e;
+      sign = among-same isSign (λ _. false) vowels p refl e;
+      vowel = e;
+    })
+
+-- the kind at the start
+pub kind-none : Kind 0 2
+unfolding everything
+kind-none = record { start = refl; consonant = refl; sign = refl; vowel = refl }
+
+module _ (m : List ℕ) (steady : Steady m) where
+  -- the letter before a mark is a vowel
+  pub vowel-before : (i : ℕ) → i < length m → isMark (getD m i 0) ≡ true → isVowel (leftAt m i .p) ≡ true
+  unfolding vowelByte letterOf
+  vowel-before zero h k = absurd (false≢true (sym (steady .first) ∙ k))
+  vowel-before (suc i) h k =
+      let v = steady .marks i h k in
+      let t = steady .bytes i in
+      rw (left-letter m i (omega arith) (vowel-break _ t v) (vowel-mark _ t v)) v
+
+  -- the kind of what stands before a place tells the class of the last letter of the word
+  pub kind-at : (i : ℕ) → i ≤ length m → Kind (leftAt m i .p) (kindAt m i)
+  unfolding leftAt kindAt nextKind letterOf
+  kind-at zero h = kind-none
+  kind-at (suc i) h = by (isBreak b) refl (isMark b) refl
+    where
+      b : ℕ
+      b = getD m i 0
+
+      v : Bool
+      v = isVowelKind (kindAt m i)
+
+      by : (s : Bool) → isBreak b ≡ s → (k : Bool) → isMark b ≡ k → Kind (leftAt m (suc i) .p) (after v b)
+      by true s k e = rw (left-break m i h s) (kind-break v b (steady .bytes i) s)
+      by false s true e = rw (left-mark m i h e) (kind-mark v b (steady .bytes i) e (leftAt m i .p) (vowel-before i h e))
+      by false s false e = rw (left-letter m i h s e) (kind-letter v b (steady .bytes i) (letter-class b (steady .bytes i) s e (steady .named i h)))
+
+  -- is it the start of a word?
+  pub kind-start : (i : ℕ) → i ≤ length m → eqb (leftAt m i .p) 0 ≡ isBreakClass (kindAt m i)
+  kind-start i h = kind-at i h .start
+
+  -- is it a consonant?
+  pub kind-consonant : (i : ℕ) → i ≤ length m → isConsonant (leftAt m i .p) ≡ isConsonantClass (kindAt m i)
+  kind-consonant i h = kind-at i h .consonant
+
+  -- is it a sign?
+  pub kind-sign : (i : ℕ) → i ≤ length m → isSign (leftAt m i .p) ≡ isSignKind (kindAt m i)
+  kind-sign i h = kind-at i h .sign
+
+  -- is it a vowel?
+  pub kind-vowel : (i : ℕ) → i ≤ length m → isVowel (leftAt m i .p) ≡ isVowelKind (kindAt m i)
+  kind-vowel i h = kind-at i h .vowel

@@ -1,0 +1,110 @@
+-- What holds of every number below a bound is one computation, so a byte's tests go by its class.
+-- Assumes nothing.
+use Prim.Native.Nat.{ℕ, zero, suc, _+_, _*_, _/_, _%_, _<_, _≤_}
+use mathlib.Core.Path.{_≡_, refl, sym, ap, _∙_}
+use mathlib.Core.Bool.{Bool, true, false, cond, _&&_, _||_, false≢true}
+use mathlib.Core.List.{List, [], _∷_, map}
+use native.Mathlib.Omega.{arith}
+use lib.Dec.{eqb, leb}
+use lib.ListN.{length, getD, List·getD-append}
+use lib.Seq.{getD-append-add}
+use borrow.Author.Tests.{eqb-true, eqb-false, leb-true, ne-eqb}
+use Rattle.message.specs.Alphabet.{«д», «т»}
+use Rattle.message.specs.Letters.{small, isMark, isBreak, isConsonant}
+use Rattle.message.specs.Refusals.{vowelByte, signByte, hardSignByte, consonantByte, letterByte}
+use Rattle.message.specs.Scan.{classOf, isBreakClass, isSignClass, isConsonantClass, isVowelClass, isLetterClass, nextKind, faultIn, widthIn, namesIn, packed, tabulate, tables, elidesAmong, letterAt, elidedAt, widthAt}
+use Rattle.message.proofs.Computed.{everything}
+
+-- the numbers below n
+abbrev pub below : ℕ → List ℕ
+below zero = []
+below (suc n) = n ∷ below n
+
+-- two functions that agree on the numbers below n agree at each of them
+pub below-same : {A : Type 0} (f g : ℕ → A) (n b : ℕ) → map f (below n) ≡ map g (below n) → b < n → f b ≡ g b
+below-same f g zero b e h = absurd (omega arith)
+below-same f g (suc n) b e h = by (eqb b n) refl (below-same f g n b (cc))
+  where
+    by : (t : Bool) → eqb b n ≡ t → (b < n → f b ≡ g b) → f b ≡ g b
+    by true d r = rw (eqb-true b n d) (cc)
+    by false d r = r (omega (arith, eqb-false b n d))
+
+-- so do two functions of two numbers
+pub pairs-same : {A : Type 0} (f g : ℕ → ℕ → A) (n p k c : ℕ) → map (λ x. map (f x) (below p)) (below n) ≡ map (λ x. map (g x) (below p)) (below n)
+    → k < n → c < p → f k c ≡ g k c
+pairs-same f g n p k c e h l = below-same (f k) (g k) p c (below-same (λ x. map (f x) (below p)) (λ x. map (g x) (below p)) n k e h) l
+
+-- the tests of a byte
+abbrev tests : ℕ → List Bool
+tests b = isMark b ∷ isBreak b ∷ vowelByte b ∷ signByte b ∷ hardSignByte b ∷ consonantByte b ∷ letterByte b ∷ (eqb (small b) «т» || eqb (small b) «д») ∷ true ∷ []
+
+-- what its class says of them
+abbrev classTests : ℕ → List Bool
+classTests c = eqb c 1 ∷ isBreakClass c ∷ isVowelClass c ∷ isSignClass c ∷ eqb c 4 ∷ isConsonantClass c ∷ isLetterClass c ∷ eqb c 8 ∷ leb c 12 ∷ []
+
+-- the two agree
+tests-same : (b : ℕ) → b < 256 → tests b ≡ classTests (classOf b)
+unfolding everything
+tests-same b h = below-same tests (λ x. classTests (classOf x)) 256 b refl h
+
+-- a byte is told by its class
+pub record ByClass (b : ℕ) : Type 0 where
+  pub mark : isMark b ≡ eqb (classOf b) 1
+  pub break : isBreak b ≡ isBreakClass (classOf b)
+  pub vowel : vowelByte b ≡ isVowelClass (classOf b)
+  pub sign : signByte b ≡ isSignClass (classOf b)
+  pub hardSign : hardSignByte b ≡ eqb (classOf b) 4
+  pub consonant : consonantByte b ≡ isConsonantClass (classOf b)
+  pub letter : letterByte b ≡ isLetterClass (classOf b)
+  pub silent : (eqb (small b) «т» || eqb (small b) «д») ≡ eqb (classOf b) 8
+  pub class : classOf b < 13
+
+-- every byte is
+pub by-class : (b : ℕ) → b < 256 → ByClass b
+by-class b h =
+    let e = tests-same b h in
+    let l : leb (classOf b) 12 ≡ true = cc in
+    record { mark = cc; break = cc; vowel = cc; sign = cc; hardSign = cc; consonant = cc; letter = cc; silent = cc; class = omega (arith, leb-true (classOf b) 12 l) }
+
+-- two tests that no byte passes both
+pub not-both : (f g : ℕ → Bool) (b : ℕ) → map (λ x. f x && g x) (below 256) ≡ map (λ _. false) (below 256) → b < 256 → f b ≡ true → g b ≡ false
+not-both f g b t h e = rw e at (below-same (λ x. f x && g x) (λ _. false) 256 b t h)
+
+-- a break is no vowel
+pub break-vowel : (b : ℕ) → b < 256 → isBreak b ≡ true → vowelByte b ≡ false
+unfolding everything
+break-vowel b = not-both isBreak vowelByte b refl
+
+-- a vowel is no break
+pub vowel-break : (b : ℕ) → b < 256 → vowelByte b ≡ true → isBreak b ≡ false
+unfolding everything
+vowel-break b = not-both vowelByte isBreak b refl
+
+-- a vowel is no mark
+pub vowel-mark : (b : ℕ) → b < 256 → vowelByte b ≡ true → isMark b ≡ false
+unfolding everything
+vowel-mark b = not-both vowelByte isMark b refl
+
+-- a break is no consonant
+pub break-consonant : (b : ℕ) → b < 256 → isBreak b ≡ true → isConsonant (small b) ≡ false
+unfolding everything
+break-consonant b = not-both isBreak consonantByte b refl
+
+-- a mark is no consonant
+pub mark-consonant : (b : ℕ) → b < 256 → isMark b ≡ true → isConsonant (small b) ≡ false
+unfolding everything
+mark-consonant b = not-both isMark consonantByte b refl
+
+-- a consonant is no vowel
+pub consonant-vowel : (b : ℕ) → b < 256 → isConsonant (small b) ≡ true → vowelByte b ≡ false
+unfolding everything
+consonant-vowel b = not-both consonantByte vowelByte b refl
+
+-- every byte is a break, a mark, unnamed or a letter
+byte-named : (b : ℕ) → b < 256 → (isBreak b || (isMark b || (eqb (classOf b) 0 || isLetterClass (classOf b)))) ≡ true
+unfolding everything
+byte-named b h = below-same (λ x. isBreak x || (isMark x || (eqb (classOf x) 0 || isLetterClass (classOf x)))) (λ _. true) 256 b refl h
+
+-- so a named byte that is no break and no mark is a letter
+pub letter-class : (b : ℕ) → b < 256 → isBreak b ≡ false → isMark b ≡ false → (classOf b ≡ 0 → ⊥) → isLetterClass (classOf b) ≡ true
+letter-class b h s k n = rw (s, k, ne-eqb (classOf b) 0 n) at (byte-named b h)

@@ -1,0 +1,39 @@
+-- A class is a list of bytes, so what holds of all its letters is one computation over that list.
+-- Assumes nothing.
+use Prim.Native.Nat.{ℕ}
+use mathlib.Core.Path.{_≡_, refl, sym, ap, _∙_}
+use mathlib.Core.Bool.{Bool, true, false, _||_, false≢true}
+use mathlib.Core.List.{List, [], _∷_, _++_, map}
+use lib.Dec.{eqb}
+use borrow.Author.Tests.{eqb-true}
+use Rattle.message.specs.Tables.{among}
+use Rattle.message.specs.Letters.{plainVowels, softeningVowels, isVowel, isObstruent, isPaired}
+use Rattle.message.proofs.Computed.{everything}
+
+-- two functions that agree on a list agree at each of its bytes
+pub among-same : {A : Type 0} (f g : ℕ → A) (xs : List ℕ) (b : ℕ) → map f xs ≡ map g xs → among xs b ≡ true → f b ≡ g b
+unfolding among
+among-same f g [] b e h = absurd (false≢true h)
+among-same f g (x ∷ xs) b e h = by (eqb b x) refl h (among-same f g xs b (cc))
+  where
+    by : (t : Bool) → eqb b x ≡ t → (t || among xs b) ≡ true → (among xs b ≡ true → f b ≡ g b) → f b ≡ g b
+    by true d h′ r = rw (eqb-true b x d) (cc)
+    by false d h′ r = r h′
+
+-- a byte outside a list is none of its bytes
+pub among-none : (xs : List ℕ) (b x : ℕ) → among xs b ≡ false → among xs x ≡ true → eqb b x ≡ false
+among-none xs b x n h = by (eqb b x) refl
+  where
+    by : (t : Bool) → eqb b x ≡ t → t ≡ false
+    by true d = sym h ∙ ap (among xs) (sym (eqb-true b x d)) ∙ n
+    by false d = refl
+
+-- a vowel is no obstruent
+pub vowel-quiet : (b : ℕ) → isVowel b ≡ true → isObstruent b ≡ false
+unfolding everything
+vowel-quiet b h = among-same isObstruent (λ _. false) (plainVowels ++ softeningVowels) b refl h
+
+-- a vowel has no palatalized sound
+pub vowel-single : (b : ℕ) → isVowel b ≡ true → isPaired b ≡ false
+unfolding everything
+vowel-single b h = among-same isPaired (λ _. false) (plainVowels ++ softeningVowels) b refl h

@@ -1,0 +1,116 @@
+-- Only т and д are elided, and only before с н ч ц ш: none of these is a vowel or a sign or softens, so elision changes no syllable and no softness.
+-- Assumes nothing.
+use Prim.Native.Nat.{ℕ}
+use mathlib.Core.Path.{_≡_, refl, sym, _∙_}
+use mathlib.Core.Bool.{Bool, true, false, cond, _&&_, _||_, and-false, false≢true}
+use mathlib.Core.List.{List, [], _∷_}
+use lib.Dec.{eqb}
+use Rattle.message.specs.Alphabet.{«д», «н», «с», «т», «ц», «ч», «ш»}
+use Rattle.message.specs.Tables.{among}
+use Rattle.message.specs.Letters.{Letter, firstByte, isSign, isVowel}
+use Rattle.message.specs.Elision.{begins₁, begins₂, elidesT, elidesD, elides, elideFrom}
+use Rattle.message.specs.Syllables.{levelOf, nextStressed, syllableOf, namesFrom}
+use Rattle.message.specs.Vowels.{softens, phonesOf, phonesFrom}
+use Rattle.message.proofs.Classes.{among-same, among-none}
+use Rattle.message.proofs.Computed.{everything}
+
+-- the letters that can be elided
+abbrev pub silent : List ℕ
+silent = «т» ∷ «д» ∷ []
+
+-- the letters that can stand after an elided one
+abbrev pub afterSilent : List ℕ
+afterSilent = «с» ∷ «н» ∷ «ч» ∷ «ц» ∷ «ш» ∷ []
+
+-- an elided letter is т or д
+pub elided-silent : (p b : ℕ) (w : List Letter) → elides p b w ≡ true → among silent b ≡ true
+unfolding elides among
+elided-silent p b w h = by (eqb b «т») (eqb b «д») (elidesT p w) (elidesD p w) h
+  where
+    by : (t d x y : Bool) → ((t && x) || (d && y)) ≡ true → (t || (d || false)) ≡ true
+    by true d x y e = refl
+    by false true x y e = refl
+    by false false x y e = e
+
+-- no letter is elided but before с н ч ц ш
+pub elided-next : (p b : ℕ) (w : List Letter) → elides p b w ≡ true → among afterSilent (firstByte w) ≡ true
+unfolding elides elidesT elidesD begins₁ begins₂ among
+elided-next p b w h = by (among afterSilent (firstByte w)) refl
+  where
+    no : among afterSilent (firstByte w) ≡ false → (x : ℕ) → among afterSilent x ≡ true → eqb (firstByte w) x ≡ false
+    no e x i = among-none afterSilent (firstByte w) x e i
+
+    by : (t : Bool) → among afterSilent (firstByte w) ≡ t → t ≡ true
+    by true e = refl
+    by false e = simp (no e «с» refl, no e «н» refl, no e «ч» refl, no e «ц» refl, no e «ш» refl, and-false) at h
+
+-- and those letters stay
+pub next-stays : (p : ℕ) (w : List Letter) → among afterSilent (firstByte w) ≡ true → firstByte (elideFrom p w) ≡ firstByte w
+unfolding elideFrom elides firstByte among
+next-stays p [] h = refl
+next-stays p (l ∷ w) h = rw (among-same (λ b. eqb b «т») (λ _. false) afterSilent (l .byte) refl h, among-same (λ b. eqb b «д») (λ _. false) afterSilent (l .byte) refl h)
+
+-- a byte that is no vowel and no sign, and palatalizes nothing before it
+pub record Plain (b : ℕ) : Type 0 where
+  pub vowel : isVowel b ≡ false
+  pub sign : isSign b ≡ false
+  pub soft : softens b ≡ false
+
+-- т and д are so
+pub silent-plain : (b : ℕ) → among silent b ≡ true → Plain b
+unfolding everything
+silent-plain b h = record { vowel = among-same isVowel (λ _. false) silent b refl h; sign = among-same isSign (λ _. false) silent b refl h; soft = among-same softens (λ _. false) silent b refl h }
+
+-- с н ч ц ш are so
+pub next-plain : (b : ℕ) → among afterSilent b ≡ true → Plain b
+unfolding everything
+next-plain b h = record { vowel = among-same isVowel (λ _. false) afterSilent b refl h; sign = among-same isSign (λ _. false) afterSilent b refl h; soft = among-same softens (λ _. false) afterSilent b refl h }
+
+-- A letter goes or stays: what holds of the letters left where it is elided, and where it is not, holds. The letter that goes is plain, and с н ч ц ш is left after it.
+pub elide-cases : (P : Bool → List Letter → Type 0) (p : ℕ) (l : Letter) (w : List Letter)
+    → (Plain (l .byte) → among afterSilent (firstByte (elideFrom (l .byte) w)) ≡ true → P true (elideFrom (l .byte) w))
+    → P false (l ∷ elideFrom (l .byte) w) → P (elides p (l .byte) w) (elideFrom p (l ∷ w))
+unfolding elideFrom
+elide-cases P p l w gone stays = by (elides p (l .byte) w) refl
+  where
+    by : (t : Bool) → elides p (l .byte) w ≡ t → P t (cond t (elideFrom (l .byte) w) (l ∷ elideFrom (l .byte) w))
+    by true e = let n = elided-next p (l .byte) w e in gone (silent-plain (l .byte) (elided-silent p (l .byte) w e)) (rw (next-stays (l .byte) w n) n)
+    by false e = stays
+
+-- elision changes no softness of the letter before
+pub soft-elide : (p : ℕ) (w : List Letter) → softens (firstByte (elideFrom p w)) ≡ softens (firstByte w)
+unfolding elideFrom firstByte
+soft-elide p [] = refl
+soft-elide p (l ∷ w) = elide-cases (λ t v. softens (firstByte v) ≡ softens (l .byte)) p l w (λ g n. next-plain _ n .soft ∙ sym (g .soft)) refl
+
+-- nor whether the next syllable is stressed
+pub stress-elide : (p : ℕ) (w : List Letter) → nextStressed (elideFrom p w) ≡ nextStressed w
+unfolding elideFrom nextStressed
+stress-elide p [] = refl
+stress-elide p (l ∷ w) = elide-cases (λ t v. nextStressed v ≡ nextStressed (l ∷ w)) p l w (λ g n. rw (g .vowel, stress-elide (l .byte) w)) (rw (stress-elide (l .byte) w))
+
+-- so a syllable is the same before the letters left
+pub syllable-elide : (marked : Bool) (p q : ℕ) (l : Letter) (w : List Letter) → syllableOf marked p l (elideFrom q w) ≡ syllableOf marked p l w
+unfolding syllableOf levelOf
+syllable-elide marked p q l w = rw (stress-elide q w)
+
+-- the sounds of what is left after an elided letter do not depend on what stands before it
+pub phones-free : (hard hard′ marked : Bool) (p p′ : ℕ) (v : List Letter) → among afterSilent (firstByte v) ≡ true → phonesFrom hard marked p v ≡ phonesFrom hard′ marked p′ v
+unfolding phonesFrom phonesOf firstByte
+phones-free hard hard′ marked p p′ [] h = refl
+phones-free hard hard′ marked p p′ (l ∷ v) h = let k = next-plain (l .byte) h in rw (k .sign, k .vowel)
+
+-- nor do its names
+pub names-free : (marked : Bool) (p p′ : ℕ) (v : List Letter) → among afterSilent (firstByte v) ≡ true → namesFrom marked p v ≡ namesFrom marked p′ v
+unfolding namesFrom firstByte among
+names-free marked p p′ [] h = absurd (false≢true h)
+names-free marked p p′ (l ∷ v) h = rw (next-plain (l .byte) h .vowel)
+
+-- elision changes no name: the letter that goes is no vowel, and a consonant stands after it
+pub names-elide : (marked : Bool) (p : ℕ) (w : List Letter) → namesFrom marked p (elideFrom p w) ≡ namesFrom marked p w
+unfolding elideFrom namesFrom
+names-elide marked p [] = refl
+names-elide marked p (l ∷ w) =
+    elide-cases (λ t v. namesFrom marked p v ≡ namesFrom marked p (l ∷ w)) p l w
+    (λ g n. names-free marked p (l .byte) (elideFrom (l .byte) w) n ∙ names-elide marked (l .byte) w ∙ rw (g .vowel))
+    (rw (names-elide marked (l .byte) w, syllable-elide marked p (l .byte) l w))

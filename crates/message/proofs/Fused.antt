@@ -1,0 +1,106 @@
+-- All five passes of a word as one recursion over its letters as written, from the right: a letter's codes are settled by the letter before it,
+-- the letters after it as written, and the finished codes after it. Equal to the passes one after the other, because elision changes nothing that
+-- the letters around it go by (Elided.antt), and palatalization does not change whether a sound voices or devoices the one before it.
+-- Assumes nothing.
+use Prim.Native.Nat.{ℕ}
+use mathlib.Core.Path.{_≡_, refl, sym}
+use mathlib.Core.Bool.{Bool, true, false, cond, _&&_}
+use mathlib.Core.List.{List, [], _∷_, _++_}
+use Rattle.message.specs.Letters.{Letter, paired, firstByte, isPaired, isSign, isVowel, isObstruent}
+use Rattle.message.specs.Codes.{J, palatalized}
+use Rattle.message.specs.Elision.{elides, elideFrom, elide}
+use Rattle.message.specs.Syllables.{hasMark, syllableOf, namesFrom}
+use Rattle.message.specs.Vowels.{Phone, vowelSound, glides, writtenCode, softens, vowelPhones, phonesOf, phonesFrom}
+use Rattle.message.specs.Voicing.{Tone, voiced, voiceless, asWritten, toneBefore, toneOf, toned, voiceOne, voice}
+use Rattle.message.specs.Palatalization.{isSoft, firstCode, palatalize}
+use Rattle.message.specs.Tape.{wordTape, wordNames}
+use Rattle.message.specs.Fused.{toneIn, vowelCodes, consonantCode, letterCodes, fusedFrom}
+use Rattle.message.specs.declared.Syllable.{Syllable}
+use Rattle.message.proofs.Classes.{among-same, vowel-quiet, vowel-single}
+use Rattle.message.proofs.Elided.{elide-cases, soft-elide, syllable-elide, phones-free, names-elide}
+use Rattle.message.proofs.Computed.{everything}
+
+-- the code of a consonant b after pass 4
+abbrev spoken : Tone → ℕ → ℕ
+spoken tone b = cond (isObstruent b) (toned tone b (writtenCode b)) (writtenCode b)
+
+-- a palatalized sound voices or devoices what its hard sound does
+pub steady : (tone : Tone) (b : ℕ) → isPaired b ≡ true → toneBefore (palatalized (spoken tone b)) ≡ toneBefore (spoken tone b)
+unfolding everything
+steady voiced b h = among-same (λ x. toneBefore (palatalized (spoken voiced x))) (λ x. toneBefore (spoken voiced x)) paired b refl h
+steady voiceless b h = among-same (λ x. toneBefore (palatalized (spoken voiceless x))) (λ x. toneBefore (spoken voiceless x)) paired b refl h
+steady asWritten b h = among-same (λ x. toneBefore (palatalized (spoken asWritten x))) (λ x. toneBefore (spoken asWritten x)) paired b refl h
+
+-- so a consonant's finished code voices or devoices what its code after pass 4 does
+pub consonant-tone : (b : ℕ) (soft : Bool) (tone : Tone) (c : ℕ) → toneBefore (spoken tone b) ≡ toneBefore (consonantCode b soft tone c)
+unfolding consonantCode isSoft
+consonant-tone b soft tone c = by (isPaired b) refl _
+  where
+    by : (t : Bool) → isPaired b ≡ t → (s : Bool) → toneBefore (spoken tone b) ≡ toneBefore (cond (t && s) (palatalized (spoken tone b)) (spoken tone b))
+    by true h true = sym (steady tone b h)
+    by true h false = refl
+    by false h s = refl
+
+-- passes 4 and 5 make the codes t of the sounds xs, and for an obstruent before them t is as good as the sounds after pass 4
+record Same (next : Bool) (xs : List Phone) (t : List ℕ) : Type 0 where
+  codes : palatalize (voice next xs) ≡ t
+  tone : toneOf next (voice next xs) ≡ toneIn next t
+
+-- so it is with a consonant's sound put before them
+consonant-sound : (next : Bool) (b : ℕ) (soft : Bool) (xs : List Phone) (t : List ℕ) → Same next xs t
+    → Same next (record { letter = b; softened = soft; code = writtenCode b } ∷ xs) (consonantCode b soft (toneIn next t) (firstCode t) ∷ t)
+unfolding voice voiceOne palatalize toneOf toneIn consonantCode
+consonant-sound next b soft xs t s = record { codes = rw (s .codes, s .tone); tone = rw (s .tone) (consonant-tone b soft (toneIn next t) (firstCode t)) }
+
+-- with a vowel's sound or glide, which both passes leave as it is
+vowel-sound : (next : Bool) (b c : ℕ) (xs : List Phone) (t : List ℕ) → isVowel b ≡ true → Same next xs t
+    → Same next (record { letter = b; softened = false; code = c } ∷ xs) (c ∷ t)
+unfolding voice voiceOne palatalize toneOf toneIn isSoft
+vowel-sound next b c xs t h s = record { codes = rw (vowel-quiet b h, vowel-single b h, s .codes); tone = rw (vowel-quiet b h) }
+
+-- with a choice of sounds
+choose : (next b : Bool) (x y : List Phone) (c d : List ℕ) (xs : List Phone) (t : List ℕ)
+    → (b ≡ true → Same next (x ++ xs) (c ++ t)) → (b ≡ false → Same next (y ++ xs) (d ++ t)) → Same next (cond b x y ++ xs) (cond b c d ++ t)
+choose next true x y c d xs t f g = f refl
+choose next false x y c d xs t f g = g refl
+
+-- the codes of a letter that stays
+abbrev keptCodes : Bool → Bool → ℕ → Letter → List Letter → Tone → ℕ → List ℕ
+keptCodes hard marked p l w tone c =
+    cond (isSign (l .byte)) []
+    (cond (isVowel (l .byte)) (vowelCodes hard p (l .byte) (syllableOf marked p l w)) (consonantCode (l .byte) (softens (firstByte w)) tone c ∷ []))
+
+-- so with the sounds of a letter that stays
+letter-sounds : (hard marked next : Bool) (p : ℕ) (l : Letter) (w : List Letter) (xs : List Phone) (t : List ℕ) → Same next xs t
+    → Same next (phonesOf hard marked p l w ++ xs) (keptCodes hard marked p l w (toneIn next t) (firstCode t) ++ t)
+unfolding phonesOf vowelPhones vowelCodes
+letter-sounds hard marked next p l w xs t s =
+    choose next (isSign (l .byte)) _ _ _ _ xs t (λ _. s) (λ _. choose next (isVowel (l .byte)) _ _ _ _ xs t
+    (λ v. choose next (glides p (syllableOf marked p l w .cover) (l .byte)) _ _ _ _ xs t (λ _. vowel-sound _ _ _ _ _ v (vowel-sound _ _ _ _ _ v s)) (λ _. vowel-sound _ _ _ _ _ v s))
+    (λ _. consonant-sound next (l .byte) (softens (firstByte w)) xs t s))
+
+-- the sounds of a letter are the same before the letters that elision leaves
+pub phones-elide : (hard marked : Bool) (p q : ℕ) (l : Letter) (w : List Letter) → phonesOf hard marked p l (elideFrom q w) ≡ phonesOf hard marked p l w
+unfolding phonesOf
+phones-elide hard marked p q l w = rw (syllable-elide marked p q l w, soft-elide q w)
+
+-- and so with the rest of a word after the letter p, elided or not
+rest-fused : (hard marked next : Bool) (p : ℕ) (w : List Letter) → Same next (phonesFrom hard marked p (elideFrom p w)) (fusedFrom hard marked next p w)
+unfolding elideFrom phonesFrom fusedFrom letterCodes voice palatalize toneOf toneIn
+rest-fused hard marked next p [] = record { codes = refl; tone = refl }
+rest-fused hard marked next p (l ∷ w) =
+    let t = fusedFrom false marked next (l .byte) w in
+    let s = rest-fused false marked next (l .byte) w in
+    elide-cases (λ e v. Same next (phonesFrom hard marked p v) (cond e [] (keptCodes hard marked p l w (toneIn next t) (firstCode t)) ++ t)) p l w
+    (λ g n. rw (phones-free hard false marked p (l .byte) (elideFrom (l .byte) w) n) s)
+    (rw (phones-elide hard marked p (l .byte) l w) (letter-sounds hard marked next p l w _ t s))
+
+-- the five passes of a word are the one recursion
+pub word-fused : (hard next : Bool) (w : List Letter) → wordTape hard next w ≡ fusedFrom hard (hasMark w) next 0 w
+unfolding wordTape elide
+word-fused hard next w = rest-fused hard (hasMark w) next 0 w .codes
+
+-- elision changes no syllable: only consonants go, and each leaves a consonant before it
+pub names-fused : (w : List Letter) → wordNames w ≡ namesFrom (hasMark w) 0 w
+unfolding wordNames elide
+names-fused w = names-elide (hasMark w) 0 w

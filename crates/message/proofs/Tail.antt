@@ -1,0 +1,283 @@
+-- The tape and the names from a place on: what the byte there puts before what comes after it. A place's tape is what the walk from the right has written when it stands there.
+-- Assumes nothing.
+use Prim.Native.Nat.{ℕ, suc, _<_}
+use mathlib.Core.Path.{_≡_, refl, sym, ap}
+use mathlib.Core.Bool.{Bool, true, false, cond, _&&_, _||_, or-false, or-true}
+use mathlib.Core.List.{List, [], _∷_, _++_, append-assoc, append-nil}
+use lib.Dec.{eqb}
+use lib.ListN.{length, getD, drop}
+use lib.Seq.{drop-cons, drop-length}
+use Rattle.message.specs.Alphabet.{pause}
+use Rattle.message.specs.Letters.{Letter, Message, last, more, putLetter, read, firstWord, isMark, isBreak, isGap, isVowel}
+use Rattle.message.specs.Codes.{markOf, isVoicing}
+use Rattle.message.specs.Syllables.{hasMark, namesFrom, incomplete, nameOf, syllableOf}
+use Rattle.message.specs.Vowels.{endsHardFrom, endsHard, hardEnd}
+use Rattle.message.specs.Voicing.{voiced, voiceless}
+use Rattle.message.specs.Palatalization.{firstCode}
+use Rattle.message.specs.Tape.{segment, tape, namesOf, names}
+use Rattle.message.specs.Refusals.{vowelByte}
+use Rattle.message.proofs.Bytes.{break-vowel, vowel-break, vowel-mark}
+use Rattle.message.specs.Fused.{toneIn, letterCodes, fusedFrom}
+use Rattle.message.proofs.Fused.{word-fused, names-fused}
+use Rattle.message.specs.Places.{Left, leftAt, markBefore, markFrom, markedAt, tailTape, tailNext, tailWord, tapeAt, wordAt, toneAt, soundAt, letterOf, codesAt, toneAfter, soundAfter, tailNamesOf, namesAt, Steady}
+use Rattle.message.proofs.Left.{mark-within, word-put, afterLetter, begins-at, mark-first, read-letter, read-mark, read-break, read-end, left-letter, left-mark, left-break, unmarked-after}
+use Rattle.message.proofs.Computed.{everything}
+
+-- at the start of a word its stretch is the tape of what follows
+pub start-tape : (hard : Bool) (r : Message) → segment hard false r ≡ tailTape (record { p = 0; q = 0; hard = hard }) (hasMark (firstWord r)) r
+unfolding segment tailTape firstWord endsHard
+start-tape hard (last w) = word-fused hard false w
+start-tape hard (more w x r) = rw (word-fused hard _ w)
+
+-- and so with its names
+pub start-names : (hard : Bool) (r : Message) → namesOf r ≡ tailNamesOf (record { p = 0; q = 0; hard = hard }) (hasMark (firstWord r)) r
+unfolding namesOf tailNamesOf firstWord
+start-names hard (last w) = names-fused w
+start-names hard (more w x r) = rw (names-fused w)
+
+-- what stands after the rest of a word
+unfoldable pub tailRest : Left → Message → List ℕ
+tailRest l (last w) = []
+tailRest l (more w x r) = markOf x ∷ segment (isGap x && endsHardFrom (l .q) (l .p) w) false r
+
+-- the tape is the codes of the rest of the word, and what stands after it
+pub word-rest : (l : Left) (marked : Bool) (r : Message) → tailTape l marked r ≡ tailWord l marked r ++ tailRest l r
+unfolding tailTape tailWord tailNext firstWord tailRest
+word-rest l marked (last w) = sym (append-nil (fusedFrom (l .hard) marked false (l .p) w))
+word-rest l marked (more w x r) = refl
+
+-- the tone of codes put before others
+pub tone-append : (next : Bool) (cs t : List ℕ) → toneIn next (cs ++ t) ≡ toneAfter cs (toneIn next t)
+unfolding toneIn
+tone-append next [] t = refl
+tone-append next (c ∷ cs) t = refl
+
+-- and their first sound
+pub sound-append : (cs t : List ℕ) → firstCode (cs ++ t) ≡ soundAfter cs (firstCode t)
+unfolding firstCode
+sound-append [] t = refl
+sound-append (c ∷ cs) t = refl
+
+-- a choice of lists before another
+pub cond-append : (t : Bool) (x y z : List ℕ) → cond t x y ++ z ≡ cond t (x ++ z) (y ++ z)
+cond-append true x y z = refl
+cond-append false x y z = refl
+
+module _ (l : Left) (marked : Bool) (x : Letter) where
+  -- the left context after the letter x
+  abbrev after : Left
+  after = afterLetter x l
+
+  -- the codes of the letter x before a message
+  abbrev putCodes : Message → List ℕ
+  putCodes r = letterCodes (l .hard) marked (l .p) x (firstWord r) (toneIn (tailNext after r) (tailWord after marked r)) (firstCode (tailWord after marked r))
+
+  -- a letter put before the rest changes nothing about the word after
+  pub put-next : (r : Message) → tailNext l (putLetter x r) ≡ tailNext after r
+  unfolding tailNext putLetter endsHardFrom
+  put-next (last w) = refl
+  put-next (more w y r) = refl
+
+  -- nor of what stands after its word
+  pub put-rest : (r : Message) → tailRest l (putLetter x r) ≡ tailRest after r
+  unfolding tailRest putLetter endsHardFrom
+  put-rest (last w) = refl
+  put-rest (more w y r) = refl
+
+  -- its codes stand before those of the rest of the word
+  pub put-word : (r : Message) → tailWord l marked (putLetter x r) ≡ putCodes r ++ tailWord after marked r
+  unfolding tailWord fusedFrom
+  put-word r = rw (word-put x r, put-next r)
+
+  -- so they tell its tone
+  pub put-tone : (r : Message) → toneIn (tailNext l (putLetter x r)) (tailWord l marked (putLetter x r)) ≡ toneAfter (putCodes r) (toneIn (tailNext after r) (tailWord after marked r))
+  put-tone r = rw (put-next r, put-word r) (tone-append (tailNext after r) (putCodes r) (tailWord after marked r))
+
+  -- and its first sound
+  pub put-sound : (r : Message) → firstCode (tailWord l marked (putLetter x r)) ≡ soundAfter (putCodes r) (firstCode (tailWord after marked r))
+  put-sound r = rw (put-word r) (sound-append (putCodes r) (tailWord after marked r))
+
+  -- and stand before the rest's tape
+  pub put-tape : (r : Message) → tailTape l marked (putLetter x r) ≡ putCodes r ++ tailTape after marked r
+  put-tape r = rw (word-rest l marked (putLetter x r), word-rest after marked r, put-word r, put-rest r) (append-assoc (putCodes r) (tailWord after marked r) (tailRest after r))
+
+  -- of the names, a vowel puts its syllable's before the rest's
+  pub put-names : (r : Message)
+      → tailNamesOf l marked (putLetter x r) ≡ cond (isVowel (x .byte)) (nameOf (syllableOf marked (l .p) x (firstWord r)) ∷ tailNamesOf after marked r) (tailNamesOf after marked r)
+  unfolding tailNamesOf namesFrom putLetter firstWord
+  put-names (last w) = refl
+  put-names (more w y r) = cond-append (isVowel (x .byte)) _ (namesFrom marked (x .byte) w) (namesOf r)
+
+-- what stands after a word voices nothing in it, being a mark or nothing
+pub voicing-word : (l : Left) (cs : List ℕ) (r : Message) → isVoicing (firstCode (cs ++ tailRest l r)) ≡ isVoicing (firstCode cs)
+unfolding everything tailRest
+voicing-word l [] (last w) = refl
+voicing-word l [] (more w x r) = by (eqb x pause)
+  where
+    by : (t : Bool) → isVoicing (cond t 63 0) ≡ false
+    by true = refl
+    by false = refl
+voicing-word l (c ∷ cs) r = refl
+
+-- the tone before a break is told by the first sound of the word after it
+pub break-tone : (l : Left) (marked : Bool) (x : ℕ) (r : Message)
+    → toneIn (tailNext l (more [] x r)) (tailWord l marked (more [] x r))
+    ≡ cond (isGap x && isVoicing (firstCode (tailWord (record { p = 0; q = 0; hard = isGap x && hardEnd (l .q) (l .p) }) (hasMark (firstWord r)) r))) voiced voiceless
+unfolding toneIn tailNext tailWord fusedFrom firstWord endsHardFrom
+break-tone l marked x r =
+    let s : Left = record { p = 0; q = 0; hard = isGap x && hardEnd (l .q) (l .p) } in
+    rw (start-tape (s .hard) r, word-rest s (hasMark (firstWord r)) r, voicing-word s (tailWord s (hasMark (firstWord r)) r) r)
+
+module _ (m : List ℕ) (steady : Steady m) where
+  -- a letter is the first one of the word from its place on
+  pub word-letter : (i : ℕ) → i < length m → isBreak (getD m i 0) ≡ false → isMark (getD m i 0) ≡ false → wordAt m i ≡ letterOf m i ∷ wordAt m (suc i)
+  unfolding wordAt
+  word-letter i h b k = rw (read-letter m i h b k) (word-put (letterOf m i) (read (drop (suc i) m)))
+
+  -- a mark is none
+  pub word-mark : (i : ℕ) → i < length m → isMark (getD m i 0) ≡ true → wordAt m i ≡ wordAt m (suc i)
+  unfolding wordAt
+  word-mark i h k = rw (read-mark m i h k)
+
+  -- at a break no letter is left
+  pub word-break : (i : ℕ) → i < length m → isBreak (getD m i 0) ≡ true → wordAt m i ≡ []
+  unfolding wordAt firstWord
+  word-break i h b = rw (read-break m i h b)
+
+  -- nor at the end
+  pub word-end : wordAt m (length m) ≡ []
+  unfolding wordAt firstWord
+  word-end = rw (read-end m)
+
+  -- whether the word has a mark does not change within it
+  pub marked-within : (i : ℕ) → i < length m → isBreak (getD m i 0) ≡ false → markedAt m i ≡ markedAt m (suc i)
+  unfolding markedAt markBefore markFrom
+  marked-within i h b = rw (drop-cons m i 0 h, b) (swap (markBefore m i) (isMark (getD m i 0)) (markFrom (drop (suc i) m)))
+    where
+      swap : (x y z : Bool) → (x || (y || z)) ≡ ((y || x) || z)
+      swap true y z = rw (or-true y)
+      swap false y z = rw (or-false y)
+
+  -- at its end it is told by the bytes before
+  pub marked-break : (i : ℕ) → i < length m → isBreak (getD m i 0) ≡ true → markedAt m i ≡ markBefore m i
+  unfolding markedAt markFrom
+  marked-break i h b = rw (drop-cons m i 0 h, b) (or-false (markBefore m i))
+
+  -- and so at the last
+  pub marked-end : markedAt m (length m) ≡ markBefore m (length m)
+  unfolding markedAt markFrom
+  marked-end = rw (drop-length m) (or-false (markBefore m (length m)))
+
+  -- at the start of a word the mark is told by its letters
+  pub marked-first : (i : ℕ) → markBefore m i ≡ false → isMark (getD m i 0) ≡ false → markedAt m i ≡ hasMark (wordAt m i)
+  unfolding markedAt wordAt
+  marked-first i b k = rw (b, ← mark-first (drop i m), begins-at m i, k)
+
+  -- so it is after a break
+  pub marked-after : (i : ℕ) → isBreak (getD m i 0) ≡ true → markedAt m (suc i) ≡ hasMark (wordAt m (suc i))
+  unfolding markBefore
+  marked-after i b = marked-first (suc i) (rw b) (unmarked-after m steady i (break-vowel (getD m i 0) (steady .bytes i) b))
+
+  -- the whole tape is the tape at the first place
+  pub tape-start : tapeAt m 0 ≡ tape m
+  unfolding tapeAt tape leftAt markBefore wordAt
+  tape-start = rw (marked-first 0 refl (steady .first)) (sym (start-tape false (read m)))
+
+  -- nothing is left at the end
+  pub tape-end : tapeAt m (length m) ≡ []
+  unfolding tapeAt tailTape fusedFrom
+  tape-end = rw (read-end m)
+
+  -- a letter's codes stand before the rest's
+  pub tape-letter : (i : ℕ) → i < length m → isBreak (getD m i 0) ≡ false → isMark (getD m i 0) ≡ false
+      → tapeAt m i
+      ≡ codesAt m i ++ tapeAt m (suc i)
+  unfolding tapeAt codesAt toneAt soundAt wordAt
+  tape-letter i h b k = rw (← marked-within i h b, left-letter m i h b k, read-letter m i h b k) (put-tape (leftAt m i) (markedAt m i) (letterOf m i) (read (drop (suc i) m)))
+
+  -- a mark makes no code
+  pub tape-mark : (i : ℕ) → i < length m → isMark (getD m i 0) ≡ true → tapeAt m i ≡ tapeAt m (suc i)
+  unfolding tapeAt
+  tape-mark i h k = rw (← marked-within i h (mark-within (getD m i 0) k), left-mark m i h k, read-mark m i h k)
+
+  -- a break makes its own
+  pub tape-break : (i : ℕ) → i < length m → isBreak (getD m i 0) ≡ true → tapeAt m i ≡ markOf (getD m i 0) ∷ tapeAt m (suc i)
+  unfolding tapeAt tailTape fusedFrom endsHardFrom wordAt
+  tape-break i h b = rw (read-break m i h b, left-break m i h b, marked-after i b) (ap (λ (t : List ℕ). markOf (getD m i 0) ∷ t) (start-tape _ (read (drop (suc i) m))))
+
+  -- the tone after a place, when a letter has put its codes there
+  pub tone-letter : (i : ℕ) → i < length m → isBreak (getD m i 0) ≡ false → isMark (getD m i 0) ≡ false
+      → toneAt m i ≡ toneAfter (codesAt m i) (toneAt m (suc i))
+  unfolding toneAt soundAt codesAt wordAt
+  tone-letter i h b k = rw (← marked-within i h b, left-letter m i h b k, read-letter m i h b k) (put-tone (leftAt m i) (markedAt m i) (letterOf m i) (read (drop (suc i) m)))
+
+  -- the first sound then
+  pub sound-letter : (i : ℕ) → i < length m → isBreak (getD m i 0) ≡ false → isMark (getD m i 0) ≡ false
+      → soundAt m i ≡ soundAfter (codesAt m i) (soundAt m (suc i))
+  unfolding toneAt soundAt codesAt wordAt
+  sound-letter i h b k = rw (← marked-within i h b, left-letter m i h b k, read-letter m i h b k) (put-sound (leftAt m i) (markedAt m i) (letterOf m i) (read (drop (suc i) m)))
+
+  -- a mark changes no tone
+  pub tone-mark : (i : ℕ) → i < length m → isMark (getD m i 0) ≡ true → toneAt m i ≡ toneAt m (suc i)
+  unfolding toneAt
+  tone-mark i h k = rw (← marked-within i h (mark-within (getD m i 0) k), left-mark m i h k, read-mark m i h k)
+
+  -- and no sound
+  pub sound-mark : (i : ℕ) → i < length m → isMark (getD m i 0) ≡ true → soundAt m i ≡ soundAt m (suc i)
+  unfolding soundAt
+  sound-mark i h k = rw (← marked-within i h (mark-within (getD m i 0) k), left-mark m i h k, read-mark m i h k)
+
+  -- before a break the tone is told by the first sound after it
+  pub tone-break : (i : ℕ) → i < length m → isBreak (getD m i 0) ≡ true → toneAt m i ≡ cond (isGap (getD m i 0) && isVoicing (soundAt m (suc i))) voiced voiceless
+  unfolding toneAt soundAt wordAt
+  tone-break i h b = rw (read-break m i h b, left-break m i h b, marked-after i b) (break-tone (leftAt m i) (markedAt m i) (getD m i 0) (read (drop (suc i) m)))
+
+  -- and the word has no sound left
+  pub sound-break : (i : ℕ) → i < length m → isBreak (getD m i 0) ≡ true → soundAt m i ≡ 0
+  unfolding soundAt tailWord fusedFrom firstWord firstCode
+  sound-break i h b = rw (read-break m i h b)
+
+  -- at the end nothing voices
+  pub tone-end : toneAt m (length m) ≡ voiceless
+  unfolding toneAt tailNext tailWord toneIn fusedFrom firstWord
+  tone-end = rw (read-end m)
+
+  -- and there is no sound
+  pub sound-end : soundAt m (length m) ≡ 0
+  unfolding soundAt tailWord fusedFrom firstWord firstCode
+  sound-end = rw (read-end m)
+
+  -- the names from the first place on are all of them
+  pub names-start : namesAt m 0 ≡ names m
+  unfolding namesAt names leftAt markBefore wordAt
+  names-start = rw (marked-first 0 refl (steady .first)) (sym (start-names false (read m)))
+
+  -- at the end only an incomplete syllable is left to name
+  pub names-end : namesAt m (length m) ≡ incomplete (leftAt m (length m) .p)
+  unfolding namesAt tailNamesOf namesFrom
+  names-end = rw (read-end m)
+
+  -- a letter that is a vowel names its syllable, another none
+  pub names-letter : (i : ℕ) → i < length m → isBreak (getD m i 0) ≡ false → isMark (getD m i 0) ≡ false
+      → namesAt m i ≡ cond (vowelByte (getD m i 0)) (nameOf (syllableOf (markedAt m i) (leftAt m i .p) (letterOf m i) (wordAt m (suc i))) ∷ namesAt m (suc i)) (namesAt m (suc i))
+  unfolding namesAt vowelByte letterOf wordAt
+  names-letter i h b k = rw (← marked-within i h b, left-letter m i h b k, read-letter m i h b k) (put-names (leftAt m i) (markedAt m i) (letterOf m i) (read (drop (suc i) m)))
+
+  -- so a vowel puts a name before the rest's
+  pub names-vowel : (i : ℕ) → i < length m → vowelByte (getD m i 0) ≡ true
+      → namesAt m i ≡ nameOf (syllableOf (markedAt m i) (leftAt m i .p) (letterOf m i) (wordAt m (suc i))) ∷ namesAt m (suc i)
+  names-vowel i h v = rw v at (names-letter i h (vowel-break _ (steady .bytes i) v) (vowel-mark _ (steady .bytes i) v))
+
+  -- a byte that is neither a vowel nor a break names nothing
+  pub names-other : (i : ℕ) → i < length m → isBreak (getD m i 0) ≡ false → vowelByte (getD m i 0) ≡ false → namesAt m i ≡ namesAt m (suc i)
+  unfolding namesAt
+  names-other i h b v = by (isMark (getD m i 0)) refl
+    where
+      by : (k : Bool) → isMark (getD m i 0) ≡ k → namesAt m i ≡ namesAt m (suc i)
+      by true k = rw (← marked-within i h b, left-mark m i h k, read-mark m i h k)
+      by false k = rw v at (names-letter i h b k)
+
+  -- at a break an incomplete syllable is named
+  pub names-break : (i : ℕ) → i < length m → isBreak (getD m i 0) ≡ true → namesAt m i ≡ incomplete (leftAt m i .p) ++ namesAt m (suc i)
+  unfolding namesAt tailNamesOf namesFrom wordAt
+  names-break i h b = rw (read-break m i h b, left-break m i h b, marked-after i b) (ap (λ (t : List ℕ). incomplete (leftAt m i .p) ++ t) (start-names _ (read (drop (suc i) m))))

@@ -1,0 +1,28 @@
+-- Numbers 1 and 2 are the length's, and the rest is the walk's; the code's table is the definition's by computation.
+-- Assumes nothing.
+use mathlib.Core.Path.{refl}
+use native.Mathlib.Omega.{arith}
+use lib.ListN.{length}
+use borrow.Author.Tests.{eq-eqb, ne-eqb, lt-leb}
+use Rattle.message.specs.Refusals.{checkOf}
+use Rattle.message.proofs.Computed.{everything}
+use Rattle.message.proofs.check.check.Statement.{statement}
+use Rattle.message.proofs.check.check.Tie as tie
+
+returns : tie.Need-returns
+unfolding checkOf
+returns c = rw (eq-eqb (length (c .before .before .args .m .now)) 0 (c .if1 .taken))
+
+returns-2 : tie.Need-returns-2
+unfolding checkOf
+returns-2 c = rw (ne-eqb (length (c .before .before .before .args .m .now)) 0 (c .before .if1 .left), lt-leb (length (c .before .before .before .args .m .now)) 4096 (c .if2 .taken))
+
+walk-requires : tie.Need-walk-requires
+unfolding everything
+walk-requires c κs = (refl, omega arith, omega arith)
+
+returns-3 : tie.Need-returns-3
+returns-3 c = c .walk .ensures
+
+pub check-spec : {M : Type 1} → statement M
+check-spec = tie.close (tie.spec returns returns-2 walk-requires returns-3)

@@ -1,0 +1,27 @@
+-- `message::letters::letter_at` meets its contract: past the end the byte is 0 by definition, and 0 is its own small letter.
+-- Assumes nothing.
+use Prim.Native.Nat.{ℕ}
+use borrow.Author.Needs.{needs}
+use lib.ListN.{List·getD-eq-default}
+use Rattle.message.specs.Letters.{small}
+use Rattle.message.specs.Scan.{letterAt}
+use Rattle.message.proofs.letters.letter_at.Statement.{statement}
+use Rattle.message.proofs.letters.letter_at.Tie as tie
+
+shared-slice-read-small-letter : tie.Need-shared-slice-read-small-letter
+shared-slice-read-small-letter c = search needs
+
+small-letter-requires : tie.Need-small-letter-requires
+small-letter-requires c κs = search needs
+
+returns : tie.Need-returns
+unfolding letterAt
+returns c = c .small-letter .ensures
+
+returns-2 : tie.Need-returns-2
+unfolding letterAt small
+returns-2 c = rw (List·getD-eq-default {A = ℕ} _ 0 (c .if1 .left))
+
+pub letter-at-spec : {M : Type 1} → statement M
+letter-at-spec =
+    tie.close (tie.spec shared-slice-read-small-letter small-letter-requires returns returns-2)

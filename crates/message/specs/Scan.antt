@@ -1,0 +1,171 @@
+-- How the code walks a message: a class for each byte, a kind for what stands before it, and one table for both. These are not the paper's words: `proofs/` shows that they agree with them.
+-- Assumes nothing: these are definitions.
+use Prim.Native.Nat.{ℕ, zero, suc, _+_, _-_, _*_, _/_, _%_, _≤_, _<_}
+use mathlib.Core.Bool.{Bool, cond, _&&_, _||_}
+use mathlib.Core.List.{List, [], _∷_, _++_}
+use lib.Dec.{eqb, leb}
+use lib.ListN.{getD}
+use Rattle.message.specs.Alphabet.{gap, pause, «д», «е», «ё», «з», «и», «к», «н», «р», «с», «т», «ц», «ч», «ш», «ъ», «ь», «ю», «я»}
+use Rattle.message.specs.Tables.{among}
+use Rattle.message.specs.Letters.{between, small, isMark, isHardOnly, isPaired, isSoftOnly, isVowel}
+use Rattle.message.specs.Refusals.{refusal}
+use Rattle.message.specs.declared.Checked.{Checked}
+use Rattle.message.specs.declared.Checked.the-variants.{Accepted, Refused}
+use Rattle.message.specs.declared.Seen.{Seen}
+use Rattle.message.specs.declared.Step.{Step}
+use Rattle.message.specs.declared.Step.the-variants.{Fault, Next}
+
+-- The class of a small letter: 4 ъ, 5 ь, 6 hard only, 7 paired, 8 т and д, which may be elided, 9 soft only, 10 other vowels, 11 е ё ю я, 12 и; 0 for no letter
+unfoldable pub letterClass : ℕ → ℕ
+letterClass s =
+    cond (eqb s «ъ») 4
+    (cond (eqb s «ь») 5
+    (cond (isHardOnly s) 6
+    (cond (eqb s «т» || eqb s «д») 8
+    (cond (isPaired s) 7
+    (cond (isSoftOnly s) 9
+    (cond (among («е» ∷ «ё» ∷ «ю» ∷ «я» ∷ []) s) 11
+    (cond (eqb s «и») 12
+    (cond (isVowel s) 10 0))))))))
+
+-- The class of a byte: 1 mark, 2 gap, 3 pause, else its letter's
+unfoldable pub classOf : ℕ → ℕ
+classOf b = cond (isMark b) 1 (cond (eqb b gap) 2 (cond (eqb b pause) 3 (letterClass (small b))))
+
+abbrev pub isBreakClass : ℕ → Bool
+isBreakClass c = between 2 3 c
+
+abbrev pub isSignClass : ℕ → Bool
+isSignClass c = between 4 5 c
+
+abbrev pub isConsonantClass : ℕ → Bool
+isConsonantClass c = between 6 9 c
+
+abbrev pub isVowelClass : ℕ → Bool
+isVowelClass c = between 10 12 c
+
+abbrev pub isLetterClass : ℕ → Bool
+isLetterClass c = leb 4 c
+
+-- The kind of what stands before a byte: the class of the byte before (2, a gap, where there is none), or 13 and 14 for ъ and ь after a vowel.
+abbrev pub isVowelKind : ℕ → Bool
+isVowelKind k = eqb k 1 || isVowelClass k
+
+abbrev pub isHardSignKind : ℕ → Bool
+isHardSignKind k = eqb k 4 || eqb k 13
+
+abbrev pub isVowelSignKind : ℕ → Bool
+isVowelSignKind k = between 13 14 k
+
+abbrev pub isSignKind : ℕ → Bool
+isSignKind k = isSignClass k || isVowelSignKind k
+
+unfoldable pub nextKind : ℕ → ℕ → ℕ
+nextKind k c = cond (isSignClass c && isVowelKind k) (c + 9) c
+
+-- numbers 3 to 9 at a byte of class c after kind k
+unfoldable pub faultIn : ℕ → ℕ → ℕ
+faultIn k c =
+    cond (isBreakClass c) (cond (isBreakClass k) 4 0)
+    (cond (eqb c 1) (cond (isVowelClass k) 0 5)
+    (cond (isSignClass c) (cond (isBreakClass k) 6 (cond (isSignKind k) 7 0))
+    (cond (isConsonantClass c) (cond (isHardSignKind k) 8 0)
+    (cond (isVowelClass c) (cond (isVowelSignKind k) 9 0) 3))))
+
+-- how many codes the byte makes, elision apart: a break its mark, a vowel one more with the glide
+unfoldable pub widthIn : ℕ → ℕ → ℕ
+widthIn k c =
+    cond (isBreakClass c || isConsonantClass c) 1
+    (cond (eqb c 10) 1
+    (cond (eqb c 11) (cond (isConsonantClass k) 1 2)
+    (cond (eqb c 12) (cond (isSignKind k) 2 1) 0)))
+
+-- a syllable is incomplete at the end of a word whose last letter is a consonant or a sign
+unfoldable pub tailNames : ℕ → ℕ
+tailNames k = cond (isConsonantClass k || isSignKind k) 1 0
+
+-- how many syllable names are settled with the byte: a vowel's, and at a break the incomplete one's
+unfoldable pub namesIn : ℕ → ℕ → ℕ
+namesIn k c = cond (isVowelClass c) 1 (cond (isBreakClass c) (tailNames k) 0)
+
+-- the three in one byte
+unfoldable pub packed : ℕ → ℕ → ℕ
+packed k c = faultIn k c + 16 * widthIn k c + 64 * namesIn k c
+
+-- f at i, i + 1, .., n places
+unfoldable pub tabulate : (ℕ → ℕ) → ℕ → ℕ → List ℕ
+tabulate f i zero = []
+tabulate f i (suc n) = f i ∷ tabulate f (suc i) n
+
+-- the code's one table: the class of each byte, then for each kind a row of 16 classes
+unfoldable pub tables : List ℕ
+tables = tabulate classOf 0 256 ++ tabulate (λ j. packed (j / 16) (j % 16)) 0 256
+
+-- Pass 1 on letters in a row, 0 for none: is т, or д, after p and before c and d silent?
+unfoldable pub elidesT : ℕ → ℕ → ℕ → Bool
+elidesT p c d = (eqb p «с» && (eqb c «с» && eqb d «к» || eqb c «н»)) || (eqb p «н» && (eqb c «с» && eqb d «к»))
+
+unfoldable pub elidesD : ℕ → ℕ → ℕ → Bool
+elidesD p c d =
+    (eqb p «р» && (eqb c «ч» || eqb c «ц»))
+    || ((eqb p «з» && (eqb c «н» || eqb c «ц»)) || (eqb p «н» && (eqb c «ц» || (eqb c «с» || eqb c «ш» && eqb d «т»))))
+
+-- is the letter b after p and before c and d silent?
+unfoldable pub elidesAmong : ℕ → ℕ → ℕ → ℕ → Bool
+elidesAmong p b c d = (eqb b «т» && elidesT p c d) || (eqb b «д» && elidesD p c d)
+
+-- the small letter of the byte at place i; 0 past the end
+unfoldable pub letterAt : List ℕ → ℕ → ℕ
+letterAt m i = small (getD m i 0)
+
+-- the same of the byte before place i; 0 at the start
+unfoldable pub letterBefore : List ℕ → ℕ → ℕ
+letterBefore m zero = 0
+letterBefore m (suc i) = letterAt m i
+
+-- is the letter at place i silent, judged by the bytes beside it?
+unfoldable pub elidedAt : List ℕ → ℕ → Bool
+elidedAt m i = elidesAmong (letterBefore m i) (letterAt m i) (letterAt m (i + 1)) (letterAt m (i + 2))
+
+-- the kind of what stands before place i
+unfoldable pub kindAt : List ℕ → ℕ → ℕ
+kindAt m zero = 2
+kindAt m (suc i) = nextKind (kindAt m i) (classOf (getD m i 0))
+
+-- how many codes the byte at place i makes after kind k
+unfoldable pub widthAt : List ℕ → ℕ → ℕ → ℕ
+widthAt m i k = cond (elidedAt m i) 0 (widthIn k (classOf (getD m i 0)))
+
+-- how many codes, and how many names, the bytes before place i make
+unfoldable pub codesTo : List ℕ → ℕ → ℕ
+codesTo m zero = 0
+codesTo m (suc i) = codesTo m i + widthAt m i (kindAt m i)
+
+unfoldable pub namesTo : List ℕ → ℕ → ℕ
+namesTo m zero = 0
+namesTo m (suc i) = namesTo m i + namesIn (kindAt m i) (classOf (getD m i 0))
+
+-- how many letters of the word have been read after a byte of class c, where n had been before it
+unfoldable pub lettersNext : ℕ → ℕ → ℕ
+lettersNext c n = cond (isLetterClass c) (n + 1) (cond (eqb c 1) n 0)
+
+-- one step of the check's walk, and its end
+unfoldable pub stepOf : List ℕ → ℕ → Seen → Step
+stepOf m i s =
+    let c = classOf (getD m i 0) in
+    cond (eqb (faultIn (s .kind) c) 0)
+    (cond (eqb (lettersNext c (s .letters)) 65) (Fault 10)
+    (Next (record { kind = nextKind (s .kind) c; letters = lettersNext c (s .letters); codes = s .codes + widthAt m i (s .kind); names = s .names + namesIn (s .kind) c })))
+    (Fault (faultIn (s .kind) c))
+
+unfoldable pub finishOf : ℕ → Seen → Checked
+finishOf n s =
+    cond (isBreakClass (s .kind)) (Refused (refusal 4 (n - 1)))
+    (Accepted (record { codes = s .codes; names = s .names + tailNames (s .kind) }))
+
+-- what keeps the walk's numbers small: a byte makes at most two codes and one name
+pub record Fits (i : ℕ) (s : Seen) : Type 0 where
+  pub kind : s .kind < 15
+  pub letters : s .letters < 65
+  pub codes : s .codes ≤ 2 * i
+  pub names : s .names ≤ i

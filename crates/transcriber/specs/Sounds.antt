@@ -1,0 +1,101 @@
+-- How the code finds a letter's codes: by the class of the byte before it and one table. These are not the paper's words: `proofs/` shows that they agree with them.
+-- Assumes nothing: these are definitions.
+use Prim.Native.Nat.{ℕ, zero, suc, _+_, _-_, _*_, _/_, _%_}
+use mathlib.Core.Path.{_≡_}
+use mathlib.Core.Bool.{Bool, true, false, cond, _&&_, _||_, not}
+use mathlib.Core.List.{List, [], _∷_, _++_}
+use lib.Dec.{eqb}
+use lib.ListN.{getD}
+use Rattle.message.specs.Alphabet.{«б», «в», «г», «д», «з», «к», «л», «м», «н», «п», «р», «с», «т», «ф», «х»}
+use Rattle.message.specs.Tables.{Entry, _gives_, entry}
+use Rattle.message.specs.Letters.{between, isHardOnly, isSoftOnly, isObstruent}
+use Rattle.message.specs.Codes.{Б', В', Г', Х1', Д', Ж', З', К', Л', М', Н', П', Р', С', Т', Ф', Х', Ч, Ч1, Щ, isVoicing}
+use Rattle.message.specs.Vowels.{vowelSound, bare, writtenCode}
+use Rattle.message.specs.Voicing.{Tone, voiced, voiceless, asWritten, toneBefore, toned}
+use Rattle.message.specs.Scan.{classOf, isBreakClass, isSignClass, tabulate}
+use Rattle.message.specs.declared.Cover.{Cover}
+use Rattle.message.specs.declared.Cover.the-variants.{Bare, Covered}
+use Rattle.message.specs.declared.Level.{Level}
+use Rattle.message.specs.declared.Level.the-variants.{Stressed, First, Second}
+use Rattle.message.specs.declared.Syllable.{Syllable}
+use Rattle.transcriber.specs.declared.After.{After}
+use Rattle.transcriber.specs.declared.After.the-variants.{Start, HardOnly, SoftOnly, Other}
+
+-- the class of the byte before place i; 3, as after a pause, at the start of the message
+unfoldable pub classBefore : List ℕ → ℕ → ℕ
+classBefore m zero = 3
+classBefore m (suc i) = classOf (getD m i 0)
+
+-- what the vowel rows ask of the letter before
+unfoldable pub afterOf : ℕ → After
+afterOf p = cond (eqb p 0) Start (cond (isHardOnly p) HardOnly (cond (isSoftOnly p) SoftOnly Other))
+
+-- the same, told by a class
+unfoldable pub afterClass : ℕ → After
+afterClass k = cond (isBreakClass k) Start (cond (eqb k 6) HardOnly (cond (eqb k 9) SoftOnly Other))
+
+unfoldable pub coverClass : ℕ → Cover
+coverClass k = cond (between 4 9 k) Covered Bare
+
+-- r is the sound of the vowel b after every letter of this kind
+abbrev pub Sounds : Bool → After → Level → ℕ → ℕ → Type 0
+Sounds hard after level b r = (p : ℕ) → afterOf p ≡ after → r ≡ vowelSound hard p level b
+
+-- the level of a vowel that is stressed or not, with the next vowel stressed or not, in a word that has a mark or not
+unfoldable pub levelBy : Bool → Bool → Bool → Level
+levelBy stressed ahead marked = cond stressed Stressed (cond (ahead || not marked) First Second)
+
+unfoldable pub syllableBy : ℕ → Bool → Bool → Bool → Syllable
+syllableBy k stressed ahead marked = record { cover = coverClass k; level = levelBy stressed ahead marked }
+
+-- a vowel of class c has a glide after a byte of class k
+unfoldable pub glideBy : ℕ → Cover → ℕ → Bool
+glideBy c cover k = (eqb c 11 && (bare cover || isSignClass k)) || (eqb c 12 && isSignClass k)
+
+-- a hard boundary stands before place i: a gap there, and before it a hard or paired consonant, or ь after a hard one
+unfoldable pub hardBefore : List ℕ → ℕ → Bool
+hardBefore m i =
+    eqb (classBefore m i) 2
+    && (between 6 8 (classBefore m (i - 1)) || (eqb (classBefore m (i - 1)) 5 && eqb (classBefore m (i - 2)) 6))
+
+-- tones by number
+unfoldable pub toneNo : Tone → ℕ
+toneNo asWritten = 0
+toneNo voiced = 1
+toneNo voiceless = 2
+
+unfoldable pub toneBy : ℕ → Tone
+toneBy n = cond (eqb n 1) voiced (cond (eqb n 2) voiceless asWritten)
+
+-- the tone of a word's last obstruent before a gap and a word that begins with this sound, 0 for none
+unfoldable pub gapTone : ℕ → ℕ
+gapTone c = toneNo (cond (isVoicing c) voiced voiceless)
+
+-- a consonant's hard code under a tone
+unfoldable pub hardCode : Tone → ℕ → ℕ
+hardCode tone b = cond (isObstruent b) (toned tone b (writtenCode b)) (writtenCode b)
+
+-- Which letters are palatalized before which sounds, by groups: a letter before a sound of its own group, н before those of the dentals too. 0 is no group.
+unfoldable pub letterGroup : ℕ → ℕ
+letterGroup b =
+    entry
+    ((«т» gives 1) ∷ («д» gives 1) ∷ («с» gives 1) ∷ («з» gives 1) ∷ («н» gives 2) ∷ («б» gives 3) ∷ («п» gives 3) ∷ («в» gives 4) ∷ («ф» gives 4) ∷ («г» gives 5) ∷ («к» gives 5) ∷ («х» gives 6) ∷ («л» gives 7) ∷ («м» gives 8) ∷ («р» gives 9) ∷ [])
+    b
+
+unfoldable pub soundGroup : ℕ → ℕ
+soundGroup c =
+    entry
+    ((Т' gives 1) ∷ (Д' gives 1) ∷ (С' gives 1) ∷ (З' gives 1) ∷ (Н' gives 1) ∷ (Ч gives 2) ∷ (Ч1 gives 2) ∷ (Щ gives 2) ∷ (Ж' gives 2) ∷ (Б' gives 3) ∷ (П' gives 3) ∷ (В' gives 4) ∷ (Ф' gives 4) ∷ (Г' gives 5) ∷ (К' gives 5) ∷ (Х' gives 6) ∷ (Х1' gives 6) ∷ (Л' gives 7) ∷ (М' gives 8) ∷ (Р' gives 9) ∷ [])
+    c
+
+unfoldable pub softIn : ℕ → Bool → ℕ → Bool
+softIn own soft group =
+    cond (eqb own 0) false (soft || (cond (eqb group 0) false (eqb own group || (eqb own 2 && eqb group 1))))
+
+-- the table: hard codes under the three tones for the letters а to я, their groups, then for each code its tone and group
+unfoldable pub soundTable : List ℕ
+soundTable =
+    tabulate (λ j. hardCode asWritten (224 + j)) 0 32
+    ++ (tabulate (λ j. hardCode voiced (224 + j)) 0 32
+    ++ (tabulate (λ j. hardCode voiceless (224 + j)) 0 32
+    ++ (tabulate (λ j. letterGroup (224 + j)) 0 32 ++ tabulate (λ c. toneNo (toneBefore c) + 4 * soundGroup c) 0 64)))

@@ -1,0 +1,70 @@
+-- What the walk from the right knows at a place, and what the lent output then holds.
+-- Assumes nothing: these are definitions.
+use Prim.Native.Nat.{ℕ, suc, _+_, _<_, _≤_}
+use mathlib.Core.Path.{_≡_}
+use mathlib.Core.Bool.{Bool, cond}
+use mathlib.Core.List.{List, [], _∷_, _++_}
+use lib.ListN.{length, take, drop, getD}
+use Rattle.message.specs.Letters.{firstByte, beginsWithMark, isBreak, isMark}
+use Rattle.message.specs.Codes.{markOf}
+use Rattle.message.specs.Syllables.{nextStressed, incomplete, nameOf, syllableOf}
+use Rattle.message.specs.Vowels.{softens}
+use Rattle.message.specs.Refusals.{vowelByte}
+use Rattle.message.specs.Places.{Steady, leftAt, letterOf, wordAt, toneAt, soundAt, markedAt, codesAt}
+use Rattle.transcriber.specs.Sounds.{toneNo}
+use Rattle.transcriber.specs.declared.Right.{Right}
+use Rattle.transcriber.specs.declared.Vowels.{Vowels}
+
+-- r says what stands right of place i
+pub record Stands (m : List ℕ) (i : ℕ) (r : Right) : Type 0 where
+  pub tone : r .tone ≡ toneNo (toneAt m i)
+  pub sound : r .sound ≡ soundAt m i
+  pub soft : r .soft ≡ softens (firstByte (wordAt m i))
+  pub ahead : r .ahead ≡ nextStressed (wordAt m i)
+  pub mark : r .mark ≡ beginsWithMark (drop i m)
+  pub marked : r .marked ≡ markedAt m i
+
+-- these codes were put right before place at, and the rest of the output is as it was
+pub record Put (codes out out′ : List ℕ) (at r : ℕ) : Type 0 where
+  pub place : r + length codes ≡ at
+  pub bytes : out′ ≡ take r out ++ (codes ++ drop at out)
+
+-- what the byte at place i puts on the tape
+unfoldable pub pieceAt : List ℕ → ℕ → List ℕ
+pieceAt m i = cond (isBreak (getD m i 0)) (markOf (getD m i 0) ∷ []) (cond (isMark (getD m i 0)) [] (codesAt m i))
+
+-- a step of the walk may be taken at place i: r stands right of it, and there is room for what it puts
+pub record Ready (m out : List ℕ) (i : ℕ) (r : Right) : Type 0 where
+  pub within : i < length m
+  pub steady : Steady m
+  pub stands : Stands m (suc i) r
+  pub room : length (pieceAt m i) ≤ r .at
+  pub place : r .at ≤ length out
+
+-- and it was: q stands there, and the byte's piece is on the tape
+pub record Stepped (m out out′ : List ℕ) (i : ℕ) (r q : Right) : Type 0 where
+  pub stands : Stands m i q
+  pub put : Put (pieceAt m i) out out′ (r .at) (q .at)
+
+-- The same for the naming, which needs to know less: v says what stands right of place i
+pub record VowelsStand (m : List ℕ) (i : ℕ) (v : Vowels) : Type 0 where
+  pub ahead : v .ahead ≡ nextStressed (wordAt m i)
+  pub mark : v .mark ≡ beginsWithMark (drop i m)
+  pub marked : v .marked ≡ markedAt m i
+
+-- the names that the byte at place i settles: a vowel's, and at a break the incomplete one's of the word before
+unfoldable pub namePiece : List ℕ → ℕ → List ℕ
+namePiece m i =
+    cond (isBreak (getD m i 0)) (incomplete (leftAt m i .p))
+    (cond (vowelByte (getD m i 0)) (nameOf (syllableOf (markedAt m i) (leftAt m i .p) (letterOf m i) (wordAt m (suc i))) ∷ []) [])
+
+pub record NameReady (m out : List ℕ) (i : ℕ) (v : Vowels) : Type 0 where
+  pub within : i < length m
+  pub steady : Steady m
+  pub stands : VowelsStand m (suc i) v
+  pub room : length (namePiece m i) ≤ v .at
+  pub place : v .at ≤ length out
+
+pub record Named (m out out′ : List ℕ) (i : ℕ) (v q : Vowels) : Type 0 where
+  pub stands : VowelsStand m i q
+  pub put : Put (namePiece m i) out out′ (v .at) (q .at)

@@ -1,0 +1,237 @@
+// The transcriber: one walk over the message from its end, which writes the tape from its end.
+ghost use mathlib.Core.Path.{_≡_};
+ghost use mathlib.Core.Bool.{true, false};
+ghost use mathlib.Core.List.{[], _∷_, _++_};
+ghost use Prim.Native.Nat.{_<_, _≤_};
+ghost use lib.ListN.{length, drop, getD};
+ghost use Rattle.message.specs.Scan.{tables, classOf, isBreakClass, isConsonantClass, isVowelClass, elidedAt};
+ghost use Rattle.message.specs.Tape.{tape};
+ghost use Rattle.message.specs.Places.{Steady};
+ghost use Rattle.message.specs.Answers.{Answered, afterCheck, tapeAnswer};
+ghost use Rattle.transcriber.specs.Sounds.{soundTable, gapTone};
+ghost use Rattle.transcriber.specs.Walk.{Put, Ready, Stepped};
+use crate::Right;
+use crate::sounds::after_class;
+use crate::sounds::consonant_code;
+use crate::sounds::has_glide;
+use crate::sounds::syllable_by;
+use crate::sounds::tone_before;
+use crate::sounds::vowel_sound;
+use crate::tables::SOUNDS;
+use crate::walk::class_before;
+use crate::walk::hard_before;
+use crate::walk::mark_before;
+use message::Answer;
+use message::Checked;
+use message::Refusal;
+use message::check::check;
+use message::check::class_of;
+use message::letters::is_elided;
+use message::letters::small_letter;
+use message::tables::TABLES;
+
+// Puts a code right before place at.
+pub fn put(out: &mut [u8], at: usize, code: u8) -> usize
+    requires { ⌜ (0 < at) × (at ≤ length (now out)) ⌝ }
+    ensures { λ r. ⌜ Put (code ∷ []) (now (out .entry)) (now (out .exit)) at r ⌝ }
+{
+    out[at - 1] = code;
+    at - 1
+}
+
+// How an obstruent at the end of a word sounds, where a gap and a word that begins with this sound follow.
+fn tone_at_gap(sound: usize, s: &[u8; 192]) -> usize
+    requires { ⌜ (now s ≡ soundTable) × (sound < 64) ⌝ }
+    ensures { λ r. ⌜ r ≡ gapTone sound ⌝ }
+{
+    if tone_before(sound, s) == 1 {
+        return 1;
+    }
+    2
+}
+
+// A break puts its mark, and left of it stands another word.
+fn put_break(m: &[u8], i: usize, c: usize, r: Right, out: &mut [u8], s: &[u8; 192]) -> Right
+    requires { ⌜ (now s ≡ soundTable) × (c ≡ classOf (getD (now m) i 0)) × (isBreakClass c ≡ true) × Ready (now m) (now out) i r ⌝ }
+    ensures { λ q. ⌜ Stepped (now (m .entry)) (now (out .entry)) (now (out .exit)) i r q ⌝ }
+{
+    let marked = mark_before(m, i);
+    if c == 3 {
+        let at = put(out, r.at, 63);
+        return Right {
+            at,
+            tone: 2,
+            sound: 0,
+            soft: false,
+            ahead: false,
+            mark: false,
+            marked,
+        };
+    }
+    let tone = tone_at_gap(r.sound, s);
+    let at = put(out, r.at, 0);
+    Right {
+        at,
+        tone,
+        sound: 0,
+        soft: false,
+        ahead: false,
+        mark: false,
+        marked,
+    }
+}
+
+// A letter or mark that puts nothing leaves the tape as it is. soft: the letter palatalizes the one before it.
+fn pass_over(r: Right, soft: bool, mark: bool) -> Right
+    ensures { λ q. ⌜ q ≡ record { at = r .at; tone = r .tone; sound = r .sound; soft = soft; ahead = r .ahead; mark = mark; marked = r .marked } ⌝ }
+{
+    let at = r.at;
+    let tone = r.tone;
+    let sound = r.sound;
+    let ahead = r.ahead;
+    let marked = r.marked;
+    Right {
+        at,
+        tone,
+        sound,
+        soft,
+        ahead,
+        mark,
+        marked,
+    }
+}
+
+// A consonant that is heard puts one code.
+fn put_consonant(m: &[u8], i: usize, r: Right, out: &mut [u8], s: &[u8; 192]) -> Right
+    requires { ⌜ (now s ≡ soundTable) × (isConsonantClass (classOf (getD (now m) i 0)) ≡ true) × (elidedAt (now m) i ≡ false) × Ready (now m) (now out) i r ⌝ }
+    ensures { λ q. ⌜ Stepped (now (m .entry)) (now (out .entry)) (now (out .exit)) i r q ⌝ }
+{
+    let code = consonant_code(m[i], r.soft, r.tone, r.sound, s);
+    let at = put(out, r.at, code as u8);
+    let tone = tone_before(code, s);
+    let ahead = r.ahead;
+    let marked = r.marked;
+    Right {
+        at,
+        tone,
+        sound: code,
+        soft: false,
+        ahead,
+        mark: false,
+        marked,
+    }
+}
+
+// A vowel puts its sound, and a glide before it where it has one. c is its class.
+fn put_vowel(m: &[u8], i: usize, c: usize, r: Right, out: &mut [u8], t: &[u8; 512]) -> Right
+    requires { ⌜ (now t ≡ tables) × (c ≡ classOf (getD (now m) i 0)) × (isVowelClass c ≡ true) × Ready (now m) (now out) i r ⌝ }
+    ensures { λ q. ⌜ Stepped (now (m .entry)) (now (out .entry)) (now (out .exit)) i r q ⌝ }
+{
+    let k = class_before(m, i, t);
+    let syllable = syllable_by(k, r.mark, r.ahead, r.marked);
+    let hard = hard_before(m, i, k, t);
+    let vowel = vowel_sound(small_letter(m[i]), syllable, after_class(k), hard);
+    let at = put(out, r.at, vowel);
+    let ahead = r.mark;
+    let marked = r.marked;
+    if has_glide(c, syllable, k) {
+        let before = put(out, at, 28);
+        return Right {
+            at: before,
+            tone: 0,
+            sound: 28,
+            soft: true,
+            ahead,
+            mark: false,
+            marked,
+        };
+    }
+    Right {
+        at,
+        tone: 0,
+        sound: vowel as usize,
+        soft: c != 10,
+        ahead,
+        mark: false,
+        marked,
+    }
+}
+
+// The byte at place i.
+fn step(m: &[u8], i: usize, r: Right, out: &mut [u8], t: &[u8; 512], s: &[u8; 192]) -> Right
+    requires { ⌜ (now t ≡ tables) × (now s ≡ soundTable) × Ready (now m) (now out) i r ⌝ }
+    ensures { λ q. ⌜ Stepped (now (m .entry)) (now (out .entry)) (now (out .exit)) i r q ⌝ }
+{
+    let c = class_of(m[i], t);
+    if 10 <= c {
+        return put_vowel(m, i, c, r, out, t);
+    }
+    if c == 8 {
+        if is_elided(m, i) {
+            return pass_over(r, false, false);
+        }
+    }
+    if 6 <= c {
+        return put_consonant(m, i, r, out, s);
+    }
+    if 4 <= c {
+        return pass_over(r, c == 5, false);
+    }
+    if c == 1 {
+        return pass_over(r, r.soft, true);
+    }
+    put_break(m, i, c, r, out, s)
+}
+
+// Writes the tape of an accepted message, n codes, at the start of the output.
+fn fill(m: &[u8], out: &mut [u8], n: usize)
+    requires { ⌜ Steady (now m) × (n ≡ length (tape (now m))) × (n ≤ length (now out)) ⌝ }
+    ensures { λ _. ⌜ now (out .exit) ≡ tape (now (m .entry)) ++ drop n (now (out .entry)) ⌝ }
+{
+    let t = TABLES;
+    let s = SOUNDS;
+    let mut i = m.len();
+    let marked = mark_before(m, i);
+    let mut r = Right {
+        at: n,
+        tone: 2,
+        sound: 0,
+        soft: false,
+        ahead: false,
+        mark: false,
+        marked,
+    };
+    while 0 < i {
+        i -= 1;
+        r = step(m, i, r, out, &t, &s);
+    }
+}
+
+// The check's refusal as an operation's answer.
+pub fn refused(c: Checked) -> Answer
+    ensures { λ r. ⌜ r ≡ afterCheck c (Answer.Written 0 0) ⌝ }
+{
+    match c {
+        Checked::Accepted(_) => Answer::Written { length: 0, live: 0 },
+        Checked::Refused(r) => Answer::Refused(r),
+    }
+}
+
+// The transcriber (paper 01): writes the tape of the message at the start of the lent output, or refuses and leaves every byte.
+pub fn transcribe(m: &[u8], out: &mut [u8]) -> Answer
+    ensures { λ r. ⌜ Answered (tapeAnswer (now (m .entry)) (length (now (out .entry)))) (tape (now (m .entry))) (now (out .entry)) (now (out .exit)) r ⌝ }
+{
+    let checked = check(m);
+    let Checked::Accepted(counts) = checked else {
+        return refused(checked);
+    };
+    let n = counts.codes;
+    if out.len() < n {
+        return Answer::Refused(Refusal {
+            number: 11,
+            place: n,
+        });
+    }
+    fill(m, out, n);
+    Answer::Written { length: n, live: 0 }
+}
