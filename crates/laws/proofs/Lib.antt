@@ -4,3 +4,4 @@ pub mod Cuts
 pub mod Stretch
 pub mod Parts
 pub mod Cutting
+pub mod PartsAccepted

@@ -11,4 +11,6 @@ pub mod Lengths
 pub mod ScanTable
 pub mod Silent
 pub mod Tail
+pub mod NameExamples
+pub mod RefusalExamples
 pub mod Words

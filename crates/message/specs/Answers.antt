@@ -32,6 +32,23 @@ unfoldable pub liveOf : Answer → ℕ
 liveOf (Written n k) = k
 liveOf (Refused r) = 0
 
+-- The same of the check's answer, whose accepted case has the lengths of the tape and of the naming.
+unfoldable pub checkedNumber : Checked → ℕ
+checkedNumber (checked.Accepted counts) = 0
+checkedNumber (checked.Refused r) = r .number
+
+unfoldable pub checkedPlace : Checked → ℕ
+checkedPlace (checked.Accepted counts) = 0
+checkedPlace (checked.Refused r) = r .place
+
+unfoldable pub checkedCodes : Checked → ℕ
+checkedCodes (checked.Accepted counts) = counts .codes
+checkedCodes (checked.Refused r) = 0
+
+unfoldable pub checkedNames : Checked → ℕ
+checkedNames (checked.Accepted counts) = counts .names
+checkedNames (checked.Refused r) = 0
+
 -- number 11: a lent output of this room is too short for n bytes; the place is n
 unfoldable pub within : ℕ → ℕ → ℕ → Answer
 within room n live = cond (leb n room) (Written n live) (Refused (refusal 11 n))

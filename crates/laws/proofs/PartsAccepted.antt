@@ -1,0 +1,218 @@
+-- A part of an accepted message, cut at its breaks, is accepted: every row looks back no further than the break before, and a break last in a part would stand before a break or last in the message; a tape is bounded, since a byte makes at most two codes.
+-- Assumes nothing.
+use Prim.Native.Nat.{ℕ, zero, suc, _+_, _-_, _*_, _<_, _≤_}
+use mathlib.Core.Path.{_≡_, refl, sym, _∙_}
+use mathlib.Core.Bool.{Bool, true, false, cond, _||_, or-true, true≢false}
+use mathlib.Core.List.{List, [], _∷_, _++_}
+use mathlib.Core.Logic.{_⊎_, ⊎-elim}
+use native.Mathlib.Omega.{arith}
+use lib.Dec.{eqb}
+use lib.ListN.{length, take, drop, getD, length-take, length-drop}
+use lib.Seq.{drop-length, getD-take, getD-drop}
+use borrow.Author.Tests.{eqb-true}
+use Rattle.message.specs.Alphabet.{gap, pause}
+use Rattle.message.specs.Letters.{isBreak, isMark}
+use Rattle.message.specs.Tape.{tape}
+use Rattle.message.specs.Refusals.{vowelByte, signByte, hardSignByte, first, none, adjacent, vowelSign, lettersBefore, row3, row4, row5, row6, row7, row8, row9, row10, checkOf}
+use Rattle.message.specs.Scan.{classOf, kindAt, codesTo}
+use Rattle.message.specs.declared.Counts.{Counts}
+use Rattle.message.specs.declared.Checked.the-variants.{Accepted}
+use Rattle.message.specs.Places.{Steady}
+use Rattle.message.proofs.Accepted.{beforeAt, countsOf, Clear, Passes, accepted-passes, passes-accepted}
+use Rattle.message.proofs.Bytes.{by-class}
+use Rattle.message.proofs.Computed.{everything}
+use Rattle.message.proofs.Lengths.{codes-all}
+use Rattle.message.proofs.ScanTable.{entry-holds, width-up}
+use Rattle.laws.proofs.Cuts.{break-within}
+use Rattle.laws.proofs.Parts.{part, Begins}
+
+-- the bytes before a part, nearest first: none, or a break is next
+abbrev Opens : List ℕ → Type 0
+Opens [] = Unit {0}
+Opens (d ∷ t) = isBreak d ≡ true
+
+-- so are those before a place where a part may begin
+begins-opens : (m : List ℕ) (a : ℕ) → Begins m a → Opens (beforeAt m a)
+unfolding beforeAt
+begins-opens m zero b = tt
+begins-opens m (suc c) b = b
+
+-- no break is of this class
+abbrev NoBreak : (ℕ → Bool) → Type 0
+NoBreak class = (d : ℕ) → isBreak d ≡ true → class d ≡ false
+
+-- a class without the gap and the pause
+no-break : (class : ℕ → Bool) → class gap ≡ false → class pause ≡ false → NoBreak class
+unfolding isBreak
+no-break class g p d e = by (eqb d gap) refl e
+  where
+    by : (t : Bool) → eqb d gap ≡ t → (t || eqb d pause) ≡ true → class d ≡ false
+    by true q e = rw (eqb-true d gap q) g
+    by false q e = rw (eqb-true d pause e) p
+
+-- a break is no mark
+break-mark : NoBreak isMark
+unfolding everything
+break-mark = no-break isMark refl refl
+
+-- no vowel
+break-vowel : NoBreak vowelByte
+unfolding everything
+break-vowel = no-break vowelByte refl refl
+
+-- no sign
+break-sign : NoBreak signByte
+unfolding everything
+break-sign = no-break signByte refl refl
+
+-- and no ъ
+break-hard-sign : NoBreak hardSignByte
+unfolding everything
+break-hard-sign = no-break hardSignByte refl refl
+
+-- Each test of the bytes before a byte stops at a break, so it says the same of the part's bytes x alone. First the byte right before.
+first-over : (class : ℕ → Bool) → NoBreak class → (t : List ℕ) → Opens t → (x : List ℕ) → first class (x ++ t) ≡ first class x
+unfolding first
+first-over class n [] o [] = refl
+first-over class n (d ∷ t) o [] = n d o
+first-over class n t o (b ∷ x) = refl
+
+-- is it the start of a word?
+start-over : (t : List ℕ) → Opens t → (x : List ℕ) → (none (x ++ t) || first isBreak (x ++ t)) ≡ (none x || first isBreak x)
+unfolding none first
+start-over [] o [] = refl
+start-over (d ∷ t) o [] = o
+start-over t o (b ∷ x) = refl
+
+-- a test that stops at a break stops there from the adjacent letter on
+adjacent-over : (f : List ℕ → Bool) (t : List ℕ) → Opens t → ((x : List ℕ) → f (x ++ t) ≡ f x) → (x : List ℕ) → f (adjacent (x ++ t)) ≡ f (adjacent x)
+unfolding adjacent
+adjacent-over f [] o h [] = refl
+adjacent-over f (d ∷ t) o h [] = rw (break-mark d o) (h [])
+adjacent-over f t o h (b ∷ x) = by (isMark b)
+  where
+    by : (k : Bool) → f (cond k (x ++ t) (b ∷ (x ++ t))) ≡ f (cond k x (b ∷ x))
+    by true = h x
+    by false = h (b ∷ x)
+
+-- the class of the adjacent letter
+near-over : (class : ℕ → Bool) → NoBreak class → (t : List ℕ) → Opens t → (x : List ℕ) → first class (adjacent (x ++ t)) ≡ first class (adjacent x)
+near-over class n t o = adjacent-over (first class) t o (first-over class n t o)
+
+-- a sign after a vowel
+sign-over : (t : List ℕ) → Opens t → (x : List ℕ) → vowelSign (x ++ t) ≡ vowelSign x
+unfolding vowelSign
+sign-over [] o [] = refl
+sign-over (d ∷ t) o [] = rw (break-sign d o)
+sign-over t o (b ∷ x) = rw (near-over vowelByte break-vowel t o x)
+
+-- the letters of the word
+letters-over : (t : List ℕ) → Opens t → (x : List ℕ) → lettersBefore (x ++ t) ≡ lettersBefore x
+unfolding lettersBefore
+letters-over [] o [] = refl
+letters-over (d ∷ t) o [] = rw o
+letters-over t o (b ∷ x) = rw (letters-over t o x)
+
+-- an or that fails fails without its middle
+or-ends : (p q r : Bool) → (p || (q || r)) ≡ false → (p || r) ≡ false
+or-ends true q r e = e
+or-ends false true r e = absurd (true≢false e)
+or-ends false false r e = e
+
+-- So no row fits at a byte of a part, if none fits there in the message and no break stands last in the part.
+clear-part : (x t : List ℕ) (b : ℕ) (after after′ : List ℕ) → Opens t → (isBreak b ≡ true → none after′ ≡ false) → Clear (x ++ t) b after → Clear x b after′
+unfolding row3 row4 row5 row6 row7 row8 row9 row10
+clear-part x t b after after′ o n c =
+    record {
+      not3 = c .not3;
+      not4 = by (isBreak b) refl;
+      not5 = rw (first-over vowelByte break-vowel t o x) at (c .not5);
+      not6 = rw (start-over t o x) at (c .not6);
+      not7 = rw (near-over signByte break-sign t o x) at (c .not7);
+      not8 = rw (near-over hardSignByte break-hard-sign t o x) at (c .not8);
+      not9 = rw (adjacent-over vowelSign t o (sign-over t o) x) at (c .not9);
+      not10 = rw (letters-over t o x) at (c .not10);
+    }
+  where
+    by : (k : Bool) → isBreak b ≡ k → row4 x b after′ ≡ false
+    by true d = rw (d, n d, ← start-over t o x) (or-ends (none (x ++ t)) (none after) (first isBreak (x ++ t)) (rw d at (c .not4)))
+    by false d = rw d
+
+module _ (m : List ℕ) (a e : ℕ) where
+  -- a part has its length
+  pub part-length : e ≤ length m → length (part m a e) ≡ e - a
+  part-length l = simp (length-take, length-drop) (omega arith)
+
+  -- and at each place the message's byte
+  pub part-at : (i : ℕ) → i < e - a → getD (part m a e) i 0 ≡ getD m (a + i) 0
+  part-at i k = rw (getD-take, getD-drop)
+
+  -- before a place in it stand the part's bytes, then those before the part
+  pub part-before : (i : ℕ) → i ≤ e - a → beforeAt m (a + i) ≡ beforeAt (part m a e) i ++ beforeAt m a
+  unfolding beforeAt
+  part-before zero k = let z : a + 0 ≡ a = omega arith in rw z
+  part-before (suc i) k = let z : a + suc i ≡ suc (a + i) = omega arith in rw (z, part-at i k, part-before i (omega arith))
+
+-- only an empty list has no first byte
+none-empty : (x : List ℕ) → none x ≡ true → length x ≡ 0
+unfolding none
+none-empty [] e = refl
+none-empty (b ∷ x) e = absurd (true≢false (sym e))
+
+module _ (m : List ℕ) (p : Passes m) (e : ℕ) (s : (isBreak (getD m e 0) ≡ true) ⊎ (e ≡ length m)) where
+  -- no break stands last in a part that ends at e
+  last-firm : (j : ℕ) → suc j ≡ e → isBreak (getD m j 0) ≡ true → ⊥
+  unfolding row4 beforeAt none first
+  last-firm j q d =
+      ⊎-elim (λ k. true≢false (rw (k, ← q, d, or-true) at (p .rows e (break-within m e k) .not4)))
+      (λ k. let r : suc j ≡ length m = q ∙ k in true≢false (rw (d, r, drop-length, or-true) at (p .rows j (break-within m j d) .not4)))
+      s
+
+  -- and no part is empty
+  part-some : (a : ℕ) → Begins m a → a ≡ e → ⊥
+  unfolding row4 beforeAt none
+  part-some zero b q = ⊎-elim (λ k. true≢false (rw (k, ← q) at (p .rows e (break-within m e k) .not4))) (λ k. omega (arith, p .some)) s
+  part-some (suc c) b q = last-firm c q b
+
+  module _ (a : ℕ) (b : Begins m a) (h : a ≤ e) (l : e ≤ length m) where
+    -- so a byte stands after each break of a part
+    after-some : (i : ℕ) → i < e - a → isBreak (getD m (a + i) 0) ≡ true → none (drop (suc i) (part m a e)) ≡ false
+    after-some i k d = by (none (drop (suc i) (part m a e))) refl
+      where
+        by : (t : Bool) → none (drop (suc i) (part m a e)) ≡ t → t ≡ false
+        by true q = absurd (last-firm (a + i) (omega (arith, none-empty (drop (suc i) (part m a e)) q, length-drop (suc i) (part m a e), part-length m a e l)) d)
+        by false q = refl
+
+    -- nothing of the table fits a part
+    part-passes : Passes (part m a e)
+    part-passes =
+        let n = part-length m a e l in
+        let w : a ≡ e → ⊥ = part-some a b in
+        record {
+          some = omega arith;
+          short = omega (arith, p .short);
+          rows = λ i k.
+              let j : i < e - a = omega arith in
+              rw (part-at m a e i j)
+              (clear-part (beforeAt (part m a e) i) (beforeAt m a) (getD m (a + i) 0) (drop (suc (a + i)) m) (drop (suc i) (part m a e)) (begins-opens m a b) (after-some i j)
+              (rw (part-before m a e i (omega arith)) at (p .rows (a + i) (omega arith))));
+        }
+
+-- the bytes from a up to e, where a is the start or follows a break, and e is the end or the place of a break
+pub part-accepted : (m : List ℕ) (counts : Counts) (a e : ℕ) → checkOf m ≡ Accepted counts
+    → Begins m a → a ≤ e → e ≤ length m → (isBreak (getD m e 0) ≡ true) ⊎ (e ≡ length m)
+    → checkOf (take (e - a) (drop a m)) ≡ Accepted (countsOf (take (e - a) (drop a m)))
+part-accepted m counts a e c b h l s = passes-accepted (part m a e) (part-passes m (accepted-passes m counts c) e s a b h l)
+
+-- the bytes before a place make at most two codes each, since the kind there is one of the check's table
+codes-two : (m : List ℕ) → Steady m → (i : ℕ) → (kindAt m i < 15) × (codesTo m i ≤ 2 * i)
+unfolding kindAt codesTo
+codes-two m s zero = (omega arith, omega arith)
+codes-two m s (suc i) =
+    let r = codes-two m s i in
+    let e = entry-holds (kindAt m i) (classOf (getD m i 0)) (r .0) (by-class (getD m i 0) (s .bytes i) .class) in
+    (e .next, omega (arith, r .1, width-up m i (kindAt m i) e))
+
+-- a tape has at most two codes for a byte of message
+pub tape-bound : (m : List ℕ) → Steady m → length (tape m) ≤ 2 * length m
+tape-bound m s = omega (arith, codes-all m s, codes-two m s (length m) .1)

@@ -1,0 +1,56 @@
+-- The examples of the refusal table (paper 01, 'Turned-away messages'): one list, one proof, by computing the rows.
+-- Assumes nothing.
+use Prim.Native.Nat.{ℕ}
+use mathlib.Core.Path.{_≡_, refl}
+use mathlib.Core.List.{List, [], _∷_, map}
+use lib.ListN.{replicate}
+use Rattle.message.specs.Alphabet.{gap, pause, mark, «а», «б», «к», «ъ», «ь», «я»}
+use Rattle.message.specs.Refusals.{refusal, checkOf}
+use Rattle.message.specs.Answers.{afterCheck, within, joinAnswer, tapeAnswer}
+use Rattle.message.specs.declared.Answer.{Answer}
+use Rattle.message.specs.declared.Answer.the-variants.{Refused}
+use Rattle.message.proofs.Computed.{everything}
+
+-- what is handed in, and how it is turned away
+pub record TurnedAway : Type 0 where
+  pub message : List ℕ
+  pub cuts : List ℕ
+  pub room : ℕ
+  pub number : ℕ
+  pub place : ℕ
+
+-- a message that is turned away whatever is lent
+abbrev pub refused : ℕ → ℕ → List ℕ → TurnedAway
+refused n p m = record { message = m; cuts = []; room = 9999; number = n; place = p }
+
+unfoldable pub turnedAway : List TurnedAway
+turnedAway =
+    -- no bytes
+    (refused 1 0 []) ∷
+    -- 4,097 times а
+    (refused 2 0 (replicate 4097 «а»)) ∷
+    -- а7
+    (refused 3 1 («а» ∷ 0x37 ∷ [])) ∷
+    -- а#
+    (refused 4 1 («а» ∷ pause ∷ [])) ∷
+    -- б*
+    (refused 5 1 («б» ∷ mark ∷ [])) ∷
+    -- ьа
+    (refused 6 0 («ь» ∷ «а» ∷ [])) ∷
+    -- бьъ
+    (refused 7 2 («б» ∷ «ь» ∷ «ъ» ∷ [])) ∷
+    -- бък
+    (refused 8 2 («б» ∷ «ъ» ∷ «к» ∷ [])) ∷
+    -- а*ья
+    (refused 9 3 («а» ∷ mark ∷ «ь» ∷ «я» ∷ [])) ∷
+    -- 65 times а
+    (refused 10 64 (replicate 65 «а»)) ∷
+    -- а, output of 0
+    (record { message = «а» ∷ []; cuts = []; room = 0; number = 11; place = 1 }) ∷
+    -- а б, cuts 0
+    (record { message = «а» ∷ gap ∷ «б» ∷ []; cuts = 0 ∷ []; room = 9999; number = 12; place = 0 }) ∷
+    []
+
+pub turned-away : map (λ e. joinAnswer (e .message) (e .cuts) (e .room)) turnedAway ≡ map (λ e. Refused (refusal (e .number) (e .place))) turnedAway
+unfolding everything turnedAway
+turned-away = refl

@@ -1,0 +1,71 @@
+/*
+ * Govorun: from stress-marked Russian to a tape of sound codes.
+ *
+ * Link with target/staticlib/libcapi.a, which `rt staticlib capi` writes.
+ *
+ * Every function here is proved to do what it promises for all bytes, lengths and outputs whatever:
+ *   - it reads only msg[0 .. len) and cuts[0 .. n), and writes only out[0 .. cap);
+ *   - it always returns; it allocates nothing, keeps nothing between calls and calls nothing outside;
+ *   - a refusal leaves every byte of out as it was; on acceptance out begins with the answer and its other bytes are kept.
+ * The caller sees to what a call in C can't show: each pointer points to that many bytes (or places), and out overlaps neither
+ * msg nor cuts. Where a length is 0 the pointer may be anything but NULL. Calls from several threads don't disturb one another.
+ *
+ * A message is Windows-1251: words with one gap (0x20) or pause ('#') between neighbours, a stress mark ('*') right after a
+ * stressed vowel, at most 4,096 bytes.
+ */
+#ifndef GOVORUN_H
+#define GOVORUN_H
+
+#include <stddef.h>
+#include <stdint.h>
+
+#ifdef __cplusplus
+extern "C" {
+#endif
+
+/*
+ * number 0: accepted, place 0, length bytes of out were written (live: how many cuts of the list are live; 0 but for the joiner).
+ * Any other number: refused, length 0, live 0, and
+ *    1  no bytes                                     place 0
+ *    2  over 4,096 bytes                             place 0
+ *    3  a byte that is no letter, mark or break      its place
+ *    4  a break first, last or after a break         its place
+ *    5  a mark not right after a vowel               its place
+ *    6  a word begins with a sign                    the sign's place
+ *    7  a sign after a sign                          the second one's place
+ *    8  a consonant after a hard sign                its place
+ *    9  vowel, sign, vowel                           the last vowel's place
+ *   10  the 65th letter of a word                    its place
+ *   11  cap is too small                             the length of the full answer
+ *   12  a cut is no place of a break, or not above the one before   its index in the list
+ * 1, then 2, then the smallest place of 3 to 10 and there the smallest number, then 12, then 11.
+ */
+typedef struct {
+    uint32_t number, place, length, live;
+} govorun_answer;
+
+/* number and place as above (never 11 or 12); codes and names are the lengths of the tape and of the naming, 0 where refused. */
+typedef struct {
+    uint32_t number, place, codes, names;
+} govorun_counts;
+
+/* Checks a message, and tells how much output the other calls will take. */
+govorun_counts govorun_check(const uint8_t *msg, size_t len);
+
+/* Writes one byte, 1 to 7, for each syllable of the message, in order. At most len + 1 bytes. */
+govorun_answer govorun_name(const uint8_t *msg, size_t len, uint8_t *out, size_t cap);
+
+/* Writes the tape of the message: a code, 1 to 56, for each sound, 0 for a gap, 63 for a pause. At most 2 * len bytes. */
+govorun_answer govorun_transcribe(const uint8_t *msg, size_t len, uint8_t *out, size_t cap);
+
+/*
+ * Writes the tapes of the message's parts, cut at the places of its breaks that cuts lists in strictly rising order, with the mark of
+ * each cut between its neighbours. As long as the whole message's tape, and equal to it exactly where live is 0.
+ */
+govorun_answer govorun_join(const uint8_t *msg, size_t len, const size_t *cuts, size_t n, uint8_t *out, size_t cap);
+
+#ifdef __cplusplus
+}
+#endif
+
+#endif
