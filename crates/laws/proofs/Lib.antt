@@ -5,3 +5,4 @@ pub mod Stretch
 pub mod Parts
 pub mod Cutting
 pub mod PartsAccepted
+pub mod Bounds

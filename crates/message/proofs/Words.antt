@@ -3,8 +3,8 @@
 use Prim.Native.Nat.{ℕ}
 use mathlib.Core.Path.{_≡_, refl}
 use mathlib.Core.List.{List, [], _∷_, map}
-use Rattle.message.specs.Alphabet.{gap, pause, mark, «а», «б», «в», «г», «д», «е», «ж», «з», «и», «к», «л», «м», «н», «о», «п», «р», «с», «т», «у», «ъ», «ы», «ь»}
-use Rattle.message.specs.Codes.{J, А*, А1, А2, Б, В, Г, Д, Ж, З, З', К, Л, М, Н, О*, П, Р, С, С', Т, Т', У*, У1, Ы*, Ы1, Э*}
+use Rattle.message.specs.Alphabet.{gap, pause, mark, «й», «а», «б», «в», «г», «д», «е», «ж», «з», «и», «к», «л», «м», «н», «о», «п», «р», «с», «т», «у», «ъ», «ы», «ь»}
+use Rattle.message.specs.Codes.{J, И*, А*, А1, А2, Б, В, Г, Д, Ж, З, З', К, Л, М, Н, О*, П, Р, С, С', Т, Т', У*, У1, Ы*, Ы1, Э*}
 use Rattle.message.specs.Tape.{tape}
 use Rattle.message.specs.Joints.{joined, liveCount}
 use Rattle.message.proofs.Computed.{everything}
@@ -54,6 +54,11 @@ examples =
     (record { message = «с» ∷ «а» ∷ mark ∷ «д» ∷ gap ∷ «к» ∷ gap ∷ «д» ∷ «о» ∷ mark ∷ «м» ∷ «у» ∷ []; cuts = 4 ∷ []; whole = С ∷ А* ∷ Д ∷ 0 ∷ Г ∷ 0 ∷ Д ∷ О* ∷ М ∷ У1 ∷ []; parts = С ∷ А* ∷ Т ∷ 0 ∷ Г ∷ 0 ∷ Д ∷ О* ∷ М ∷ У1 ∷ []; live = 1 }) ∷
     -- са*д к до*му, cut at 4 and 6
     (record { message = «с» ∷ «а» ∷ mark ∷ «д» ∷ gap ∷ «к» ∷ gap ∷ «д» ∷ «о» ∷ mark ∷ «м» ∷ «у» ∷ []; cuts = 4 ∷ 6 ∷ []; whole = С ∷ А* ∷ Д ∷ 0 ∷ Г ∷ 0 ∷ Д ∷ О* ∷ М ∷ У1 ∷ []; parts = С ∷ А* ∷ Т ∷ 0 ∷ К ∷ 0 ∷ Д ∷ О* ∷ М ∷ У1 ∷ []; live = 2 }) ∷
+    -- mistakes near at hand: nothing is voiced before В
+    (word («с» ∷ «в» ∷ «о» ∷ mark ∷ «й» ∷ []) (С ∷ В ∷ О* ∷ J ∷ [])) ∷
+    (word («с» ∷ «а» ∷ mark ∷ «д» ∷ gap ∷ «в» ∷ gap ∷ «д» ∷ «о» ∷ mark ∷ «м» ∷ []) (С ∷ А* ∷ Т ∷ 0 ∷ В ∷ 0 ∷ Д ∷ О* ∷ М ∷ [])) ∷
+    -- и over a pause
+    (word («с» ∷ «а» ∷ mark ∷ «д» ∷ pause ∷ «и» ∷ mark ∷ «в» ∷ «ы» ∷ []) (С ∷ А* ∷ Т ∷ 63 ∷ И* ∷ В ∷ Ы1 ∷ [])) ∷
     []
 
 abbrev pub expected : Example → Heard

@@ -1,516 +1,516 @@
 // The class of each byte, then for each kind of what stands before (16 rows) and each class (16 columns) the fault, the width and the names in one byte:
 // specs/Scan.antt has the rule. Copied once a message and lent by reference.
 pub const TABLES: [u8; 512] = [
-    0,
-    0,
-    0,
-    0,
-    0,
-    0,
-    0,
-    0,
-    0,
-    0,
-    0,
-    0,
-    0,
-    0,
-    0,
-    0,
-    0,
-    0,
-    0,
-    0,
-    0,
-    0,
-    0,
-    0,
-    0,
-    0,
-    0,
-    0,
-    0,
-    0,
-    0,
-    0,
-    2,
-    0,
-    0,
-    3,
-    0,
-    0,
-    0,
-    0,
-    0,
-    0,
-    1,
-    0,
-    0,
-    0,
-    0,
-    0,
-    0,
-    0,
-    0,
-    0,
-    0,
-    0,
-    0,
-    0,
-    0,
-    0,
-    0,
-    0,
-    0,
-    0,
-    0,
-    0,
-    0,
-    0,
-    0,
-    0,
-    0,
-    0,
-    0,
-    0,
-    0,
-    0,
-    0,
-    0,
-    0,
-    0,
-    0,
-    0,
-    0,
-    0,
-    0,
-    0,
-    0,
-    0,
-    0,
-    0,
-    0,
-    0,
-    0,
-    0,
-    0,
-    0,
-    0,
-    0,
-    0,
-    0,
-    0,
-    0,
-    0,
-    0,
-    0,
-    0,
-    0,
-    0,
-    0,
-    0,
-    0,
-    0,
-    0,
-    0,
-    0,
-    0,
-    0,
-    0,
-    0,
-    0,
-    0,
-    0,
-    0,
-    0,
-    0,
-    0,
-    0,
-    0,
-    0,
-    0,
-    0,
-    0,
-    0,
-    0,
-    0,
-    0,
-    0,
-    0,
-    0,
-    0,
-    0,
-    0,
-    0,
-    0,
-    0,
-    0,
-    0,
-    0,
-    0,
-    0,
-    0,
-    0,
-    0,
-    0,
-    0,
-    0,
-    0,
-    0,
-    0,
-    0,
-    0,
-    0,
-    0,
-    0,
-    0,
-    0,
-    0,
-    0,
-    0,
-    0,
-    11,
-    0,
-    0,
-    0,
-    0,
-    0,
-    0,
-    0,
-    0,
-    0,
-    0,
-    0,
-    0,
-    0,
-    0,
-    0,
-    11,
-    0,
-    0,
-    0,
-    0,
-    0,
-    0,
-    0,
-    10,
-    7,
-    7,
-    7,
-    8,
-    11,
-    6,
-    7,
-    12,
-    9,
-    7,
-    7,
-    7,
-    7,
-    10,
-    7,
-    7,
-    7,
-    8,
-    10,
-    7,
-    7,
-    6,
-    9,
-    6,
-    9,
-    4,
-    10,
-    5,
-    10,
-    11,
-    11,
-    10,
-    7,
-    7,
-    7,
-    8,
-    11,
-    6,
-    7,
-    12,
-    9,
-    7,
-    7,
-    7,
-    7,
-    10,
-    7,
-    7,
-    7,
-    8,
-    10,
-    7,
-    7,
-    6,
-    9,
-    6,
-    9,
-    4,
-    10,
-    5,
-    10,
-    11,
-    11,
-    3,
-    5,
-    16,
-    16,
-    0,
-    0,
-    16,
-    16,
-    16,
-    16,
-    80,
-    96,
-    80,
-    3,
-    3,
-    3,
-    3,
-    5,
-    16,
-    16,
-    0,
-    0,
-    16,
-    16,
-    16,
-    16,
-    80,
-    96,
-    80,
-    3,
-    3,
-    3,
-    3,
-    5,
-    20,
-    20,
-    6,
-    6,
-    16,
-    16,
-    16,
-    16,
-    80,
-    96,
-    80,
-    3,
-    3,
-    3,
-    3,
-    5,
-    20,
-    20,
-    6,
-    6,
-    16,
-    16,
-    16,
-    16,
-    80,
-    96,
-    80,
-    3,
-    3,
-    3,
-    3,
-    5,
-    80,
-    80,
-    7,
-    7,
-    24,
-    24,
-    24,
-    24,
-    80,
-    96,
-    96,
-    3,
-    3,
-    3,
-    3,
-    5,
-    80,
-    80,
-    7,
-    7,
-    16,
-    16,
-    16,
-    16,
-    80,
-    96,
-    96,
-    3,
-    3,
-    3,
-    3,
-    5,
-    80,
-    80,
-    0,
-    0,
-    16,
-    16,
-    16,
-    16,
-    80,
-    80,
-    80,
-    3,
-    3,
-    3,
-    3,
-    5,
-    80,
-    80,
-    0,
-    0,
-    16,
-    16,
-    16,
-    16,
-    80,
-    80,
-    80,
-    3,
-    3,
-    3,
-    3,
-    5,
-    80,
-    80,
-    0,
-    0,
-    16,
-    16,
-    16,
-    16,
-    80,
-    80,
-    80,
-    3,
-    3,
-    3,
-    3,
-    5,
-    80,
-    80,
-    0,
-    0,
-    16,
-    16,
-    16,
-    16,
-    80,
-    80,
-    80,
-    3,
-    3,
-    3,
-    3,
-    0,
-    16,
-    16,
-    0,
-    0,
-    16,
-    16,
-    16,
-    16,
-    80,
-    96,
-    80,
-    3,
-    3,
-    3,
-    3,
-    0,
-    16,
-    16,
-    0,
-    0,
-    16,
-    16,
-    16,
-    16,
-    80,
-    96,
-    80,
-    3,
-    3,
-    3,
-    3,
-    0,
-    16,
-    16,
-    0,
-    0,
-    16,
-    16,
-    16,
-    16,
-    80,
-    96,
-    80,
-    3,
-    3,
-    3,
-    3,
-    5,
-    80,
-    80,
-    7,
-    7,
-    24,
-    24,
-    24,
-    24,
-    89,
-    105,
-    105,
-    3,
-    3,
-    3,
-    3,
-    5,
-    80,
-    80,
-    7,
-    7,
-    16,
-    16,
-    16,
-    16,
-    89,
-    105,
-    105,
-    3,
-    3,
-    3,
-    3,
-    5,
-    16,
-    16,
-    0,
-    0,
-    16,
-    16,
-    16,
-    16,
-    80,
-    96,
-    80,
-    3,
-    3,
-    3,
+    0, // byte 00
+    0, // byte 01
+    0, // byte 02
+    0, // byte 03
+    0, // byte 04
+    0, // byte 05
+    0, // byte 06
+    0, // byte 07
+    0, // byte 08
+    0, // byte 09
+    0, // byte 0A
+    0, // byte 0B
+    0, // byte 0C
+    0, // byte 0D
+    0, // byte 0E
+    0, // byte 0F
+    0, // byte 10
+    0, // byte 11
+    0, // byte 12
+    0, // byte 13
+    0, // byte 14
+    0, // byte 15
+    0, // byte 16
+    0, // byte 17
+    0, // byte 18
+    0, // byte 19
+    0, // byte 1A
+    0, // byte 1B
+    0, // byte 1C
+    0, // byte 1D
+    0, // byte 1E
+    0, // byte 1F
+    2, // byte 20 gap
+    0, // byte 21
+    0, // byte 22
+    3, // byte 23 pause
+    0, // byte 24
+    0, // byte 25
+    0, // byte 26
+    0, // byte 27
+    0, // byte 28
+    0, // byte 29
+    1, // byte 2A mark
+    0, // byte 2B
+    0, // byte 2C
+    0, // byte 2D
+    0, // byte 2E
+    0, // byte 2F
+    0, // byte 30
+    0, // byte 31
+    0, // byte 32
+    0, // byte 33
+    0, // byte 34
+    0, // byte 35
+    0, // byte 36
+    0, // byte 37
+    0, // byte 38
+    0, // byte 39
+    0, // byte 3A
+    0, // byte 3B
+    0, // byte 3C
+    0, // byte 3D
+    0, // byte 3E
+    0, // byte 3F
+    0, // byte 40
+    0, // byte 41
+    0, // byte 42
+    0, // byte 43
+    0, // byte 44
+    0, // byte 45
+    0, // byte 46
+    0, // byte 47
+    0, // byte 48
+    0, // byte 49
+    0, // byte 4A
+    0, // byte 4B
+    0, // byte 4C
+    0, // byte 4D
+    0, // byte 4E
+    0, // byte 4F
+    0, // byte 50
+    0, // byte 51
+    0, // byte 52
+    0, // byte 53
+    0, // byte 54
+    0, // byte 55
+    0, // byte 56
+    0, // byte 57
+    0, // byte 58
+    0, // byte 59
+    0, // byte 5A
+    0, // byte 5B
+    0, // byte 5C
+    0, // byte 5D
+    0, // byte 5E
+    0, // byte 5F
+    0, // byte 60
+    0, // byte 61
+    0, // byte 62
+    0, // byte 63
+    0, // byte 64
+    0, // byte 65
+    0, // byte 66
+    0, // byte 67
+    0, // byte 68
+    0, // byte 69
+    0, // byte 6A
+    0, // byte 6B
+    0, // byte 6C
+    0, // byte 6D
+    0, // byte 6E
+    0, // byte 6F
+    0, // byte 70
+    0, // byte 71
+    0, // byte 72
+    0, // byte 73
+    0, // byte 74
+    0, // byte 75
+    0, // byte 76
+    0, // byte 77
+    0, // byte 78
+    0, // byte 79
+    0, // byte 7A
+    0, // byte 7B
+    0, // byte 7C
+    0, // byte 7D
+    0, // byte 7E
+    0, // byte 7F
+    0, // byte 80
+    0, // byte 81
+    0, // byte 82
+    0, // byte 83
+    0, // byte 84
+    0, // byte 85
+    0, // byte 86
+    0, // byte 87
+    0, // byte 88
+    0, // byte 89
+    0, // byte 8A
+    0, // byte 8B
+    0, // byte 8C
+    0, // byte 8D
+    0, // byte 8E
+    0, // byte 8F
+    0, // byte 90
+    0, // byte 91
+    0, // byte 92
+    0, // byte 93
+    0, // byte 94
+    0, // byte 95
+    0, // byte 96
+    0, // byte 97
+    0, // byte 98
+    0, // byte 99
+    0, // byte 9A
+    0, // byte 9B
+    0, // byte 9C
+    0, // byte 9D
+    0, // byte 9E
+    0, // byte 9F
+    0, // byte A0
+    0, // byte A1
+    0, // byte A2
+    0, // byte A3
+    0, // byte A4
+    0, // byte A5
+    0, // byte A6
+    0, // byte A7
+    11, // byte A8 Ё
+    0, // byte A9
+    0, // byte AA
+    0, // byte AB
+    0, // byte AC
+    0, // byte AD
+    0, // byte AE
+    0, // byte AF
+    0, // byte B0
+    0, // byte B1
+    0, // byte B2
+    0, // byte B3
+    0, // byte B4
+    0, // byte B5
+    0, // byte B6
+    0, // byte B7
+    11, // byte B8 ё
+    0, // byte B9
+    0, // byte BA
+    0, // byte BB
+    0, // byte BC
+    0, // byte BD
+    0, // byte BE
+    0, // byte BF
+    10, // byte C0 А
+    7, // byte C1 Б
+    7, // byte C2 В
+    7, // byte C3 Г
+    8, // byte C4 Д
+    11, // byte C5 Е
+    6, // byte C6 Ж
+    7, // byte C7 З
+    12, // byte C8 И
+    9, // byte C9 Й
+    7, // byte CA К
+    7, // byte CB Л
+    7, // byte CC М
+    7, // byte CD Н
+    10, // byte CE О
+    7, // byte CF П
+    7, // byte D0 Р
+    7, // byte D1 С
+    8, // byte D2 Т
+    10, // byte D3 У
+    7, // byte D4 Ф
+    7, // byte D5 Х
+    6, // byte D6 Ц
+    9, // byte D7 Ч
+    6, // byte D8 Ш
+    9, // byte D9 Щ
+    4, // byte DA Ъ
+    10, // byte DB Ы
+    5, // byte DC Ь
+    10, // byte DD Э
+    11, // byte DE Ю
+    11, // byte DF Я
+    10, // byte E0 а
+    7, // byte E1 б
+    7, // byte E2 в
+    7, // byte E3 г
+    8, // byte E4 д
+    11, // byte E5 е
+    6, // byte E6 ж
+    7, // byte E7 з
+    12, // byte E8 и
+    9, // byte E9 й
+    7, // byte EA к
+    7, // byte EB л
+    7, // byte EC м
+    7, // byte ED н
+    10, // byte EE о
+    7, // byte EF п
+    7, // byte F0 р
+    7, // byte F1 с
+    8, // byte F2 т
+    10, // byte F3 у
+    7, // byte F4 ф
+    7, // byte F5 х
+    6, // byte F6 ц
+    9, // byte F7 ч
+    6, // byte F8 ш
+    9, // byte F9 щ
+    4, // byte FA ъ
+    10, // byte FB ы
+    5, // byte FC ь
+    10, // byte FD э
+    11, // byte FE ю
+    11, // byte FF я
+    3, // unnamed after unnamed
+    5, // mark after unnamed
+    16, // gap after unnamed
+    16, // pause after unnamed
+    0, // ъ after unnamed
+    0, // ь after unnamed
+    16, // hard only after unnamed
+    16, // paired after unnamed
+    16, // т or д after unnamed
+    16, // soft only after unnamed
+    80, // other vowel after unnamed
+    96, // е ё ю я after unnamed
+    80, // и after unnamed
+    3, // unused 0 13
+    3, // unused 0 14
+    3, // unused 0 15
+    3, // unnamed after mark
+    5, // mark after mark
+    16, // gap after mark
+    16, // pause after mark
+    0, // ъ after mark
+    0, // ь after mark
+    16, // hard only after mark
+    16, // paired after mark
+    16, // т or д after mark
+    16, // soft only after mark
+    80, // other vowel after mark
+    96, // е ё ю я after mark
+    80, // и after mark
+    3, // unused 1 13
+    3, // unused 1 14
+    3, // unused 1 15
+    3, // unnamed after gap
+    5, // mark after gap
+    20, // gap after gap
+    20, // pause after gap
+    6, // ъ after gap
+    6, // ь after gap
+    16, // hard only after gap
+    16, // paired after gap
+    16, // т or д after gap
+    16, // soft only after gap
+    80, // other vowel after gap
+    96, // е ё ю я after gap
+    80, // и after gap
+    3, // unused 2 13
+    3, // unused 2 14
+    3, // unused 2 15
+    3, // unnamed after pause
+    5, // mark after pause
+    20, // gap after pause
+    20, // pause after pause
+    6, // ъ after pause
+    6, // ь after pause
+    16, // hard only after pause
+    16, // paired after pause
+    16, // т or д after pause
+    16, // soft only after pause
+    80, // other vowel after pause
+    96, // е ё ю я after pause
+    80, // и after pause
+    3, // unused 3 13
+    3, // unused 3 14
+    3, // unused 3 15
+    3, // unnamed after ъ
+    5, // mark after ъ
+    80, // gap after ъ
+    80, // pause after ъ
+    7, // ъ after ъ
+    7, // ь after ъ
+    24, // hard only after ъ
+    24, // paired after ъ
+    24, // т or д after ъ
+    24, // soft only after ъ
+    80, // other vowel after ъ
+    96, // е ё ю я after ъ
+    96, // и after ъ
+    3, // unused 4 13
+    3, // unused 4 14
+    3, // unused 4 15
+    3, // unnamed after ь
+    5, // mark after ь
+    80, // gap after ь
+    80, // pause after ь
+    7, // ъ after ь
+    7, // ь after ь
+    16, // hard only after ь
+    16, // paired after ь
+    16, // т or д after ь
+    16, // soft only after ь
+    80, // other vowel after ь
+    96, // е ё ю я after ь
+    96, // и after ь
+    3, // unused 5 13
+    3, // unused 5 14
+    3, // unused 5 15
+    3, // unnamed after hard only
+    5, // mark after hard only
+    80, // gap after hard only
+    80, // pause after hard only
+    0, // ъ after hard only
+    0, // ь after hard only
+    16, // hard only after hard only
+    16, // paired after hard only
+    16, // т or д after hard only
+    16, // soft only after hard only
+    80, // other vowel after hard only
+    80, // е ё ю я after hard only
+    80, // и after hard only
+    3, // unused 6 13
+    3, // unused 6 14
+    3, // unused 6 15
+    3, // unnamed after paired
+    5, // mark after paired
+    80, // gap after paired
+    80, // pause after paired
+    0, // ъ after paired
+    0, // ь after paired
+    16, // hard only after paired
+    16, // paired after paired
+    16, // т or д after paired
+    16, // soft only after paired
+    80, // other vowel after paired
+    80, // е ё ю я after paired
+    80, // и after paired
+    3, // unused 7 13
+    3, // unused 7 14
+    3, // unused 7 15
+    3, // unnamed after т or д
+    5, // mark after т or д
+    80, // gap after т or д
+    80, // pause after т or д
+    0, // ъ after т or д
+    0, // ь after т or д
+    16, // hard only after т or д
+    16, // paired after т or д
+    16, // т or д after т or д
+    16, // soft only after т or д
+    80, // other vowel after т or д
+    80, // е ё ю я after т or д
+    80, // и after т or д
+    3, // unused 8 13
+    3, // unused 8 14
+    3, // unused 8 15
+    3, // unnamed after soft only
+    5, // mark after soft only
+    80, // gap after soft only
+    80, // pause after soft only
+    0, // ъ after soft only
+    0, // ь after soft only
+    16, // hard only after soft only
+    16, // paired after soft only
+    16, // т or д after soft only
+    16, // soft only after soft only
+    80, // other vowel after soft only
+    80, // е ё ю я after soft only
+    80, // и after soft only
+    3, // unused 9 13
+    3, // unused 9 14
+    3, // unused 9 15
+    3, // unnamed after other vowel
+    0, // mark after other vowel
+    16, // gap after other vowel
+    16, // pause after other vowel
+    0, // ъ after other vowel
+    0, // ь after other vowel
+    16, // hard only after other vowel
+    16, // paired after other vowel
+    16, // т or д after other vowel
+    16, // soft only after other vowel
+    80, // other vowel after other vowel
+    96, // е ё ю я after other vowel
+    80, // и after other vowel
+    3, // unused 10 13
+    3, // unused 10 14
+    3, // unused 10 15
+    3, // unnamed after е ё ю я
+    0, // mark after е ё ю я
+    16, // gap after е ё ю я
+    16, // pause after е ё ю я
+    0, // ъ after е ё ю я
+    0, // ь after е ё ю я
+    16, // hard only after е ё ю я
+    16, // paired after е ё ю я
+    16, // т or д after е ё ю я
+    16, // soft only after е ё ю я
+    80, // other vowel after е ё ю я
+    96, // е ё ю я after е ё ю я
+    80, // и after е ё ю я
+    3, // unused 11 13
+    3, // unused 11 14
+    3, // unused 11 15
+    3, // unnamed after и
+    0, // mark after и
+    16, // gap after и
+    16, // pause after и
+    0, // ъ after и
+    0, // ь after и
+    16, // hard only after и
+    16, // paired after и
+    16, // т or д after и
+    16, // soft only after и
+    80, // other vowel after и
+    96, // е ё ю я after и
+    80, // и after и
+    3, // unused 12 13
+    3, // unused 12 14
+    3, // unused 12 15
+    3, // unnamed after ъ after a vowel
+    5, // mark after ъ after a vowel
+    80, // gap after ъ after a vowel
+    80, // pause after ъ after a vowel
+    7, // ъ after ъ after a vowel
+    7, // ь after ъ after a vowel
+    24, // hard only after ъ after a vowel
+    24, // paired after ъ after a vowel
+    24, // т or д after ъ after a vowel
+    24, // soft only after ъ after a vowel
+    89, // other vowel after ъ after a vowel
+    105, // е ё ю я after ъ after a vowel
+    105, // и after ъ after a vowel
+    3, // unused 13 13
+    3, // unused 13 14
+    3, // unused 13 15
+    3, // unnamed after ь after a vowel
+    5, // mark after ь after a vowel
+    80, // gap after ь after a vowel
+    80, // pause after ь after a vowel
+    7, // ъ after ь after a vowel
+    7, // ь after ь after a vowel
+    16, // hard only after ь after a vowel
+    16, // paired after ь after a vowel
+    16, // т or д after ь after a vowel
+    16, // soft only after ь after a vowel
+    89, // other vowel after ь after a vowel
+    105, // е ё ю я after ь after a vowel
+    105, // и after ь after a vowel
+    3, // unused 14 13
+    3, // unused 14 14
+    3, // unused 14 15
+    3, // unused 15 0
+    5, // unused 15 1
+    16, // unused 15 2
+    16, // unused 15 3
+    0, // unused 15 4
+    0, // unused 15 5
+    16, // unused 15 6
+    16, // unused 15 7
+    16, // unused 15 8
+    16, // unused 15 9
+    80, // unused 15 10
+    96, // unused 15 11
+    80, // unused 15 12
+    3, // unused 15 13
+    3, // unused 15 14
+    3, // unused 15 15
 ];

@@ -27,9 +27,6 @@ pub fn hard_before(m: &[u8], i: usize, k: usize, t: &[u8; 512]) -> bool
     }
     let p = class_before(m, i - 1, t);
     if p == 5 {
-        if i < 2 {
-            return false;
-        }
         return class_before(m, i - 2, t) == 6;
     }
     if p < 6 {

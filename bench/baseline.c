@@ -1,0 +1,491 @@
+/*
+ * Two passes over the message and no memory but the output. The first, from left to right, is an automaton that finds the refusal
+ * or the lengths of the answers. The second, from right to left, writes the answer from its end, since a sound depends on what
+ * stands to its right and on little else. Nothing is written before every refusal is settled.
+ *
+ * The classes T, P, Q, V1 and V2, the sets D and U and the numbers of the refusals are those of document 01.
+ */
+#include "baseline.h"
+
+#include <stdbool.h>
+
+enum { MAX_BYTES = 4096, MAX_LETTERS = 64 };
+
+/* Bytes of a message; the letters from а to я are in the order of the alphabet. */
+enum {
+    A = 0xE0, BE, VE, GHE, DE, IE, ZHE, ZE, I, SHORT_I, KA, EL, EM, EN, O, PE,
+    ER, ES, TE, U, EF, HA, TSE, CHE, SHA, SHCHA, HARD_SIGN, YERU, SOFT_SIGN, E, YU, YA,
+    YO = 0xB8, CAPITAL_YO = 0xA8, MARK = '*', GAP = ' ', PAUSE = '#'
+};
+
+/* Codes of a tape. The soft code of a paired consonant is the one after its hard code. */
+enum {
+    A_S = 1, O_S, E_S, Y_S, I_S, U_S, A_1, E_1, Y_1, I_1, U_1, A_2, E_2,
+    B = 16, V = 18, G = 20, H_VOICED = 22, D = 24, ZH = 26, ZH_SOFT = 27, GLIDE = 28, Z = 29, K = 31, L = 33, M = 35, N = 37,
+    P = 39, R = 41, S = 43, T = 45, F = 47, H = 49, TS = 51, TS_VOICED = 52, CH = 53, CH_VOICED = 54, SH = 55, SHCH = 56,
+    GAP_CODE = 0, PAUSE_CODE = 63, CODES
+};
+
+/* What a byte is to the check. Only т and д may be elided, and only after с з н р. */
+enum { FOREIGN, PLAIN_VOWEL, VOWEL_I, SOFT_VOWEL, OTHER, SZNR, TD, HARD, SOFT, STRESS, BREAK, COLUMNS = 16 };
+
+/* What the second pass does with a byte. */
+enum { CONSONANT, MAY_BE_ELIDED, SIGN, VOWEL, STRESS_MARK, WORD_BREAK };
+
+/* What a vowel finds before it; a mark counts as the vowel that it stands after. */
+enum { INITIAL, AFTER_VOWEL, AFTER_SIGN, AFTER_Q, AFTER_T, AFTER_P, PRECEDERS };
+
+/* Rows of the table of vowels. */
+enum { ROW_A, ROW_O, ROW_U, ROW_Y, ROW_E, ROW_IE, ROW_YO, ROW_YU, ROW_YA, ROW_I, ROWS };
+
+/* What a sound makes of the obstruent (noise letter) before it. */
+enum { AS_WRITTEN, VOICED, VOICELESS };
+
+/* Sets of consonants that a soft sound palatalizes: the members of a group are palatalized by the same sounds. */
+enum { NONE = 0, DENTAL = 1, EN_ONLY = 2, BP = 4, VF = 8, GK = 16, KH = 32, EL_ONLY = 64, EM_ONLY = 128, ER_ONLY = 256, ALL = 511 };
+
+struct symbol {
+    uint8_t sound[3]; /* by the voice asked for: a consonant's hard code; what a break asks for in turn; a vowel's row is in [0] */
+    uint8_t column;
+    uint8_t kind;
+    uint8_t before;     /* what a vowel right after this byte finds */
+    uint16_t softening; /* of a consonant its group, of a vowel or sign the groups that it palatalizes, of a break its code */
+};
+
+#define CASES(letter, ...) [letter] = __VA_ARGS__, [(letter) - 0x20] = __VA_ARGS__
+#define VOWEL_1(letter, row) CASES(letter, {{row}, PLAIN_VOWEL, VOWEL, AFTER_VOWEL, NONE})
+#define VOWEL_2(letter, row, column) CASES(letter, {{row}, column, VOWEL, AFTER_VOWEL, ALL})
+#define NOISE(letter, written, voiced, voiceless, before, group) \
+    CASES(letter, {{written, voiced, voiceless}, OTHER, CONSONANT, before, group})
+#define NOISE_SZ(letter, written) CASES(letter, {{written, Z, S}, SZNR, CONSONANT, AFTER_P, DENTAL})
+#define NOISE_TD(letter, written) CASES(letter, {{written, D, T}, TD, MAY_BE_ELIDED, AFTER_P, DENTAL})
+#define SONORANT(letter, code, column, before, group) CASES(letter, {{code, code, code}, column, CONSONANT, before, group})
+
+/* clang-format off */
+static const struct symbol symbols[256] = {
+    VOWEL_1(A, ROW_A), VOWEL_1(O, ROW_O), VOWEL_1(U, ROW_U), VOWEL_1(YERU, ROW_Y), VOWEL_1(E, ROW_E),
+    VOWEL_2(IE, ROW_IE, SOFT_VOWEL), VOWEL_2(YU, ROW_YU, SOFT_VOWEL), VOWEL_2(YA, ROW_YA, SOFT_VOWEL), VOWEL_2(I, ROW_I, VOWEL_I),
+    [YO]         = {{ROW_YO}, SOFT_VOWEL, VOWEL, AFTER_VOWEL, ALL},
+    [CAPITAL_YO] = {{ROW_YO}, SOFT_VOWEL, VOWEL, AFTER_VOWEL, ALL},
+    NOISE(BE,  B,  B, P, AFTER_P, BP),      NOISE(PE,  P,  B, P, AFTER_P, BP),
+    NOISE(VE,  V,  V, F, AFTER_P, VF),      NOISE(EF,  F,  V, F, AFTER_P, VF),
+    NOISE(GHE, G,  G, K, AFTER_P, GK),      NOISE(KA,  K,  G, K, AFTER_P, GK),
+    NOISE(ZHE, ZH, ZH, SH, AFTER_T, NONE),  NOISE(SHA, SH, ZH, SH, AFTER_T, NONE),
+    NOISE_SZ(ZE, Z),                        NOISE_SZ(ES, S),
+    NOISE_TD(DE, D),                        NOISE_TD(TE, T),
+    NOISE(HA,  H,  H_VOICED,  H,  AFTER_P, KH),
+    NOISE(TSE, TS, TS_VOICED, TS, AFTER_T, NONE),
+    NOISE(CHE, CH, CH_VOICED, CH, AFTER_Q, NONE),
+    NOISE(SHCHA, SHCH, ZH_SOFT, SHCH, AFTER_Q, NONE),
+    SONORANT(EL, L, OTHER, AFTER_P, EL_ONLY), SONORANT(EM, M, OTHER, AFTER_P, EM_ONLY),
+    SONORANT(EN, N, SZNR, AFTER_P, EN_ONLY),  SONORANT(ER, R, SZNR, AFTER_P, ER_ONLY),
+    SONORANT(SHORT_I, GLIDE, OTHER, AFTER_Q, NONE),
+    CASES(HARD_SIGN, {{0}, HARD, SIGN, AFTER_SIGN, NONE}),
+    CASES(SOFT_SIGN, {{0}, SOFT, SIGN, AFTER_SIGN, ALL}),
+    [MARK]  = {{0}, STRESS, STRESS_MARK, AFTER_VOWEL, NONE},
+    [GAP]   = {{VOICELESS, VOICED, VOICELESS}, BREAK, WORD_BREAK, INITIAL, GAP_CODE},
+    [PAUSE] = {{VOICELESS, VOICELESS, VOICELESS}, BREAK, WORD_BREAK, INITIAL, PAUSE_CODE},
+};
+
+/* What a consonant's sound does to the consonant before it: by the sets D and U, and by softness. */
+struct effect {
+    uint16_t voice, softening;
+};
+
+#define HARD_AND_SOFT(code, voice, group) [code] = {voice, NONE}, [(code) + 1] = {voice, group}
+
+static const struct effect effects[CODES] = {
+    HARD_AND_SOFT(B, VOICED, BP), HARD_AND_SOFT(P, VOICELESS, BP), HARD_AND_SOFT(V, AS_WRITTEN, VF), HARD_AND_SOFT(F, VOICELESS, VF),
+    HARD_AND_SOFT(G, VOICED, GK), HARD_AND_SOFT(K, VOICELESS, GK), HARD_AND_SOFT(H_VOICED, VOICED, KH), HARD_AND_SOFT(H, VOICELESS, KH),
+    HARD_AND_SOFT(D, VOICED, DENTAL | EN_ONLY), HARD_AND_SOFT(T, VOICELESS, DENTAL | EN_ONLY),
+    HARD_AND_SOFT(Z, VOICED, DENTAL | EN_ONLY), HARD_AND_SOFT(S, VOICELESS, DENTAL | EN_ONLY),
+    HARD_AND_SOFT(N, AS_WRITTEN, DENTAL | EN_ONLY), HARD_AND_SOFT(L, AS_WRITTEN, EL_ONLY),
+    HARD_AND_SOFT(M, AS_WRITTEN, EM_ONLY), HARD_AND_SOFT(R, AS_WRITTEN, ER_ONLY),
+    [ZH] = {VOICED, NONE}, [SH] = {VOICELESS, NONE}, [TS_VOICED] = {VOICED, NONE}, [TS] = {VOICELESS, NONE},
+    [CH_VOICED] = {VOICED, EN_ONLY}, [CH] = {VOICELESS, EN_ONLY}, [ZH_SOFT] = {VOICED, EN_ONLY}, [SHCH] = {VOICELESS, EN_ONLY},
+};
+
+/*
+ * Levels of a syllable as seen from its right: all vowels of a word without a mark are of level 1, which is kept apart from the level
+ * 1 before a marked vowel. A word's level is not known before its first vowel from the right, unless that has a mark.
+ */
+enum { LEVEL_S, LEVEL_1, LEVEL_2, LEVEL_1_UNMARKED, NOT_KNOWN, LEVELS = NOT_KNOWN };
+
+/* Names of syllables; the bare ones are those whose vowel is initial or after a vowel. */
+static const uint8_t names[LEVELS][PRECEDERS] = {
+    [LEVEL_S] = {2, 2, 1, 1, 1, 1}, [LEVEL_1] = {4, 4, 3, 3, 3, 3}, [LEVEL_2] = {6, 6, 5, 5, 5, 5},
+    [LEVEL_1_UNMARKED] = {4, 4, 3, 3, 3, 3},
+};
+enum { INCOMPLETE = 7 };
+
+/* With J a glide comes before the sound. */
+enum { J = 0x80 };
+
+#define SND(s, one, two) {s, one, two, one}
+#define JOT(s, one, two) {J | s, J | one, J | two, J | one}
+
+/* Sounds of vowels by what is before them and by level. A hard boundary changes the tape afterwards. */
+static const uint8_t vowel_sounds[ROWS][8][LEVELS] = {
+    /*          initial             after a vowel       after a sign        after Q             after T             after P */
+    [ROW_A]  = {SND(A_S, A_1, A_1), SND(A_S, A_1, A_2), SND(A_S, A_1, A_2), SND(A_S, E_1, E_2), SND(A_S, A_1, A_2), SND(A_S, A_1, A_2)},
+    [ROW_O]  = {SND(O_S, A_1, A_1), SND(O_S, A_1, A_2), SND(O_S, A_1, A_2), SND(O_S, A_1, E_2), SND(O_S, A_1, A_2), SND(O_S, A_1, A_2)},
+    [ROW_U]  = {SND(U_S, U_1, U_1), SND(U_S, U_1, U_1), SND(U_S, U_1, U_1), SND(U_S, U_1, U_1), SND(U_S, U_1, U_1), SND(U_S, U_1, U_1)},
+    [ROW_Y]  = {SND(Y_S, Y_1, Y_1), SND(Y_S, Y_1, Y_1), SND(Y_S, Y_1, Y_1), SND(Y_S, Y_1, Y_1), SND(Y_S, Y_1, Y_1), SND(Y_S, Y_1, Y_1)},
+    [ROW_E]  = {SND(E_S, E_1, E_2), SND(E_S, E_1, E_2), SND(E_S, E_1, E_2), SND(E_S, E_1, E_2), SND(E_S, E_1, E_2), SND(E_S, E_1, E_2)},
+    [ROW_IE] = {JOT(E_S, E_1, E_1), JOT(E_S, E_1, E_2), JOT(E_S, E_1, E_2), SND(E_S, E_1, E_2), SND(E_S, Y_1, A_2), SND(E_S, E_1, E_2)},
+    [ROW_YO] = {JOT(O_S, O_S, O_S), JOT(O_S, O_S, O_S), JOT(O_S, O_S, O_S), SND(O_S, O_S, O_S), SND(O_S, O_S, O_S), SND(O_S, O_S, O_S)},
+    [ROW_YU] = {JOT(U_S, U_1, U_1), JOT(U_S, U_1, U_1), JOT(U_S, U_1, U_1), SND(U_S, U_1, U_1), SND(U_S, U_1, U_1), SND(U_S, U_1, U_1)},
+    [ROW_YA] = {JOT(A_S, E_1, E_1), JOT(A_S, E_1, E_2), JOT(A_S, E_1, E_2), SND(A_S, E_1, E_2), SND(A_S, E_1, E_2), SND(A_S, E_1, E_2)},
+    [ROW_I]  = {SND(I_S, I_1, I_1), SND(I_S, I_1, I_1), JOT(I_S, I_1, I_1), SND(I_S, I_1, I_1), SND(Y_S, Y_1, Y_1), SND(I_S, I_1, I_1)},
+};
+
+/*
+ * The check's automaton. A state remembers what the word so far ends in; it is held as the index of its row, so that a step adds the
+ * column and no more. From STOP on it is no state but a reason to leave the loop.
+ */
+enum {
+    AT_START = 0 * COLUMNS, AT_VOWEL = 1 * COLUMNS, AT_MARK = 2 * COLUMNS, AT_CONSONANT = 3 * COLUMNS, AT_SZNR = 4 * COLUMNS,
+    AT_HARD = 5 * COLUMNS, AT_SOFT = 6 * COLUMNS, AT_VOWEL_HARD = 7 * COLUMNS, AT_VOWEL_SOFT = 8 * COLUMNS,
+    STOP = 9 * COLUMNS, STOP_BREAK = STOP, STOP_TD, STOP_REFUSED
+};
+
+/* One step: where to, and how many codes (low half) and names (high half) it adds. */
+struct step {
+    uint32_t counts, next;
+};
+
+enum { ONE_NAME = 0x10000 };
+
+#define VOW(codes) {(codes) + ONE_NAME, AT_VOWEL}
+#define CON        {1, AT_CONSONANT}
+#define SZN        {1, AT_SZNR}
+#define TRY        {1, STOP_TD}
+#define TO(state)  {0, state}
+#define END(names) {1 + (names), STOP_BREAK}
+#define NO(number) {0, STOP_REFUSED + (number)}
+
+static const struct step steps[STOP] = {
+    /* from             foreign а      и       е       к      с      т      ъ                  ь                  *            break */
+    [AT_START]      =  NO(3), VOW(1), VOW(1), VOW(2), CON,   SZN,   CON,   NO(6),             NO(6),             NO(5),       NO(4),
+    [AT_VOWEL]      =  NO(3), VOW(1), VOW(1), VOW(2), CON,   SZN,   CON,   TO(AT_VOWEL_HARD), TO(AT_VOWEL_SOFT), TO(AT_MARK), END(0),
+    [AT_MARK]       =  NO(3), VOW(1), VOW(1), VOW(2), CON,   SZN,   CON,   TO(AT_VOWEL_HARD), TO(AT_VOWEL_SOFT), NO(5),       END(0),
+    [AT_CONSONANT]  =  NO(3), VOW(1), VOW(1), VOW(1), CON,   SZN,   CON,   TO(AT_HARD),       TO(AT_SOFT),       NO(5), END(ONE_NAME),
+    [AT_SZNR]       =  NO(3), VOW(1), VOW(1), VOW(1), CON,   SZN,   TRY,   TO(AT_HARD),       TO(AT_SOFT),       NO(5), END(ONE_NAME),
+    [AT_HARD]       =  NO(3), VOW(1), VOW(2), VOW(2), NO(8), NO(8), NO(8), NO(7),             NO(7),             NO(5), END(ONE_NAME),
+    [AT_SOFT]       =  NO(3), VOW(1), VOW(2), VOW(2), CON,   SZN,   CON,   NO(7),             NO(7),             NO(5), END(ONE_NAME),
+    [AT_VOWEL_HARD] =  NO(3), NO(9),  NO(9),  NO(9),  NO(8), NO(8), NO(8), NO(7),             NO(7),             NO(5), END(ONE_NAME),
+    [AT_VOWEL_SOFT] =  NO(3), NO(9),  NO(9),  NO(9),  CON,   SZN,   CON,   NO(7),             NO(7),             NO(5), END(ONE_NAME),
+};
+/* clang-format on */
+
+static uint32_t small(uint8_t byte)
+{
+    return byte | 0x20; /* capitals become small letters, and nothing else becomes a letter */
+}
+
+#define CLUSTER(first, second, third) ((uint32_t)(first) << 16 | (second) << 8 | (third))
+
+/* Pass 1: whether the т or д at p is elided (silent). */
+static bool elided(const uint8_t *msg, const uint8_t *p, const uint8_t *end)
+{
+    if (p == msg || symbols[p[-1]].column != SZNR)
+        return false;
+    uint32_t third = end - p > 1 ? small(p[1]) : 0;
+    uint32_t fourth = end - p > 2 ? small(p[2]) : 0;
+
+    switch (CLUSTER(small(p[-1]), small(p[0]), third)) {
+    case CLUSTER(ES, TE, EN):
+    case CLUSTER(ER, DE, CHE):
+    case CLUSTER(ER, DE, TSE):
+    case CLUSTER(ZE, DE, EN):
+    case CLUSTER(ZE, DE, TSE):
+    case CLUSTER(EN, DE, TSE):
+    case CLUSTER(EN, DE, ES):
+        return true;
+    case CLUSTER(ES, TE, ES):
+    case CLUSTER(EN, TE, ES):
+        return fourth == KA;
+    case CLUSTER(EN, DE, SHA):
+        return fourth == TE;
+    default:
+        return false;
+    }
+}
+
+/* The 65th letter of a word, or NULL. It is looked for only in words whose bytes are too many, so other words pay nothing. */
+static const uint8_t *letter_too_many(const uint8_t *word, const uint8_t *end)
+{
+    if (end - word <= MAX_LETTERS)
+        return NULL;
+    uint32_t letters = 0;
+    for (const uint8_t *p = word; p != end; p++) {
+        letters += *p != MARK;
+        if (letters > MAX_LETTERS)
+            return p;
+    }
+    return NULL;
+}
+
+static baseline_counts check_refused(uint32_t number, size_t place)
+{
+    return (baseline_counts){.number = number, .place = (uint32_t)place};
+}
+
+/* The check's answer where the message ends in this state: the end closes a word as a break does, but adds no code. */
+static baseline_counts check_end(const uint8_t *msg, const uint8_t *word, const uint8_t *end, size_t state, uint32_t counts)
+{
+    if (state == AT_START)
+        return check_refused(4, (size_t)(end - msg) - 1);
+    const uint8_t *extra = letter_too_many(word, end);
+    if (extra)
+        return check_refused(10, (size_t)(extra - msg));
+    counts += steps[state + BREAK].counts - 1;
+    return (baseline_counts){.codes = counts % ONE_NAME, .names = counts / ONE_NAME};
+}
+
+baseline_counts baseline_check(const uint8_t *msg, size_t len)
+{
+    if (len == 0)
+        return check_refused(1, 0);
+    if (len > MAX_BYTES)
+        return check_refused(2, 0);
+
+    const uint8_t *p = msg, *word = msg, *end = msg + len;
+    size_t state = AT_START;
+    uint32_t counts = 0;
+    for (;;) {
+        while (state < STOP && p != end) {
+            const struct step *step = &steps[state + symbols[*p++].column];
+            counts += step->counts;
+            state = step->next;
+        }
+        if (state < STOP)
+            return check_end(msg, word, end, state, counts);
+        if (state == STOP_TD) {
+            counts -= elided(msg, p - 1, end);
+            state = AT_CONSONANT;
+            continue;
+        }
+        const uint8_t *extra = letter_too_many(word, p - 1);
+        if (extra)
+            return check_refused(10, (size_t)(extra - msg));
+        if (state != STOP_BREAK)
+            return check_refused((uint32_t)state - STOP_REFUSED, (size_t)(p - 1 - msg));
+        word = p;
+        state = AT_START;
+    }
+}
+
+static baseline_answer refused(uint32_t number, uint32_t place)
+{
+    return (baseline_answer){.number = number, .place = place};
+}
+
+/*
+ * The level of the rightmost vowel of a word, right before p, where it has no mark: it depends on a mark further to the left. A word is
+ * searched once at most. Letters are the bytes from 0x80 on.
+ */
+static uint32_t last_level(const uint8_t *msg, const uint8_t *p)
+{
+    while (p != msg && p[-1] >= 0x80)
+        p--;
+    return p != msg && p[-1] == MARK ? LEVEL_2 : LEVEL_1_UNMARKED;
+}
+
+/* The level of the vowel to the left of one of this level, where it has no mark: S, 1, 2, 2, .. or always 1 in a word without marks. */
+static uint32_t level_before(uint32_t level)
+{
+    return level + (level < LEVEL_2);
+}
+
+/* What a letter right after the byte before p finds there. */
+static uint32_t before(const uint8_t *msg, const uint8_t *p)
+{
+    return p != msg ? symbols[p[-1]].before : INITIAL;
+}
+
+/* Writes the names of an accepted message so that they end at w. */
+static void write_names(const uint8_t *msg, const uint8_t *end, uint8_t *w)
+{
+    uint32_t level = NOT_KNOWN;
+
+    if (before(msg, end) != AFTER_VOWEL)
+        *--w = INCOMPLETE;
+    for (const uint8_t *p = end; p != msg; p--) {
+        uint32_t kind = symbols[p[-1]].kind;
+        if (kind < VOWEL)
+            continue;
+        if (kind == VOWEL) {
+            if (level == NOT_KNOWN)
+                level = last_level(msg, p - 1);
+            *--w = names[level][before(msg, p - 1)];
+            level = level_before(level);
+        } else if (kind == STRESS_MARK) {
+            level = LEVEL_S;
+        } else {
+            level = NOT_KNOWN;
+            if (before(msg, p - 1) != AFTER_VOWEL)
+                *--w = INCOMPLETE;
+        }
+    }
+}
+
+baseline_answer baseline_name(const uint8_t *msg, size_t len, uint8_t *out, size_t cap)
+{
+    baseline_counts counts = baseline_check(msg, len);
+    if (counts.number)
+        return refused(counts.number, counts.place);
+    if (counts.names > cap)
+        return refused(11, counts.names);
+    write_names(msg, msg + len, out + counts.names);
+    return (baseline_answer){.length = counts.names};
+}
+
+/* Where the second pass stands. */
+struct pen {
+    const uint8_t *p; /* what is left of the message ends here */
+    uint8_t *w;       /* the tape so far begins here */
+    uint32_t voice;   /* what the first sound of the tape so far asks of an obstruent before it */
+};
+
+/* Writes the last word of what is left of the message. */
+static struct pen write_word(const uint8_t *msg, const uint8_t *end, struct pen pen)
+{
+    const uint8_t *p = pen.p;
+    uint8_t *w = pen.w;
+    size_t voice = pen.voice;
+    uint32_t softening = NONE, level = NOT_KNOWN;
+
+    for (; p != msg; p--) {
+        const struct symbol *symbol = &symbols[p[-1]];
+        if (symbol->kind <= MAY_BE_ELIDED) {
+            if (symbol->kind == MAY_BE_ELIDED && elided(msg, p - 1, end))
+                continue;
+            uint32_t code = symbol->sound[voice] + ((symbol->softening & softening) != 0);
+            *--w = (uint8_t)code;
+            voice = effects[code].voice;
+            softening = effects[code].softening;
+        } else if (symbol->kind == VOWEL || symbol->kind == STRESS_MARK) {
+            if (symbol->kind == STRESS_MARK) {
+                level = LEVEL_S;
+                symbol = &symbols[*(--p - 1)];
+            } else if (level == NOT_KNOWN) {
+                level = last_level(msg, p - 1);
+            }
+            uint8_t sound = vowel_sounds[symbol->sound[0]][before(msg, p - 1)][level];
+            *--w = sound & ~J;
+            if (sound & J)
+                *--w = GLIDE;
+            level = level_before(level);
+            voice = AS_WRITTEN;
+            softening = symbol->softening;
+        } else if (symbol->kind == SIGN) {
+            softening = symbol->softening;
+        } else {
+            break;
+        }
+    }
+    return (struct pen){p, w, (uint32_t)voice};
+}
+
+/* What the first sound of a word asks for, where what comes after the word asks for this voice. */
+static uint32_t voice_through(const uint8_t *msg, const uint8_t *word, const uint8_t *word_end, const uint8_t *end, uint32_t voice)
+{
+    for (const uint8_t *p = word_end; p != word; p--) {
+        const struct symbol *symbol = &symbols[p[-1]];
+        if (symbol->kind == VOWEL)
+            voice = AS_WRITTEN;
+        else if (symbol->kind == CONSONANT || (symbol->kind == MAY_BE_ELIDED && !elided(msg, p - 1, end)))
+            voice = effects[symbol->sound[voice]].voice;
+    }
+    return voice;
+}
+
+/* Whether the word that ends before the gap at p makes a hard boundary there: it ends in T, P or a soft sign after T. */
+static bool hard_boundary(const uint8_t *p)
+{
+    if (small(p[-1]) == SOFT_SIGN)
+        return symbols[p[-2]].before == AFTER_T;
+    return symbols[p[-1]].before == AFTER_T || symbols[p[-1]].before == AFTER_P;
+}
+
+/* Whether the gap at p changes the first sound of the word after it: и and э without a mark become ы at a hard boundary. */
+static bool changes_opening(const uint8_t *p, const uint8_t *end)
+{
+    uint32_t first = small(p[1]);
+    if (first != I && (first != E || (end - p > 2 && p[2] == MARK)))
+        return false;
+    return hard_boundary(p);
+}
+
+/* Whether the last letter before p, signs passed over, is an obstruent. */
+static bool ends_in_obstruent(const uint8_t *p)
+{
+    const struct symbol *last = &symbols[symbols[p[-1]].kind == SIGN ? p[-2] : p[-1]];
+    return last->sound[VOICED] != last->sound[VOICELESS];
+}
+
+/*
+ * Writes the tape of an accepted message cut at these places so that it ends at w, and counts the live cuts. A cut keeps voice and
+ * hard boundary from passing. Whether it is live depends on the voice in the whole message's tape, which is followed from break to
+ * break: a word must be gone through again only where that voice and the one written came apart at its end.
+ */
+static uint32_t write_tape(const uint8_t *msg, const uint8_t *end, const size_t *cuts, size_t n, uint8_t *w)
+{
+    struct pen pen = {end, w, VOICELESS};
+    uint32_t whole_voice = VOICELESS, live = 0;
+
+    for (;;) {
+        const uint8_t *word_end = pen.p;
+        bool apart = whole_voice != pen.voice;
+        pen = write_word(msg, end, pen);
+        if (pen.p == msg)
+            return live;
+        whole_voice = apart ? voice_through(msg, pen.p, word_end, end, whole_voice) : pen.voice;
+
+        const uint8_t *p = --pen.p;
+        const struct symbol *symbol = &symbols[*p];
+        bool cut = n != 0 && p == msg + cuts[n - 1];
+        bool opening = *p == GAP && changes_opening(p, end);
+        if (cut) {
+            live += opening || (*p == GAP && whole_voice == VOICED && ends_in_obstruent(p));
+            n--;
+        } else if (opening) {
+            *pen.w = *pen.w == I_S ? Y_S : Y_1;
+        }
+        *--pen.w = (uint8_t)symbol->softening;
+        pen.voice = cut ? VOICELESS : symbol->sound[pen.voice];
+        whole_voice = symbol->sound[whole_voice];
+    }
+}
+
+/* The index of the first cut that is no break's place or not above the one before, or n. */
+static size_t first_bad_cut(const uint8_t *msg, size_t len, const size_t *cuts, size_t n)
+{
+    size_t lowest = 0;
+    for (size_t i = 0; i < n; i++) {
+        if (cuts[i] < lowest || cuts[i] >= len || symbols[msg[cuts[i]]].kind != WORD_BREAK)
+            return i;
+        lowest = cuts[i] + 1;
+    }
+    return n;
+}
+
+baseline_answer baseline_join(const uint8_t *msg, size_t len, const size_t *cuts, size_t n, uint8_t *out, size_t cap)
+{
+    baseline_counts counts = baseline_check(msg, len);
+    if (counts.number)
+        return refused(counts.number, counts.place);
+    size_t bad = first_bad_cut(msg, len, cuts, n);
+    if (bad < n)
+        return refused(12, (uint32_t)bad);
+    if (counts.codes > cap)
+        return refused(11, counts.codes);
+    uint32_t live = write_tape(msg, msg + len, cuts, n, out + counts.codes);
+    return (baseline_answer){.length = counts.codes, .live = live};
+}
+
+baseline_answer baseline_transcribe(const uint8_t *msg, size_t len, uint8_t *out, size_t cap)
+{
+    return baseline_join(msg, len, NULL, 0, out, cap);
+}

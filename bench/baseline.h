@@ -1,0 +1,24 @@
+/*
+ * The library of ../include/govorun.h written again in plain C, with nothing proved, to measure the proved one against.
+ * Answers, refusals and what is asked of the caller are those of that header.
+ */
+#ifndef BASELINE_H
+#define BASELINE_H
+
+#include <stddef.h>
+#include <stdint.h>
+
+typedef struct {
+    uint32_t number, place, length, live;
+} baseline_answer;
+
+typedef struct {
+    uint32_t number, place, codes, names;
+} baseline_counts;
+
+baseline_counts baseline_check(const uint8_t *msg, size_t len);
+baseline_answer baseline_name(const uint8_t *msg, size_t len, uint8_t *out, size_t cap);
+baseline_answer baseline_transcribe(const uint8_t *msg, size_t len, uint8_t *out, size_t cap);
+baseline_answer baseline_join(const uint8_t *msg, size_t len, const size_t *cuts, size_t n, uint8_t *out, size_t cap);
+
+#endif

@@ -1,0 +1,69 @@
+-- The check's numbers are small, so they are the same in 32 bits; its case says which numbers they are.
+-- Assumes nothing.
+use mathlib.Core.Path.{_≡_, refl, sym, _∙_}
+use native.Mathlib.Omega.{arith}
+use Rattle.message.specs.Refusals.{checkOf}
+use Rattle.message.specs.Answers.{checkedNumber, checkedPlace, checkedCodes, checkedNames}
+use Rattle.message.specs.declared.Checked.the-variants.{Accepted, Refused}
+use Rattle.laws.proofs.Bounds.{SmallCheck, check-small}
+use borrow.Author.Needs.{needs}
+use Rattle.capi.proofs.govorun_check.Statement.{statement}
+use Rattle.capi.proofs.govorun_check.Tie as tie
+
+-- the check's answer is small
+small : (c : tie.After-check) → SmallCheck (checkOf (c .before .before .args .m .now))
+small c = check-small (c .before .before .args .m .now) (λ j. omega (arith, c .before .shared-slice-known .given j))
+
+-- the message is accepted, with these counts
+accepted : (c : tie.After-counts) → checkOf (c .before .before .before .before .args .m .now) ≡ Accepted (c .counts .given .0 .0)
+accepted c = sym (c .before .before .check .ensures) ∙ c .counts .given .1
+
+-- or refused
+refused : (c : tie.After-r) → checkOf (c .before .before .before .before .args .m .now) ≡ Refused (c .r .given .0 .0)
+refused c = sym (c .before .before .check .ensures) ∙ c .r .given .1
+
+check-requires : tie.Need-check-requires
+check-requires c κs = search needs
+
+enum-known-counts : tie.Need-enum-known-counts
+enum-known-counts c = search needs
+
+cast-t6 : tie.Need-cast-t6
+unfolding checkedCodes
+cast-t6 c = let a = c .before .before in omega (arith, rw (accepted a) at (small (a .before .before) .codes))
+
+cast-t7 : tie.Need-cast-t7
+unfolding checkedNames
+cast-t7 c = let a = c .before .before .before in omega (arith, rw (accepted a) at (small (a .before .before) .names))
+
+enum-known-r : tie.Need-enum-known-r
+enum-known-r c = search needs
+
+cast-t8 : tie.Need-cast-t8
+cast-t8 c = search needs
+
+cast-t9 : tie.Need-cast-t9
+unfolding checkedPlace
+cast-t9 c = let a = c .before .before .before in omega (arith, rw (refused a) at (small (a .before .before) .place))
+
+returns : tie.Need-returns
+unfolding checkedNumber checkedPlace checkedCodes checkedNames
+returns c = rw (accepted (c .before .before .before)) (record { number = refl; place = refl; codes = refl; names = refl })
+
+returns-2 : tie.Need-returns-2
+unfolding checkedNumber checkedPlace checkedCodes checkedNames
+returns-2 c = rw (refused (c .before .before .before)) (record { number = refl; place = refl; codes = refl; names = refl })
+
+pub govorun-check-spec : {M : Type 1} → statement M
+govorun-check-spec =
+    tie.close
+    (tie.spec
+    check-requires
+    enum-known-counts
+    cast-t6
+    cast-t7
+    enum-known-r
+    cast-t8
+    cast-t9
+    returns
+    returns-2)

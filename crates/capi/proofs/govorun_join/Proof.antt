@@ -1,0 +1,27 @@
+-- The joiner has said what it must, in numbers that are small; what is said in 32 bits is the same.
+-- Assumes nothing.
+use native.Mathlib.Omega.{arith}
+use lib.ListN.{length}
+use Rattle.laws.proofs.Bounds.{join-small}
+use borrow.Author.Needs.{needs}
+use Rattle.capi.proofs.govorun_join.Statement.{statement}
+use Rattle.capi.proofs.govorun_join.Tie as tie
+
+join-requires : tie.Need-join-requires
+join-requires c κs = search needs
+
+say-requires : tie.Need-say-requires
+say-requires c κs =
+    let r = c .before .before in
+    let s = r .before .before .before .before in
+    let f = join-small (s .before .args .m .now) (λ j. omega (arith, s .shared-slice-known .given j)) (s .before .args .cuts .now) (length (s .before .args .out .now)) in
+    rw (r .join .ensures .answer) (record { number = f .number; place = f .place; length = f .length; live = f .live })
+
+same-length : tie.Need-same-length
+same-length c = search needs
+
+returns : tie.Need-returns
+returns c = let r = c .before .before .before in record { said = rw (r .join .ensures .answer) at (c .say .ensures); output = r .join .ensures .output }
+
+pub govorun-join-spec : {M : Type 1} → statement M
+govorun-join-spec = tie.close (tie.spec join-requires say-requires same-length returns)

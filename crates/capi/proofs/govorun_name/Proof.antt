@@ -1,0 +1,27 @@
+-- The naming operation has said what it must, in numbers that are small; what is said in 32 bits is the same.
+-- Assumes nothing.
+use native.Mathlib.Omega.{arith}
+use lib.ListN.{length}
+use Rattle.laws.proofs.Bounds.{name-small}
+use borrow.Author.Needs.{needs}
+use Rattle.capi.proofs.govorun_name.Statement.{statement}
+use Rattle.capi.proofs.govorun_name.Tie as tie
+
+name-requires : tie.Need-name-requires
+name-requires c κs = search needs
+
+say-requires : tie.Need-say-requires
+say-requires c κs =
+    let r = c .before .before in
+    let s = r .before .before .before in
+    let f = name-small (s .before .args .m .now) (λ j. omega (arith, s .shared-slice-known .given j)) (length (s .before .args .out .now)) in
+    rw (r .name .ensures .answer) (record { number = f .number; place = f .place; length = f .length; live = f .live })
+
+same-length : tie.Need-same-length
+same-length c = search needs
+
+returns : tie.Need-returns
+returns c = let r = c .before .before .before in record { said = rw (r .name .ensures .answer) at (c .say .ensures); output = r .name .ensures .output }
+
+pub govorun-name-spec : {M : Type 1} → statement M
+govorun-name-spec = tie.close (tie.spec name-requires say-requires same-length returns)

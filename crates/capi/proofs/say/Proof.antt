@@ -1,0 +1,42 @@
+-- Each number of the answer is small, so it is the same in 32 bits; the answer's case says which numbers they are.
+-- Assumes nothing.
+use mathlib.Core.Path.{refl}
+use native.Mathlib.Omega.{arith}
+use Rattle.message.specs.Answers.{numberOf, placeOf, lengthOf, liveOf}
+use borrow.Author.Needs.{needs}
+use Rattle.capi.proofs.say.Statement.{statement}
+use Rattle.capi.proofs.say.Tie as tie
+
+enum-known-a : tie.Need-enum-known-a
+enum-known-a c = search needs
+
+cast-t6 : tie.Need-cast-t6
+unfolding lengthOf
+cast-t6 c = omega (arith, rw (c .before .a .given .1) at (c .before .before .before .pre .length))
+
+cast-t7 : tie.Need-cast-t7
+unfolding liveOf
+cast-t7 c = omega (arith, rw (c .before .a .given .1) at (c .before .before .before .pre .live))
+
+enum-known-a-2 : tie.Need-enum-known-a-2
+enum-known-a-2 c = search needs
+
+cast-t8 : tie.Need-cast-t8
+cast-t8 c = search needs
+
+cast-t9 : tie.Need-cast-t9
+unfolding placeOf
+cast-t9 c = omega (arith, rw (c .before .before .before .a2 .given .1) at (c .before .before .before .before .before .pre .place))
+
+returns : tie.Need-returns
+unfolding numberOf placeOf lengthOf liveOf
+returns c = rw (c .before .a .given .1) (record { number = refl; place = refl; length = refl; live = refl })
+
+returns-2 : tie.Need-returns-2
+unfolding numberOf placeOf lengthOf liveOf
+returns-2 c = rw (c .before .before .before .a2 .given .1) (record { number = refl; place = refl; length = refl; live = refl })
+
+pub say-spec : {M : Type 1} → statement M
+say-spec =
+    tie.close
+    (tie.spec enum-known-a cast-t6 cast-t7 enum-known-a-2 cast-t8 cast-t9 returns returns-2)

@@ -1,0 +1,93 @@
+// The C interface: include/govorun.h says what each function promises. Each carries its operation's equations through.
+ghost use Prim.Native.Nat.{_≤_};
+ghost use mathlib.Core.Path.{_≡_};
+ghost use lib.ListN.{length};
+ghost use Rattle.message.specs.Tape.{tape, names};
+ghost use Rattle.message.specs.Joints.{joined};
+ghost use Rattle.message.specs.Refusals.{checkOf};
+ghost use Rattle.message.specs.Answers.{nameAnswer, tapeAnswer, joinAnswer};
+ghost use Rattle.capi.specs.Said.{Said, Counted, Done, Fits};
+use joiner::join::join;
+use message::Answer;
+use message::Checked;
+use message::check::check;
+use transcriber::naming::name;
+use transcriber::tape::transcribe;
+
+#[repr(C)]
+pub struct GovorunAnswer {
+    pub number: u32,
+    pub place: u32,
+    pub length: u32,
+    pub live: u32,
+}
+
+#[repr(C)]
+pub struct GovorunCounts {
+    pub number: u32,
+    pub place: u32,
+    pub codes: u32,
+    pub names: u32,
+}
+
+#[no_mangle]
+pub extern "C" fn govorun_check(m: &[u8]) -> GovorunCounts
+    ensures { λ r. ⌜ Counted (checkOf (now (m .entry))) r ⌝ }
+{
+    match check(m) {
+        Checked::Accepted(counts) => GovorunCounts {
+            number: 0,
+            place: 0,
+            codes: counts.codes as u32,
+            names: counts.names as u32,
+        },
+        Checked::Refused(r) => GovorunCounts {
+            number: r.number as u32,
+            place: r.place as u32,
+            codes: 0,
+            names: 0,
+        },
+    }
+}
+
+// An answer in four numbers, each of which fits.
+fn say(a: Answer) -> GovorunAnswer
+    requires { ⌜ Fits a ⌝ }
+    ensures { λ r. ⌜ Said a r ⌝ }
+{
+    match a {
+        Answer::Written { length, live } => GovorunAnswer {
+            number: 0,
+            place: 0,
+            length: length as u32,
+            live: live as u32,
+        },
+        Answer::Refused(r) => GovorunAnswer {
+            number: r.number as u32,
+            place: r.place as u32,
+            length: 0,
+            live: 0,
+        },
+    }
+}
+
+#[no_mangle]
+pub extern "C" fn govorun_name(m: &[u8], out: &mut [u8]) -> GovorunAnswer
+    ensures { λ r. ⌜ Done (nameAnswer (now (m .entry)) (length (now (out .entry)))) (names (now (m .entry))) (now (out .entry)) (now (out .exit)) r ⌝ }
+{
+    say(name(m, out))
+}
+
+#[no_mangle]
+pub extern "C" fn govorun_transcribe(m: &[u8], out: &mut [u8]) -> GovorunAnswer
+    ensures { λ r. ⌜ Done (tapeAnswer (now (m .entry)) (length (now (out .entry)))) (tape (now (m .entry))) (now (out .entry)) (now (out .exit)) r ⌝ }
+{
+    say(transcribe(m, out))
+}
+
+#[no_mangle]
+pub extern "C" fn govorun_join(m: &[u8], cuts: &[usize], out: &mut [u8]) -> GovorunAnswer
+    ensures { λ r. ⌜ Done (joinAnswer (now (m .entry)) (now (cuts .entry)) (length (now (out .entry)))) (joined (now (m .entry)) (now (cuts .entry))) (now (out .entry)) (now (out .exit)) r ⌝ }
+{
+    say(join(m, cuts, out))
+}

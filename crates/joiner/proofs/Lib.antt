@@ -1,0 +1,6 @@
+pub mod Answering
+pub mod Arms
+pub mod BadCuts
+pub mod Demand3
+pub mod Laying
+pub mod Sides

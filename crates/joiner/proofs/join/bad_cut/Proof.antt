@@ -1,0 +1,67 @@
+-- Each turn passes one cut of the definition's walk or ends it; the measure is what is left of the list.
+-- Assumes nothing.
+use Prim.Native.Nat.{_-_}
+use mathlib.Core.Path.{sym, _∙_}
+use native.Mathlib.Omega.{arith}
+use lib.ListN.{length}
+use borrow.Author.Needs.{needs}
+use Rattle.joiner.proofs.BadCuts.{Passed, passed-within, passed-none, passed-bad, passed-more, passed-all}
+use Rattle.joiner.proofs.join.bad_cut.Statement.{statement}
+use Rattle.joiner.proofs.join.bad_cut.Tie as tie
+
+abbrev Inv-loop : tie.InvT-loop
+Inv-loop m cuts least₀ k₀ least k = Passed m cuts least k
+
+abbrev μ-loop : tie.MeasureT-loop
+μ-loop m cuts least₀ k₀ least k = length cuts - k
+
+loop-holds : tie.Need-loop-holds Inv-loop μ-loop
+loop-holds c = passed-none _ _
+
+mul-c : tie.Need-mul-c Inv-loop μ-loop
+mul-c c = search needs
+
+shared-slice-read-c : tie.Need-shared-slice-read-c Inv-loop μ-loop
+shared-slice-read-c c = search needs
+
+is-bad-requires : tie.Need-is-bad-requires Inv-loop μ-loop
+is-bad-requires c κs = search needs
+
+returns : tie.Need-returns Inv-loop μ-loop
+returns c =
+    let n = c .before .before .before in
+    passed-bad _ _ _ _ (n .before .loop .inv) (n .loop-test .taken) (sym (c .before .is-bad .ensures) ∙ c .if1 .taken)
+
+add-least : tie.Need-add-least Inv-loop μ-loop
+add-least c = omega (arith, passed-within _ _ _ (sym (c .before .is-bad .ensures) ∙ c .if1 .left))
+
+add-k : tie.Need-add-k Inv-loop μ-loop
+add-k c = search needs
+
+loop-less : tie.Need-loop-less Inv-loop μ-loop
+loop-less c = search needs
+
+loop-again : tie.Need-loop-again Inv-loop μ-loop
+loop-again c =
+    let n = c .before .before .before in
+    passed-more _ _ _ _ (n .before .loop .inv) (n .loop-test .taken) (sym (c .before .is-bad .ensures) ∙ c .if1 .left)
+
+returns-2 : tie.Need-returns-2 Inv-loop μ-loop
+returns-2 c = passed-all _ _ _ _ (c .before .loop .inv) (c .loop-test .left)
+
+pub bad-cut-spec : {M : Type 1} → statement M
+bad-cut-spec =
+    tie.close
+    (tie.spec
+    Inv-loop
+    μ-loop
+    loop-holds
+    mul-c
+    shared-slice-read-c
+    is-bad-requires
+    returns
+    add-least
+    add-k
+    loop-less
+    loop-again
+    returns-2)

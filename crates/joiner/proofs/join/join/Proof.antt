@@ -1,0 +1,91 @@
+-- The refusals come in the definition's order, and else the parts' tapes are laid over the whole message's, which is as long.
+-- Assumes nothing.
+use mathlib.Core.Path.{_≡_, sym, _∙_}
+use native.Mathlib.Omega.{arith}
+use lib.Seq.{length-take-le}
+use borrow.Author.Needs.{needs}
+use Rattle.message.specs.Refusals.{checkOf}
+use Rattle.message.specs.Answers.{afterCheck}
+use Rattle.message.specs.declared.Checked.the-variants.{Accepted}
+use Rattle.joiner.proofs.Answering.{join-refused, join-cut, join-short, tape-laid, join-written}
+use Rattle.joiner.proofs.join.join.Statement.{statement}
+use Rattle.joiner.proofs.join.join.Tie as tie
+
+check-requires : tie.Need-check-requires
+check-requires c κs = search needs
+
+enum-known-checked : tie.Need-enum-known-checked
+enum-known-checked c = search needs
+
+enum-told : tie.Need-enum-told
+enum-told c = search needs
+
+refused-requires : tie.Need-refused-requires
+refused-requires c κs = search needs
+
+returns : tie.Need-returns
+unfolding afterCheck
+returns c =
+    let e = c .before .enum-told .given .1 in
+    rw (c .refused .ensures, e) (join-refused _ _ _ (sym (c .before .before .before .check .ensures) ∙ e))
+
+bad-cut-requires : tie.Need-bad-cut-requires
+bad-cut-requires c κs = search needs
+
+-- the check accepted
+accepted : (c : tie.After-bad-cut) → checkOf (c .before .before .before .before .before .before .before .before .args .m .now) ≡ Accepted (c .before .before .checked .given .0 .0)
+accepted c = let d = c .before .before in sym (d .before .before .check .ensures) ∙ d .checked .given .1
+
+returns-2 : tie.Need-returns-2
+returns-2 c =
+    let b = c .before in
+    rw (b .bad-cut .ensures) (join-cut _ _ _ (accepted b) (λ e. c .if1 .taken (b .bad-cut .ensures ∙ e)))
+
+returns-3 : tie.Need-returns-3
+returns-3 c = let b = c .before .before in join-short _ _ _ (accepted b) (sym (b .bad-cut .ensures) ∙ c .before .if1 .left) (c .if2 .taken)
+
+transcribe-requires : tie.Need-transcribe-requires
+transcribe-requires c κs = search needs
+
+slice-relend-prefix-write-parts : tie.Need-slice-relend-prefix-write-parts
+slice-relend-prefix-write-parts c = search needs
+
+slice-aggregate-write-parts : tie.Need-slice-aggregate-write-parts
+slice-aggregate-write-parts c = let t = c .before .before .before in sym (length-take-le _ _ (omega (arith, t .transcribe .kept .1 .0, t .before .before .if2 .left)))
+
+write-parts-requires : tie.Need-write-parts-requires
+write-parts-requires c κs =
+    let t = c .before .before .before in
+    let f = t .before .before in
+    let b = f .before .before in
+    tape-laid _ _ _ (accepted b) (sym (b .bad-cut .ensures) ∙ f .before .if1 .left) (f .if2 .left) (t .transcribe .ensures)
+
+same-length : tie.Need-same-length
+same-length c = search needs
+
+returns-4 : tie.Need-returns-4
+returns-4 c =
+    let w = c .before .before in
+    let t = w .before .before .before .before in
+    let f = t .before .before in
+    let b = f .before .before in
+    join-written _ _ _ (accepted b) (sym (b .bad-cut .ensures) ∙ f .before .if1 .left) (f .if2 .left) (t .transcribe .ensures) (w .write-parts .ensures)
+
+pub join-spec : {M : Type 1} → statement M
+join-spec =
+    tie.close
+    (tie.spec
+    check-requires
+    enum-known-checked
+    enum-told
+    refused-requires
+    returns
+    bad-cut-requires
+    returns-2
+    returns-3
+    transcribe-requires
+    slice-relend-prefix-write-parts
+    slice-aggregate-write-parts
+    write-parts-requires
+    same-length
+    returns-4)

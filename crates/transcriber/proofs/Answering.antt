@@ -1,0 +1,31 @@
+-- What an operation answers after the check, and what it leaves in the lent output, in its three cases: refused, too little room, written.
+-- Assumes nothing.
+use Prim.Native.Nat.{ℕ, _<_, _≤_}
+use mathlib.Core.Path.{_≡_, refl}
+use mathlib.Core.List.{List, _++_}
+use lib.ListN.{length, drop}
+use borrow.Author.Tests.{le-leb, lt-leb}
+use Rattle.message.specs.Refusals.{refusal}
+use Rattle.message.specs.Answers.{within, afterCheck, outputAfter, Answered}
+use Rattle.message.specs.declared.Refusal.{Refusal}
+use Rattle.message.specs.declared.Counts.{Counts}
+use Rattle.message.specs.declared.Checked.{Checked}
+use Rattle.message.specs.declared.Checked.the-variants as checked
+use Rattle.message.specs.declared.Answer.{Answer}
+use Rattle.message.specs.declared.Answer.the-variants.{Written, Refused}
+
+-- a message that the check refuses leaves the output as it is
+pub answered-refused : (c : Checked) (f : Refusal) (a b : Answer) (text out : List ℕ) → c ≡ checked.Refused f → Answered (afterCheck c a) text out out (afterCheck c b)
+unfolding afterCheck outputAfter
+answered-refused c f a b text out e = rw e (record { answer = refl; output = refl })
+
+module _ (c : Checked) (counts : Counts) (e : c ≡ checked.Accepted counts) (n k live : ℕ) (same : k ≡ n) (text out : List ℕ) where
+  -- so does one whose answer has no room
+  pub answered-short : length out < k → Answered (afterCheck c (within (length out) n live)) text out out (Refused (refusal 11 k))
+  unfolding afterCheck within outputAfter
+  answered-short h = rw (e, ← same, lt-leb k (length out) h) (record { answer = refl; output = refl })
+
+  -- and one whose answer has room has it written before the rest of the output
+  pub answered-written : (out′ : List ℕ) → k ≤ length out → out′ ≡ text ++ drop k out → Answered (afterCheck c (within (length out) n live)) text out out′ (Written k live)
+  unfolding afterCheck within outputAfter
+  answered-written out′ h w = rw (e, ← same, le-leb k (length out) h) (record { answer = refl; output = w })

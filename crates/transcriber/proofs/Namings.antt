@@ -1,0 +1,218 @@
+-- The naming's walk from the right: each byte settles the names that the definition gives it, and what stands right of it is told by what stood right of the next one.
+-- Assumes nothing.
+use Prim.Native.Nat.{ℕ, suc, _+_, _-_, _<_, _≤_}
+use mathlib.Core.Path.{_≡_, refl, sym, ap, _∙_}
+use mathlib.Core.Bool.{Bool, true, false}
+use mathlib.Core.List.{List, [], _∷_, _++_}
+use native.Mathlib.Omega.{arith}
+use borrow.Author.Tests.{eq-eqb, ne-eqb, le-leb, lt-leb}
+use lib.ListN.{length, getD, drop, length-append}
+use lib.Seq.{drop-length}
+use Rattle.message.specs.Letters.{isBreak, isMark, beginsWithMark}
+use Rattle.message.specs.Refusals.{vowelByte}
+use Rattle.message.specs.Scan.{classOf, isVowelClass}
+use Rattle.message.specs.Syllables.{nextStressed, incomplete, nameOf}
+use Rattle.message.specs.Tape.{names}
+use Rattle.message.specs.Places.{Steady, leftAt, letterOf, wordAt, markBefore, markedAt, namesAt}
+use Rattle.message.proofs.Bytes.{by-class, vowel-break, vowel-mark}
+use Rattle.message.proofs.Left.{begins-at, mark-within}
+use Rattle.message.proofs.Tail.{names-start, names-end, names-vowel, names-other, names-break, word-letter, word-mark, word-break, word-end, marked-within, marked-break, marked-end}
+use Rattle.message.proofs.Lengths.{names-from}
+use Rattle.transcriber.specs.declared.Vowels.{Vowels}
+use Rattle.transcriber.specs.Sounds.{classBefore, syllableBy}
+use Rattle.transcriber.specs.Walk.{Put, VowelsStand, namePiece, NameReady, Named}
+use Rattle.transcriber.proofs.Raw.{syllable-raw}
+use Rattle.transcriber.proofs.Output.{Filled, put-none, put-rest, filled-first, filled-more, filled-within, filled-all}
+
+module _ (m : List ℕ) (steady : Steady m) (i : ℕ) (h : i < length m) where
+  -- the names from a place on are those that its byte settles and the rest's
+  pub name-step : namesAt m i ≡ namePiece m i ++ namesAt m (suc i)
+  unfolding namePiece
+  name-step = by (isBreak (getD m i 0)) refl (vowelByte (getD m i 0)) refl
+    where
+      by : (s : Bool) → isBreak (getD m i 0) ≡ s → (v : Bool) → vowelByte (getD m i 0) ≡ v → namesAt m i ≡ namePiece m i ++ namesAt m (suc i)
+      by true s v e = rw s (names-break m steady i h s)
+      by false s true v = rw (s, v) (names-vowel m steady i h v)
+      by false s false v = rw (s, v) (names-other m steady i h s v)
+
+  -- there is room for them before the rest's
+  pub name-room : length (namePiece m i) + length (namesAt m (suc i)) ≤ length (names m)
+  name-room = omega (arith, names-from m steady i (omega arith), simp length-append at (ap length name-step))
+
+  -- a vowel settles its syllable's
+  pub piece-vowel : vowelByte (getD m i 0) ≡ true
+      → namePiece m i ≡ nameOf (syllableBy (classBefore m i) (isMark (getD m (suc i) 0)) (nextStressed (wordAt m (suc i))) (markedAt m i)) ∷ []
+  unfolding namePiece
+  piece-vowel v = rw (vowel-break (getD m i 0) (steady .bytes i) v, v, syllable-raw m steady i h)
+
+  -- a break the incomplete one's of the word before it
+  pub piece-break : isBreak (getD m i 0) ≡ true → namePiece m i ≡ incomplete (leftAt m i .p)
+  unfolding namePiece
+  piece-break s = rw s
+
+  -- any other byte none
+  pub piece-other : isBreak (getD m i 0) ≡ false → vowelByte (getD m i 0) ≡ false → namePiece m i ≡ []
+  unfolding namePiece
+  piece-other s v = rw (s, v)
+
+module _ {m out : List ℕ} {i : ℕ} {v : Vowels} (ready : NameReady m out i v) where
+  -- the highest classes are the vowels'
+  pub vowel-class : 10 ≤ classOf (getD m i 0) → isVowelClass (classOf (getD m i 0)) ≡ true
+  vowel-class low =
+      let c = classOf (getD m i 0) in
+      rw (le-leb 10 c low, le-leb c 12 (omega (arith, by-class (getD m i 0) (ready .steady .bytes i) .class)))
+
+  -- a byte of a vowel's class is a vowel
+  vowel-byte : isVowelClass (classOf (getD m i 0)) ≡ true → vowelByte (getD m i 0) ≡ true
+  vowel-byte c = by-class (getD m i 0) (ready .steady .bytes i) .vowel ∙ c
+
+  -- its name finds room
+  pub vowel-room : isVowelClass (classOf (getD m i 0)) ≡ true → 0 < v .at
+  vowel-room c = omega (arith, ready .room, ap length (piece-vowel m (ready .steady) i (ready .within) (vowel-byte c)))
+
+  -- it puts one name, and the vowel before it looks at its mark
+  pub named-vowel : {out′ : List ℕ} {r : ℕ} → isVowelClass (classOf (getD m i 0)) ≡ true
+      → Put (nameOf (syllableBy (classBefore m i) (v .mark) (v .ahead) (v .marked)) ∷ []) out out′ (v .at) r
+      → Named m out out′ i v (record { at = r; ahead = v .mark; mark = false; marked = v .marked })
+  unfolding nextStressed letterOf vowelByte
+  named-vowel c p =
+      let b = getD m i 0 in
+      let e = vowel-byte c in
+      let s = vowel-break b (ready .steady .bytes i) e in
+      let k = vowel-mark b (ready .steady .bytes i) e in
+      let w = marked-within m (ready .steady) i (ready .within) s in
+      record {
+        stands = record {
+          ahead = rw (word-letter m (ready .steady) i (ready .within) s k, e) (ready .stands .mark);
+          mark = sym (begins-at m i ∙ k);
+          marked = ready .stands .marked ∙ sym w;
+        };
+        put = rw (piece-vowel m (ready .steady) i (ready .within) e, w, ← ready .stands .marked, ← ready .stands .ahead, ← begins-at m (suc i), ← ready .stands .mark) p;
+      }
+
+  -- another letter puts none, and the vowel before it looks past it
+  pub named-letter : 4 ≤ classOf (getD m i 0) → classOf (getD m i 0) < 10 → Named m out out i v (record { at = v .at; ahead = v .ahead; mark = false; marked = v .marked })
+  unfolding nextStressed letterOf vowelByte
+  named-letter low high =
+      let b = getD m i 0 in
+      let t = by-class b (ready .steady .bytes i) in
+      let s : isBreak b ≡ false = t .break ∙ rw (le-leb 2 (classOf b) (omega arith), lt-leb (classOf b) 3 (omega arith)) in
+      let k : isMark b ≡ false = t .mark ∙ ne-eqb (classOf b) 1 (λ e. omega arith) in
+      let n : vowelByte b ≡ false = t .vowel ∙ rw (lt-leb 10 (classOf b) high) in
+      record {
+        stands = record {
+          ahead = rw (word-letter m (ready .steady) i (ready .within) s k, n) (ready .stands .ahead);
+          mark = sym (begins-at m i ∙ k);
+          marked = ready .stands .marked ∙ sym (marked-within m (ready .steady) i (ready .within) s);
+        };
+        put = rw (piece-other m (ready .steady) i (ready .within) s n) (put-none out (v .at));
+      }
+
+  -- a mark puts none and is seen by the vowel before it
+  pub named-mark : classOf (getD m i 0) ≡ 1 → Named m out out i v (record { at = v .at; ahead = v .ahead; mark = true; marked = v .marked })
+  named-mark c =
+      let b = getD m i 0 in
+      let t = by-class b (ready .steady .bytes i) in
+      let k : isMark b ≡ true = t .mark ∙ eq-eqb (classOf b) 1 c in
+      let s = mark-within b k in
+      let n : vowelByte b ≡ false = t .vowel ∙ rw c in
+      record {
+        stands = record {
+          ahead = rw (word-mark m (ready .steady) i (ready .within) k) (ready .stands .ahead);
+          mark = sym (begins-at m i ∙ k);
+          marked = ready .stands .marked ∙ sym (marked-within m (ready .steady) i (ready .within) s);
+        };
+        put = rw (piece-other m (ready .steady) i (ready .within) s n) (put-none out (v .at));
+      }
+
+  -- a byte below the letters that is no mark is a break
+  break-byte : classOf (getD m i 0) < 4 → (classOf (getD m i 0) ≡ 1 → ⊥) → isBreak (getD m i 0) ≡ true
+  break-byte low n =
+      let c = classOf (getD m i 0) in
+      let z = ready .steady .named i (ready .within) in
+      let a : 2 ≤ c = omega arith in
+      by-class (getD m i 0) (ready .steady .bytes i) .break ∙ rw (le-leb 2 c a, le-leb c 3 (omega arith))
+
+  -- an incomplete syllable's name finds room there
+  pub break-room : classOf (getD m i 0) < 4 → (classOf (getD m i 0) ≡ 1 → ⊥) → length (incomplete (leftAt m i .p)) ≤ v .at
+  break-room low n = rw (piece-break m (ready .steady) i (ready .within) (break-byte low n)) at (ready .room)
+
+  -- it puts that name, and before it another word ends
+  pub named-break : {out′ : List ℕ} {r : ℕ} {marked : Bool} → classOf (getD m i 0) < 4 → (classOf (getD m i 0) ≡ 1 → ⊥)
+      → Put (incomplete (leftAt m i .p)) out out′ (v .at) r → marked ≡ markBefore m i
+      → Named m out out′ i v (record { at = r; ahead = false; mark = false; marked = marked })
+  unfolding nextStressed
+  named-break low n p e =
+      let s = break-byte low n in
+      let k = by-class (getD m i 0) (ready .steady .bytes i) .mark ∙ ne-eqb (classOf (getD m i 0)) 1 n in
+      record {
+        stands = record {
+          ahead = rw (word-break m (ready .steady) i (ready .within) s);
+          mark = sym (begins-at m i ∙ k);
+          marked = e ∙ sym (marked-break m (ready .steady) i (ready .within) s);
+        };
+        put = rw (piece-break m (ready .steady) i (ready .within) s) p;
+      }
+
+-- the walk stands at place i: the names from there on are in the output
+pub record Naming (m out₀ out : List ℕ) (n i : ℕ) (v : Vowels) : Type 0 where
+  pub steady : Steady m
+  pub total : n ≡ length (names m)
+  pub within : i ≤ length m
+  pub stands : VowelsStand m i v
+  pub filled : Filled (namesAt m i) out₀ out n (v .at)
+
+module _ {m : List ℕ} (steady : Steady m) where
+  -- there is room for an incomplete syllable's name at the end
+  pub end-room : {n : ℕ} → n ≡ length (names m) → length (incomplete (leftAt m (length m) .p)) ≤ n
+  end-room total = omega (arith, names-from m steady (length m) (omega arith), ap length (names-end m steady))
+
+  -- where the walk begins
+  pub naming-none : {out₀ out : List ℕ} {n at : ℕ} {marked : Bool} → n ≡ length (names m) → n ≤ length out₀
+      → Put (incomplete (leftAt m (length m) .p)) out₀ out n at → marked ≡ markBefore m (length m)
+      → Naming m out out n (length m) (record { at = at; ahead = false; mark = false; marked = marked })
+  unfolding nextStressed beginsWithMark
+  naming-none total room p e =
+      record {
+        steady = steady;
+        total = total;
+        within = omega arith;
+        stands = record {
+          ahead = rw (word-end m steady);
+          mark = rw (drop-length m);
+          marked = e ∙ sym (marked-end m steady);
+        };
+        filled = rw (names-end m steady) (filled-first room p);
+      }
+
+-- a place that is not the first has one before it
+pub naming-before : {m out₀ out : List ℕ} {n i : ℕ} {v : Vowels} → 0 < i → Naming m out₀ out n i v → Naming m out₀ out n (suc (i - 1)) v
+naming-before {i = i} z s = let e : suc (i - 1) ≡ i = omega arith in rw e s
+
+module _ {m out₀ out : List ℕ} {n i : ℕ} {v : Vowels} (at : Naming m out₀ out n (suc i) v) where
+  -- a step can be taken
+  pub naming-ready : NameReady m out i v
+  naming-ready =
+      record {
+        within = omega (arith, at .within);
+        steady = at .steady;
+        stands = at .stands;
+        room = omega (arith, name-room m (at .steady) i (omega (arith, at .within)), at .filled .place, at .total);
+        place = filled-within (at .filled);
+      }
+
+  -- and after it the walk stands at the place before
+  pub naming-more : {out′ : List ℕ} {q : Vowels} → Named m out out′ i v q → Naming m out₀ out′ n i q
+  naming-more s =
+      record {
+        steady = at .steady;
+        total = at .total;
+        within = omega (arith, at .within);
+        stands = s .stands;
+        filled = rw (name-step m (at .steady) i (omega (arith, at .within))) (filled-more (at .filled) (s .put));
+      }
+
+-- at the first place all names are in the output, whose rest is as it was before the walk's first codes
+pub naming-all : {m codes out out₀ out′ : List ℕ} {n at : ℕ} {v : Vowels} → n ≤ length out → Put codes out out₀ n at → Naming m out₀ out′ n 0 v
+    → out′ ≡ names m ++ drop n out
+naming-all {m} room p s = rw (put-rest room p) at (filled-all (s .total) (rw (names-start m (s .steady)) at (s .filled)))

@@ -1,0 +1,37 @@
+-- Codes put right before a place of the lent output: what was put before other codes and those codes together were put before the place of the latter.
+-- Assumes nothing.
+use Prim.Native.Nat.{ℕ, suc, _-_, _<_, _≤_}
+use native.Mathlib.Omega.{arith}
+use mathlib.Core.Path.{_≡_, sym, ap, _∙_}
+use mathlib.Core.List.{List, [], _∷_, _++_, append-assoc}
+use lib.ListN.{length, take, drop, set, take-append-drop, length-append, length-take, length-drop}
+use lib.Seq.{length-take-le, take-append-le, take-take, drop-at, set-split}
+use Rattle.transcriber.specs.Walk.{Put}
+
+-- nothing put leaves the output as it is
+pub put-none : (out : List ℕ) (at : ℕ) → Put [] out out at at
+put-none out at = record { place = omega arith; bytes = sym (take-append-drop at out) }
+
+-- a byte stored right before a place is a code put there
+pub put-one : (out : List ℕ) (at code : ℕ) → 0 < at → at ≤ length out → Put (code ∷ []) out (set out (at - 1) code) at (at - 1)
+put-one out at code z h =
+    let e : suc (at - 1) ≡ at = omega arith in
+    record { place = omega arith; bytes = rw (set-split out (at - 1) code (omega arith), e) }
+
+-- codes put before others that were put
+pub put-over : (codes more out out₁ out₂ : List ℕ) (at a b : ℕ) → at ≤ length out → Put codes out out₁ at a → Put more out₁ out₂ a b → Put (more ++ codes) out out₂ at b
+put-over codes more out out₁ out₂ at a b h p q =
+    let l = length-take-le a out (omega (arith, p .place)) in
+    let t = take-append-le b (take a out) (codes ++ drop at out) (omega (arith, q .place)) in
+    let u = take-take b a out (omega (arith, q .place)) in
+    let d = drop-at (take a out) (codes ++ drop at out) a l in
+    record {
+      place = omega (arith, length-append more codes, p .place, q .place);
+      bytes = q .bytes ∙ rw (p .bytes, t, u, d, append-assoc more codes (drop at out));
+    }
+
+-- the output is as long as it was
+pub put-length : (codes out out′ : List ℕ) (at r : ℕ) → at ≤ length out → Put codes out out′ at r → length out′ ≡ length out
+put-length codes out out′ at r h p =
+    let e = simp (length-append, length-take, length-drop) at (ap length (p .bytes)) in
+    omega (arith, e, p .place)

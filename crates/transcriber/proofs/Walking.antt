@@ -1,0 +1,311 @@
+-- The walk from the right, one byte at a time: what a break, a mark and a letter put on the tape, and what then stands right of their place.
+-- Assumes nothing.
+use Prim.Native.Nat.{ℕ, suc, _<_, _≤_}
+use native.Mathlib.Omega.{arith}
+use mathlib.Core.Path.{_≡_, refl, sym, ap, _∙_}
+use mathlib.Core.Bool.{Bool, true, false, cond, _&&_, not, true≢false, false≢true}
+use mathlib.Core.List.{List, [], _∷_, _++_, map}
+use lib.Dec.{eqb}
+use lib.ListN.{length, getD}
+use borrow.Author.Tests.{eqb-true, le-leb}
+use Rattle.message.specs.Letters.{between, small, firstByte, isBreak, isGap, isMark}
+use Rattle.message.specs.Codes.{J, markOf, isVoicing, isDevoicing}
+use Rattle.message.specs.Elision.{elides}
+use Rattle.message.specs.Syllables.{nextStressed, syllableOf}
+use Rattle.message.specs.Vowels.{vowelSound, softens}
+use Rattle.message.specs.Voicing.{Tone, voiced, voiceless, asWritten, toneBefore}
+use Rattle.message.specs.Refusals.{vowelByte, signByte, consonantByte}
+use Rattle.message.specs.Scan.{classOf, isVowelClass, elidedAt}
+use Rattle.message.specs.Fused.{vowelCodes, consonantCode, letterCodes}
+use Rattle.message.specs.Places.{Steady, leftAt, letterOf, markBefore, markedAt, tapeAt, wordAt, toneAt, soundAt, codesAt, toneAfter, soundAfter}
+use Rattle.message.specs.declared.Cover.{Cover}
+use Rattle.message.specs.declared.Syllable.{Syllable}
+use Rattle.message.proofs.Bytes.{below, below-same, by-class, not-both}
+use Rattle.message.proofs.Computed.{everything}
+use Rattle.message.proofs.Left.{begins-at, mark-within}
+use Rattle.message.proofs.ScanTable.{class-spoken}
+use Rattle.message.proofs.Silent.{elided-at}
+use Rattle.message.proofs.Tail.{tape-letter, tape-mark, tape-break, word-letter, word-mark, word-break, marked-within, marked-break, tone-letter, sound-letter, tone-mark, sound-mark, tone-break, sound-break}
+use Rattle.transcriber.specs.Sounds.{classBefore, Sounds, afterClass, syllableBy, glideBy, hardBefore, toneNo, toneBy, gapTone}
+use Rattle.transcriber.specs.Walk.{Put, pieceAt, Ready, Stepped}
+use Rattle.transcriber.specs.declared.Right.{Right}
+use Rattle.transcriber.proofs.Putting.{put-none}
+use Rattle.transcriber.proofs.Raw.{after-raw, hard-raw, syllable-raw, glide-raw, vowel-tone}
+
+-- a tone is told by its number
+pub tone-by : (t : Tone) → toneBy (toneNo t) ≡ t
+unfolding toneBy toneNo
+tone-by voiced = refl
+tone-by voiceless = refl
+tone-by asWritten = refl
+
+-- a number between two others
+pub between-true : (lo hi c : ℕ) → lo ≤ c → c ≤ hi → between lo hi c ≡ true
+between-true lo hi c h l = rw (le-leb lo c h, le-leb c hi l)
+
+-- before a gap a word's last obstruent is voiced by a sound of tone 1, and else voiceless
+pub gap-tone : (c : ℕ) → gapTone c ≡ cond (eqb (toneNo (toneBefore c)) 1) 1 2
+unfolding gapTone toneNo toneBefore
+gap-tone c = by (isVoicing c) (isDevoicing c)
+  where
+    by : (v d : Bool) → toneNo (cond v voiced voiceless) ≡ cond (eqb (toneNo (cond v voiced (cond d voiceless asWritten))) 1) 1 2
+    by true d = refl
+    by false true = refl
+    by false false = refl
+
+-- two functions that agree on the bytes that pass a test agree at each of them
+where-same : {A : Type 0} (t : ℕ → Bool) (f g : ℕ → A) (d : A) (b : ℕ) → map (λ x. cond (t x) (f x) d) (below 256) ≡ map (λ x. cond (t x) (g x) d) (below 256)
+    → b < 256 → t b ≡ true → f b ≡ g b
+where-same t f g d b e h k = rw k at (below-same (λ x. cond (t x) (f x) d) (λ x. cond (t x) (g x) d) 256 b e h)
+
+-- a consonant does not soften the letter before it
+pub consonant-softens : (b : ℕ) → b < 256 → consonantByte b ≡ true → softens (small b) ≡ false
+unfolding everything
+consonant-softens b = not-both consonantByte (λ x. softens (small x)) b refl
+
+-- of the signs only ь does
+pub sign-softens : (b : ℕ) → b < 256 → signByte b ≡ true → softens (small b) ≡ eqb (classOf b) 5
+unfolding everything
+sign-softens b = where-same signByte (λ x. softens (small x)) (λ x. eqb (classOf x) 5) true b refl
+
+-- and of the vowels those of classes 11 and 12
+pub vowel-softens : (b : ℕ) → b < 256 → vowelByte b ≡ true → softens (small b) ≡ not (eqb (classOf b) 10)
+unfolding everything
+vowel-softens b = where-same vowelByte (λ x. softens (small x)) (λ x. not (eqb (classOf x) 10)) true b refl
+
+-- no letter softens nothing
+pub none-softens : softens (firstByte []) ≡ false
+unfolding everything
+none-softens = refl
+
+-- a break is no mark
+break-mark : (b : ℕ) → b < 256 → isBreak b ≡ true → isMark b ≡ false
+unfolding everything
+break-mark b = not-both isBreak isMark b refl
+
+-- a break's mark is told by its class
+break-code : (b : ℕ) → b < 256 → isBreak b ≡ true → markOf b ≡ cond (eqb (classOf b) 3) 63 0
+unfolding everything
+break-code b = where-same isBreak markOf (λ x. cond (eqb (classOf x) 3) 63 0) 0 b refl
+
+-- and whether it is a gap
+break-gap : (b : ℕ) → b < 256 → isBreak b ≡ true → isGap b ≡ not (eqb (classOf b) 3)
+unfolding everything
+break-gap b = where-same isBreak isGap (λ x. not (eqb (classOf x) 3)) true b refl
+
+-- how an obstruent sounds before it
+break-tone : (pause : Bool) (c : ℕ) → toneNo (cond (not pause && isVoicing c) voiced voiceless) ≡ cond pause 2 (gapTone c)
+unfolding toneNo gapTone
+break-tone true c = refl
+break-tone false c = refl
+
+-- what is known of the byte of a letter: it is no break and no mark, but a sign or not, a vowel or not
+pub record Spelt (b : ℕ) (sign vowel : Bool) : Type 0 where
+  pub break : isBreak b ≡ false
+  pub mark : isMark b ≡ false
+  pub sounds : signByte b ≡ sign
+  pub sings : vowelByte b ≡ vowel
+
+-- of a sign
+pub spelt-sign : (b : ℕ) → b < 256 → signByte b ≡ true → Spelt b true false
+unfolding everything
+spelt-sign b h e =
+    record { break = not-both signByte isBreak b refl h e; mark = not-both signByte isMark b refl h e; sounds = e; sings = not-both signByte vowelByte b refl h e }
+
+-- of a consonant
+pub spelt-consonant : (b : ℕ) → b < 256 → consonantByte b ≡ true → Spelt b false false
+unfolding everything
+spelt-consonant b h e =
+    record {
+      break = not-both consonantByte isBreak b refl h e;
+      mark = not-both consonantByte isMark b refl h e;
+      sounds = not-both consonantByte signByte b refl h e;
+      sings = not-both consonantByte vowelByte b refl h e;
+    }
+
+-- of a vowel
+pub spelt-vowel : (b : ℕ) → b < 256 → vowelByte b ≡ true → Spelt b false true
+unfolding everything
+spelt-vowel b h e =
+    record { break = not-both vowelByte isBreak b refl h e; mark = not-both vowelByte isMark b refl h e; sounds = not-both vowelByte signByte b refl h e; sings = e }
+
+module _ (m : List ℕ) (steady : Steady m) (i : ℕ) (h : i < length m) where
+  -- each byte's piece stands before the rest's tape
+  pub piece-step : tapeAt m i ≡ pieceAt m i ++ tapeAt m (suc i)
+  unfolding pieceAt
+  piece-step = by (isBreak (getD m i 0)) refl (isMark (getD m i 0)) refl
+    where
+      by : (s : Bool) → isBreak (getD m i 0) ≡ s → (k : Bool) → isMark (getD m i 0) ≡ k → tapeAt m i ≡ cond s (markOf (getD m i 0) ∷ []) (cond k [] (codesAt m i)) ++ tapeAt m (suc i)
+      by true s k e = tape-break m steady i h s
+      by false s true e = tape-mark m steady i h e
+      by false s false e = tape-letter m steady i h s e
+
+  -- a silent letter puts nothing
+  pub codes-silent : {s v : Bool} → Spelt (getD m i 0) s v → elidedAt m i ≡ true → codesAt m i ≡ []
+  unfolding codesAt letterCodes letterOf
+  codes-silent p e = rw (elided-at m steady i h (p .break) (p .mark), e)
+
+  -- nor does a sign
+  pub codes-sign : {v : Bool} → Spelt (getD m i 0) true v → codesAt m i ≡ []
+  unfolding codesAt letterCodes letterOf signByte
+  codes-sign p = rw (p .sounds) (by (elides (leftAt m i .p) (small (getD m i 0)) (wordAt m (suc i))))
+    where
+      by : (t : Bool) → cond {A = List ℕ} t [] [] ≡ []
+      by true = refl
+      by false = refl
+
+  -- a consonant that is heard puts its code
+  pub codes-consonant : Spelt (getD m i 0) false false → elidedAt m i ≡ false
+      → codesAt m i ≡ consonantCode (small (getD m i 0)) (softens (firstByte (wordAt m (suc i)))) (toneAt m (suc i)) (soundAt m (suc i)) ∷ []
+  unfolding codesAt letterCodes letterOf signByte vowelByte
+  codes-consonant p e = rw (elided-at m steady i h (p .break) (p .mark), e, p .sounds, p .sings)
+
+  -- a vowel its sound, and the glide before it where it has one
+  pub codes-vowel : Spelt (getD m i 0) false true → elidedAt m i ≡ false
+      → codesAt m i ≡ vowelCodes (leftAt m i .hard) (leftAt m i .p) (small (getD m i 0)) (syllableOf (markedAt m i) (leftAt m i .p) (letterOf m i) (wordAt m (suc i)))
+  unfolding codesAt letterCodes letterOf signByte vowelByte
+  codes-vowel p e = rw (elided-at m steady i h (p .break) (p .mark), e, p .sounds, p .sings)
+
+module _ (m out : List ℕ) (i : ℕ) (r : Right) (a : Ready m out i r) where
+  -- there is room for a letter's codes
+  pub letter-room : {s v : Bool} (codes : List ℕ) → Spelt (getD m i 0) s v → codesAt m i ≡ codes → length codes ≤ r .at
+  unfolding pieceAt
+  letter-room codes p e = rw (p .break, p .mark, e) at (a .room)
+
+  -- and for a break's mark
+  pub break-room : isBreak (getD m i 0) ≡ true → 0 < r .at
+  unfolding pieceAt
+  break-room b = rw b at (a .room)
+
+  -- a letter has put its codes, and left of it stands the same word with these sounds and this letter first
+  pub letter-steps : {s v : Bool} (out′ codes : List ℕ) (at tone sound : ℕ) (soft ahead : Bool) → Spelt (getD m i 0) s v → codesAt m i ≡ codes
+      → tone ≡ toneNo (toneAfter codes (toneAt m (suc i))) → sound ≡ soundAfter codes (soundAt m (suc i)) → soft ≡ softens (small (getD m i 0)) → ahead ≡ cond v (r .mark) (r .ahead)
+      → Put codes out out′ (r .at) at
+      → Stepped m out out′ i r (record { at = at; tone = tone; sound = sound; soft = soft; ahead = ahead; mark = false; marked = r .marked })
+  unfolding pieceAt firstByte nextStressed letterOf vowelByte
+  letter-steps out′ codes at tone sound soft ahead p e t c s x q =
+      let y = a .steady in
+      let h = a .within in
+      let w = word-letter m y i h (p .break) (p .mark) in
+      record {
+        stands = record {
+          tone = rw (tone-letter m y i h (p .break) (p .mark), e) t;
+          sound = rw (sound-letter m y i h (p .break) (p .mark), e) c;
+          soft = rw w s;
+          ahead = rw (w, p .sings, ← a .stands .mark, ← a .stands .ahead) x;
+          mark = rw (begins-at m i, p .mark);
+          marked = a .stands .marked ∙ sym (marked-within m y i h (p .break));
+        };
+        put = rw (p .break, p .mark, e) q;
+      }
+
+  -- a letter that is not heard puts nothing
+  pub silent-steps : {s : Bool} (soft : Bool) → Spelt (getD m i 0) s false → codesAt m i ≡ [] → soft ≡ softens (small (getD m i 0))
+      → Stepped m out out i r (record { at = r .at; tone = r .tone; sound = r .sound; soft = soft; ahead = r .ahead; mark = false; marked = r .marked })
+  silent-steps soft p e s = letter-steps out [] (r .at) (r .tone) (r .sound) soft (r .ahead) p e (a .stands .tone) (a .stands .sound) s refl (put-none out (r .at))
+
+  -- nor does a mark, which is seen by the letter before it
+  pub mark-steps : isMark (getD m i 0) ≡ true
+      → Stepped m out out i r (record { at = r .at; tone = r .tone; sound = r .sound; soft = r .soft; ahead = r .ahead; mark = true; marked = r .marked })
+  unfolding pieceAt
+  mark-steps k =
+      let y = a .steady in
+      let h = a .within in
+      let b = mark-within (getD m i 0) k in
+      let w = word-mark m y i h k in
+      record {
+        stands = record {
+          tone = rw (tone-mark m y i h k) (a .stands .tone);
+          sound = rw (sound-mark m y i h k) (a .stands .sound);
+          soft = rw w (a .stands .soft);
+          ahead = rw w (a .stands .ahead);
+          mark = rw (begins-at m i, k);
+          marked = a .stands .marked ∙ sym (marked-within m y i h b);
+        };
+        put = rw (b, k) (put-none out (r .at));
+      }
+
+  -- a break has put its mark, and left of it stands another word
+  pub break-steps : (out′ : List ℕ) (at tone : ℕ) (marked pause : Bool) → isBreak (getD m i 0) ≡ true → eqb (classOf (getD m i 0)) 3 ≡ pause
+      → tone ≡ cond pause 2 (gapTone (r .sound)) → marked ≡ markBefore m i → Put (cond pause 63 0 ∷ []) out out′ (r .at) at
+      → Stepped m out out′ i r (record { at = at; tone = tone; sound = 0; soft = false; ahead = false; mark = false; marked = marked })
+  unfolding pieceAt nextStressed
+  break-steps out′ at tone marked pause b k t e q =
+      let y = a .steady in
+      let h = a .within in
+      let w = word-break m y i h b in
+      record {
+        stands = record {
+          tone = rw (tone-break m y i h b, break-gap (getD m i 0) (y .bytes i) b, k, break-tone pause (soundAt m (suc i)), ← a .stands .sound) t;
+          sound = sym (sound-break m y i h b);
+          soft = rw (w, none-softens);
+          ahead = rw w;
+          mark = rw (begins-at m i, break-mark (getD m i 0) (y .bytes i) b);
+          marked = e ∙ sym (marked-break m y i h b);
+        };
+        put = rw (b, break-code (getD m i 0) (y .bytes i) b, k) q;
+      }
+
+  -- a consonant that is heard has the code that was found
+  pub consonant-codes : (code : ℕ) → consonantByte (getD m i 0) ≡ true → elidedAt m i ≡ false
+      → code ≡ consonantCode (small (getD m i 0)) (r .soft) (toneBy (r .tone)) (r .sound) → codesAt m i ≡ code ∷ []
+  consonant-codes code k e c =
+      codes-consonant m (a .steady) i (a .within) (spelt-consonant (getD m i 0) (a .steady .bytes i) k) e
+      ∙ rw (c, a .stands .soft, a .stands .tone, tone-by (toneAt m (suc i)), a .stands .sound)
+
+-- what is found of a vowel: its byte's, the class before it, its syllable, the boundary, and its sound
+pub record Sung (m : List ℕ) (i : ℕ) (r : Right) (k vowel : ℕ) (hard : Bool) (s : Syllable) : Type 0 where
+  pub letter : vowelByte (getD m i 0) ≡ true
+  pub before : k ≡ classBefore m i
+  pub syllable : s ≡ syllableBy k (r .mark) (r .ahead) (r .marked)
+  pub boundary : hard ≡ hardBefore m i
+  pub sound : Sounds hard (afterClass k) (s .level) (small (getD m i 0)) vowel
+
+-- the glide leaves an obstruent before it as written
+pub glide-tone : toneNo (toneBefore J) ≡ 0
+unfolding everything toneNo
+glide-tone = refl
+
+-- only a softening vowel has one
+pub glide-softens : (c k : ℕ) (cover : Cover) → glideBy c cover k ≡ true → not (eqb c 10) ≡ true
+unfolding glideBy
+glide-softens c k cover g = by (eqb c 10) refl
+  where
+    by : (t : Bool) → eqb c 10 ≡ t → not t ≡ true
+    by true e = absurd (false≢true (rw (eqb-true c 10 e) at g))
+    by false e = refl
+
+module _ (m out : List ℕ) (i : ℕ) (r : Right) (a : Ready m out i r) (k vowel : ℕ) (hard : Bool) (s : Syllable) (f : Sung m i r k vowel hard s) where
+  -- the sound is the vowel's in its word
+  sung-sound : vowel ≡ vowelSound (leftAt m i .hard) (leftAt m i .p) (s .level) (small (getD m i 0))
+  sung-sound =
+      rw (hard-raw m (a .steady) i (omega (arith, a .within)), ← f .boundary)
+      (f .sound (leftAt m i .p) (after-raw m (a .steady) i (omega (arith, a .within)) ∙ ap afterClass (sym (f .before))))
+
+  -- so is the syllable
+  sung-syllable : syllableOf (markedAt m i) (leftAt m i .p) (letterOf m i) (wordAt m (suc i)) ≡ s
+  sung-syllable =
+      rw (syllable-raw m (a .steady) i (a .within), f .syllable, f .before, a .stands .mark, a .stands .ahead, a .stands .marked, begins-at m (suc i), ← marked-within m (a .steady) i (a .within) (spelt-vowel (getD m i 0) (a .steady .bytes i) (f .letter) .break))
+
+  -- it leaves an obstruent before it as written
+  pub sung-tone : toneNo (toneBefore vowel) ≡ 0
+  unfolding toneNo
+  sung-tone = rw (sung-sound, vowel-tone (leftAt m i .hard) (leftAt m i .p) (s .level) (small (getD m i 0)))
+
+  -- and its codes are the sound, and the glide before it where it has one
+  pub sung-codes : codesAt m i ≡ cond (glideBy (classOf (getD m i 0)) (s .cover) k) (J ∷ vowel ∷ []) (vowel ∷ [])
+  unfolding vowelCodes
+  sung-codes =
+      let b = getD m i 0 in
+      let t = a .steady .bytes i in
+      let e = class-spoken m i t (λ e. true≢false (sym (f .letter) ∙ by-class b t .vowel ∙ ap isVowelClass e)) in
+      codes-vowel m (a .steady) i (a .within) (spelt-vowel b t (f .letter)) e
+      ∙ rw (sung-syllable, glide-raw m (a .steady) i (a .within) (f .letter) (s .cover), ← f .before, ← sung-sound)
+
+  -- there is room for the sound
+  pub sung-room : 0 < r .at
+  sung-room = omega (arith, letter-room m out i r a _ (spelt-vowel (getD m i 0) (a .steady .bytes i) (f .letter)) sung-codes, by (glideBy (classOf (getD m i 0)) (s .cover) k))
+    where
+      by : (t : Bool) → 0 < length (cond t (J ∷ vowel ∷ []) (vowel ∷ []))
+      by true = omega arith
+      by false = omega arith

@@ -1,0 +1,78 @@
+-- A message that the check accepts has as many names as the check counted, and all of them are put where there is room.
+-- Assumes nothing.
+use mathlib.Core.Path.{_≡_, sym, _∙_}
+use native.Mathlib.Omega.{arith}
+use borrow.Author.Needs.{needs}
+use lib.ListN.{length}
+use Rattle.message.specs.Refusals.{checkOf}
+use Rattle.message.specs.Tape.{names}
+use Rattle.message.specs.Answers.{nameAnswer}
+use Rattle.message.specs.declared.Checked.the-variants.{Accepted}
+use Rattle.message.proofs.Accepted.{accepted-steady, accepted-counts}
+use Rattle.transcriber.proofs.Output.{answered-refused, answered-short, answered-written}
+use Rattle.transcriber.proofs.naming.name.Statement.{statement}
+use Rattle.transcriber.proofs.naming.name.Tie as tie
+
+-- the message is accepted with the counts that were read
+accepted : (c : tie.After-checked) → checkOf (c .before .before .before .before .before .args .m .now) ≡ Accepted (c .checked .given .0 .0)
+accepted c = sym (c .before .before .check .ensures) ∙ c .checked .given .1
+
+-- so its names are counted
+counted : (c : tie.After-checked) → c .checked .given .0 .0 .names ≡ length (names (c .before .before .before .before .before .args .m .now))
+counted c = accepted-counts (c .before .before .before .before .before .args .m .now) (c .checked .given .0 .0) (accepted c) .1
+
+check-requires : tie.Need-check-requires
+check-requires c κs = search needs
+
+enum-known-checked : tie.Need-enum-known-checked
+enum-known-checked c = search needs
+
+enum-told : tie.Need-enum-told
+enum-told c = search needs
+
+refused-requires : tie.Need-refused-requires
+refused-requires c κs = search needs
+
+returns : tie.Need-returns
+unfolding nameAnswer
+returns c =
+    let k = c .before .before .before in
+    answered-refused _ _ _ _ (sym (k .check .ensures) ∙ c .before .enum-told .given .1) (rw (k .check .ensures) at (c .refused .ensures))
+
+returns-2 : tie.Need-returns-2
+unfolding nameAnswer
+returns-2 c =
+    let k = c .before .before in
+    let e = counted k in
+    rw e (answered-short _ _ _ _ (accepted k) (rw e at (c .if1 .taken)))
+
+fill-names-requires : tie.Need-fill-names-requires
+fill-names-requires c κs =
+    let k = c .before .before .before in
+    let s = k .before .before .before .before .before in
+    (accepted-steady (s .args .m .now) _ (accepted k) (λ j. omega (arith, k .before .before .before .before .shared-slice-known .given j)), counted k, c .before .if1 .left)
+
+same-length : tie.Need-same-length
+same-length c = search needs
+
+returns-3 : tie.Need-returns-3
+unfolding nameAnswer
+returns-3 c =
+    let f = c .before .before in
+    let k = f .before .before .before .before in
+    let e = counted k in
+    rw e (answered-written _ _ _ _ (accepted k) (rw e at (f .before .before .if1 .left)) (rw e at (f .fill-names .ensures)))
+
+pub name-spec : {M : Type 1} → statement M
+name-spec =
+    tie.close
+    (tie.spec
+    check-requires
+    enum-known-checked
+    enum-told
+    refused-requires
+    returns
+    returns-2
+    fill-names-requires
+    same-length
+    returns-3)

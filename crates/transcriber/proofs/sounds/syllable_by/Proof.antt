@@ -1,0 +1,19 @@
+-- The cover and the level are the definition's.
+-- Assumes nothing.
+use Rattle.transcriber.specs.Sounds.{syllableBy}
+use borrow.Author.Needs.{needs}
+use Rattle.transcriber.proofs.sounds.syllable_by.Statement.{statement}
+use Rattle.transcriber.proofs.sounds.syllable_by.Tie as tie
+
+cover-class-requires : tie.Need-cover-class-requires
+cover-class-requires c κs = search needs
+
+level-by-requires : tie.Need-level-by-requires
+level-by-requires c κs = search needs
+
+returns : tie.Need-returns
+unfolding syllableBy
+returns c = rw (c .before .cover-class .ensures, c .level-by .ensures)
+
+pub syllable-by-spec : {M : Type 1} → statement M
+syllable-by-spec = tie.close (tie.spec cover-class-requires level-by-requires returns)

@@ -1,0 +1,155 @@
+-- The row's sound is the vowel's, and the glide stands before it where the passes put one.
+-- Assumes nothing.
+use mathlib.Core.Path.{_≡_, refl, sym, ap, _∙_}
+use mathlib.Core.Bool.{true, false, cond, not}
+use lib.Dec.{eqb}
+use mathlib.Core.List.{[], _∷_}
+use native.Mathlib.Omega.{arith}
+use lib.ListN.{getD}
+use borrow.Author.Needs.{needs}
+use Rattle.message.specs.Codes.{J}
+use Rattle.message.specs.Refusals.{vowelByte}
+use Rattle.message.specs.Scan.{classOf, isVowelClass}
+use Rattle.message.specs.Places.{codesAt}
+use Rattle.message.proofs.Bytes.{by-class}
+use Rattle.transcriber.specs.Sounds.{glideBy}
+use Rattle.transcriber.proofs.Putting.{put-over, put-length}
+use Rattle.transcriber.proofs.Walking.{Spelt, spelt-vowel, vowel-softens, glide-tone, glide-softens, Sung, sung-tone, sung-codes, sung-room, letter-room, letter-steps}
+use Rattle.transcriber.proofs.tape.put_vowel.Statement.{statement}
+use Rattle.transcriber.proofs.tape.put_vowel.Tie as tie
+
+-- the byte is a vowel
+sings : (s : tie.Start) → vowelByte (getD (s .args .m .now) (s .args .i) 0) ≡ true
+sings s = by-class (getD (s .args .m .now) (s .args .i) 0) (s .pre .3 .steady .bytes (s .args .i)) .vowel ∙ ap isVowelClass (sym (s .pre .1)) ∙ s .pre .2
+
+-- so it is no break, no mark and no sign
+spelt : (s : tie.Start) → Spelt (getD (s .args .m .now) (s .args .i) 0) false true
+spelt s = spelt-vowel (getD (s .args .m .now) (s .args .i) 0) (s .pre .3 .steady .bytes (s .args .i)) (sings s)
+
+-- what was found of it
+sung : (c : tie.After-vowel-sound)
+    → let h = c .before .before .before .before in
+    let s = h .before .before .before .before .before in
+    Sung (s .args .m .now) (s .args .i) (s .args .r) (h .before .before .class-before .result) (c .vowel-sound .result) (h .hard-before .result) (h .before .syllable-by .result)
+sung c =
+    let h = c .before .before .before .before in
+    let s = h .before .before .before .before .before in
+    record {
+      letter = sings s;
+      before = h .before .before .class-before .ensures;
+      syllable = h .before .syllable-by .ensures;
+      boundary = h .hard-before .ensures;
+      sound = rw (c .before .before .small-letter .ensures, c .before .after-class .ensures) at (c .vowel-sound .ensures);
+    }
+
+-- whether it has a glide
+glide-by : (c : tie.After-has-glide)
+    → let h = c .before .before .before .before .before .before .before .before .before in
+    let s = h .before .before .before .before .before in
+    glideBy (classOf (getD (s .args .m .now) (s .args .i) 0)) (h .before .syllable-by .result .cover) (h .before .before .class-before .result) ≡ c .has-glide .result
+glide-by c = rw (← c .before .before .before .before .before .before .before .before .before .before .before .before .before .before .pre .1) (sym (c .has-glide .ensures))
+
+-- its codes then
+codes-put : (c : tie.After-has-glide)
+    → let v = c .before .before .before .before .before in
+    let s = v .before .before .before .before .before .before .before .before .before in
+    codesAt (s .args .m .now) (s .args .i) ≡ cond (c .has-glide .result) (J ∷ v .vowel-sound .result ∷ []) (v .vowel-sound .result ∷ [])
+codes-put c =
+    let v = c .before .before .before .before .before in
+    let s = v .before .before .before .before .before .before .before .before .before in
+    rw (← glide-by c) (sung-codes _ _ _ _ (s .pre .3) _ _ _ _ (sung v))
+
+class-before-requires : tie.Need-class-before-requires
+class-before-requires c κs = search needs
+
+syllable-by-requires : tie.Need-syllable-by-requires
+syllable-by-requires c κs = search needs
+
+hard-before-requires : tie.Need-hard-before-requires
+hard-before-requires c κs = search needs
+
+shared-slice-read-small-letter : tie.Need-shared-slice-read-small-letter
+shared-slice-read-small-letter c = search needs
+
+small-letter-requires : tie.Need-small-letter-requires
+small-letter-requires c κs = search needs
+
+after-class-requires : tie.Need-after-class-requires
+after-class-requires c κs = search needs
+
+vowel-sound-requires : tie.Need-vowel-sound-requires
+unfolding vowelByte
+vowel-sound-requires c κs = rw (c .before .small-letter .ensures) (sings (c .before .before .before .before .before .before .before .before))
+
+put-requires : tie.Need-put-requires
+put-requires c κs =
+    let v = c .before in
+    let s = v .before .before .before .before .before .before .before .before .before in
+    (sung-room _ _ _ _ (s .pre .3) _ _ _ _ (sung v), s .pre .3 .place)
+
+has-glide-requires : tie.Need-has-glide-requires
+has-glide-requires c κs = search needs
+
+put-requires-2 : tie.Need-put-requires-2
+put-requires-2 c κs =
+    let g = c .before .before in
+    let p = g .before .before .before in
+    let v = p .before .before in
+    let s = v .before .before .before .before .before .before .before .before .before in
+    let l = letter-room _ _ _ _ (s .pre .3) (J ∷ v .vowel-sound .result ∷ []) (spelt s) (rw (c .before .if1 .taken) at (codes-put g)) in
+    let n = put-length _ _ _ _ _ (s .pre .3 .place) (p .put .ensures) in
+    (omega (arith, l, p .put .ensures .place), omega (arith, n, p .put .ensures .place, s .pre .3 .place))
+
+same-length : tie.Need-same-length
+same-length c = search needs
+
+returns : tie.Need-returns
+returns c =
+    let q = c .before .before in
+    let t = q .before .before in
+    let g = t .before in
+    let p = g .before .before .before in
+    let v = p .before .before in
+    let h = v .before .before .before .before in
+    let s = h .before .before .before .before .before in
+    let b = getD (s .args .m .now) (s .args .i) 0 in
+    let o = glide-softens (classOf b) (h .before .before .class-before .result) (h .before .syllable-by .result .cover) (glide-by g ∙ t .if1 .taken) in
+    letter-steps _ _ _ _ (s .pre .3) (q .put2 .last .0) (J ∷ v .vowel-sound .result ∷ []) (q .put2 .result) 0 J true (s .args .r .mark) (spelt s) (rw (t .if1 .taken) at (codes-put g))
+    (sym glide-tone) refl (sym (vowel-softens b (s .pre .3 .steady .bytes (s .args .i)) (sings s) ∙ o)) refl
+    (put-over (v .vowel-sound .result ∷ []) (J ∷ []) _ _ _ _ _ _ (s .pre .3 .place) (p .put .ensures) (q .put2 .ensures))
+
+cast-t24 : tie.Need-cast-t24
+cast-t24 c = search needs
+
+same-length-2 : tie.Need-same-length-2
+same-length-2 c = search needs
+
+returns-2 : tie.Need-returns-2
+returns-2 c =
+    let g = c .before in
+    let p = g .before .before .before in
+    let v = p .before .before in
+    let s = v .before .before .before .before .before .before .before .before .before in
+    let b = getD (s .args .m .now) (s .args .i) 0 in
+    letter-steps _ _ _ _ (s .pre .3) (p .put .last .0) (v .vowel-sound .result ∷ []) (p .put .result) 0 (v .vowel-sound .result) (not (eqb (s .args .c) 10)) (s .args .r .mark) (spelt s) (rw (c .if1 .left) at (codes-put g))
+    (sym (sung-tone _ _ _ _ (s .pre .3) _ _ _ _ (sung v))) refl (rw (s .pre .1) (sym (vowel-softens b (s .pre .3 .steady .bytes (s .args .i)) (sings s)))) refl (p .put .ensures)
+
+pub put-vowel-spec : {M : Type 1} → statement M
+put-vowel-spec =
+    tie.close
+    (tie.spec
+    class-before-requires
+    syllable-by-requires
+    hard-before-requires
+    shared-slice-read-small-letter
+    small-letter-requires
+    after-class-requires
+    vowel-sound-requires
+    put-requires
+    has-glide-requires
+    put-requires-2
+    same-length
+    returns
+    cast-t24
+    same-length-2
+    returns-2)

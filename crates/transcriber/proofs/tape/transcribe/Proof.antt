@@ -1,0 +1,81 @@
+-- The check's refusal is answered, then a lent output that is too short; an accepted message is steady and has as many codes as the check counted, so its tape is written.
+-- Assumes nothing.
+use mathlib.Core.Path.{_≡_, sym, _∙_}
+use native.Mathlib.Omega.{arith}
+use lib.ListN.{length}
+use borrow.Author.Needs.{needs}
+use Rattle.message.specs.Tape.{tape}
+use Rattle.message.specs.Refusals.{checkOf}
+use Rattle.message.specs.Answers.{tapeAnswer}
+use Rattle.message.specs.declared.Checked.the-variants.{Accepted}
+use Rattle.message.proofs.Accepted.{accepted-counts, accepted-steady}
+use Rattle.transcriber.proofs.Answering.{answered-refused, answered-short, answered-written}
+use Rattle.transcriber.proofs.tape.transcribe.Statement.{statement}
+use Rattle.transcriber.proofs.tape.transcribe.Tie as tie
+
+-- the message is accepted
+accepted : (c : tie.After-checked) → checkOf (c .before .before .before .before .before .args .m .now) ≡ Accepted (c .checked .given .0 .0)
+accepted c = sym (c .before .before .check .ensures) ∙ c .checked .given .1
+
+-- with as many codes as its tape
+counted : (c : tie.After-checked) → c .checked .given .0 .0 .codes ≡ length (tape (c .before .before .before .before .before .args .m .now))
+counted c = accepted-counts (c .before .before .before .before .before .args .m .now) (c .checked .given .0 .0) (accepted c) .0
+
+check-requires : tie.Need-check-requires
+check-requires c κs = search needs
+
+enum-known-checked : tie.Need-enum-known-checked
+enum-known-checked c = search needs
+
+enum-told : tie.Need-enum-told
+enum-told c = search needs
+
+refused-requires : tie.Need-refused-requires
+refused-requires c κs = search needs
+
+returns : tie.Need-returns
+unfolding tapeAnswer
+returns c =
+    let k = c .before .before .before in
+    let s = k .before .before .before in
+    rw (c .refused .ensures, k .check .ensures)
+    (answered-refused (checkOf (s .args .m .now)) _ _ _ (tape (s .args .m .now)) (s .args .out .now) (sym (k .check .ensures) ∙ c .before .enum-told .given .1))
+
+returns-2 : tie.Need-returns-2
+unfolding tapeAnswer
+returns-2 c =
+    let k = c .before .before in
+    let s = k .before .before .before .before .before in
+    answered-short (checkOf (s .args .m .now)) (k .checked .given .0 .0) (accepted k) (length (tape (s .args .m .now))) (k .checked .given .0 .0 .codes) 0 (counted k) (tape (s .args .m .now)) (s .args .out .now) (c .if1 .taken)
+
+fill-requires : tie.Need-fill-requires
+fill-requires c κs =
+    let k = c .before .before .before in
+    let s = k .before .before .before .before .before in
+    (accepted-steady (s .args .m .now) (k .checked .given .0 .0) (accepted k) (λ j. omega (arith, k .before .before .before .before .shared-slice-known .given j)), counted k, c .before .if1 .left)
+
+same-length : tie.Need-same-length
+same-length c = search needs
+
+returns-3 : tie.Need-returns-3
+unfolding tapeAnswer
+returns-3 c =
+    let f = c .before .before in
+    let k = f .before .before .before .before in
+    let s = k .before .before .before .before .before in
+    answered-written (checkOf (s .args .m .now)) (k .checked .given .0 .0) (accepted k) (length (tape (s .args .m .now))) (k .checked .given .0 .0 .codes) 0 (counted k) (tape (s .args .m .now)) (s .args .out .now)
+    (f .fill .last .1 .0) (f .before .before .if1 .left) (f .fill .ensures)
+
+pub transcribe-spec : {M : Type 1} → statement M
+transcribe-spec =
+    tie.close
+    (tie.spec
+    check-requires
+    enum-known-checked
+    enum-told
+    refused-requires
+    returns
+    returns-2
+    fill-requires
+    same-length
+    returns-3)
