@@ -30,7 +30,7 @@ enum {
 enum { FOREIGN, PLAIN_VOWEL, VOWEL_I, SOFT_VOWEL, OTHER, SZNR, TD, HARD, SOFT, STRESS, BREAK, COLUMNS = 16 };
 
 /* What the second pass does with a byte. */
-enum { CONSONANT, MAY_BE_ELIDED, SIGN, VOWEL, STRESS_MARK, WORD_BREAK };
+enum { CONSONANT, VOWEL, STRESS_MARK, SIGN, WORD_BREAK };
 
 /* What a vowel finds before it; a mark counts as the vowel that it stands after. */
 enum { INITIAL, AFTER_VOWEL, AFTER_SIGN, AFTER_Q, AFTER_T, AFTER_P, PRECEDERS };
@@ -41,15 +41,21 @@ enum { ROW_A, ROW_O, ROW_U, ROW_Y, ROW_E, ROW_IE, ROW_YO, ROW_YU, ROW_YA, ROW_I,
 /* What a sound makes of the obstruent (noise letter) before it. */
 enum { AS_WRITTEN, VOICED, VOICELESS };
 
-/* Sets of consonants that a soft sound palatalizes: the members of a group are palatalized by the same sounds. */
-enum { NONE = 0, DENTAL = 1, EN_ONLY = 2, BP = 4, VF = 8, GK = 16, KH = 32, EL_ONLY = 64, EM_ONLY = 128, ER_ONLY = 256, ALL = 511 };
+/*
+ * Groups of consonants, each palatalized by the same sounds, as bits: a consonant has its own, and what comes after it has those that
+ * it palatalizes. ELIDES is of the same kind: т and д have it, and the sounds that an elided letter may stand before.
+ */
+enum {
+    NONE = 0, DENTAL = 1, EN_ONLY = 2, BP = 4, VF = 8, GK = 16, KH = 32, EL_ONLY = 64, EM_ONLY = 128, ER_ONLY = 256, ALL = 511,
+    ELIDES = 512
+};
 
 struct symbol {
     uint8_t sound[3]; /* by the voice asked for: a consonant's hard code; what a break asks for in turn; a vowel's row is in [0] */
     uint8_t column;
     uint8_t kind;
-    uint8_t before;     /* what a vowel right after this byte finds */
-    uint16_t softening; /* of a consonant its group, of a vowel or sign the groups that it palatalizes, of a break its code */
+    uint8_t before;  /* what a vowel right after this byte finds */
+    uint16_t groups; /* of a consonant its own, of a vowel or sign those that it palatalizes; of a break its code */
 };
 
 #define CASES(letter, ...) [letter] = __VA_ARGS__, [(letter) - 0x20] = __VA_ARGS__
@@ -58,52 +64,15 @@ struct symbol {
 #define NOISE(letter, written, voiced, voiceless, before, group) \
     CASES(letter, {{written, voiced, voiceless}, OTHER, CONSONANT, before, group})
 #define NOISE_SZ(letter, written) CASES(letter, {{written, Z, S}, SZNR, CONSONANT, AFTER_P, DENTAL})
-#define NOISE_TD(letter, written) CASES(letter, {{written, D, T}, TD, MAY_BE_ELIDED, AFTER_P, DENTAL})
+#define NOISE_TD(letter, written) CASES(letter, {{written, D, T}, TD, CONSONANT, AFTER_P, DENTAL | ELIDES})
 #define SONORANT(letter, code, column, before, group) CASES(letter, {{code, code, code}, column, CONSONANT, before, group})
 
-/* clang-format off */
-static const struct symbol symbols[256] = {
-    VOWEL_1(A, ROW_A), VOWEL_1(O, ROW_O), VOWEL_1(U, ROW_U), VOWEL_1(YERU, ROW_Y), VOWEL_1(E, ROW_E),
-    VOWEL_2(IE, ROW_IE, SOFT_VOWEL), VOWEL_2(YU, ROW_YU, SOFT_VOWEL), VOWEL_2(YA, ROW_YA, SOFT_VOWEL), VOWEL_2(I, ROW_I, VOWEL_I),
-    [YO]         = {{ROW_YO}, SOFT_VOWEL, VOWEL, AFTER_VOWEL, ALL},
-    [CAPITAL_YO] = {{ROW_YO}, SOFT_VOWEL, VOWEL, AFTER_VOWEL, ALL},
-    NOISE(BE,  B,  B, P, AFTER_P, BP),      NOISE(PE,  P,  B, P, AFTER_P, BP),
-    NOISE(VE,  V,  V, F, AFTER_P, VF),      NOISE(EF,  F,  V, F, AFTER_P, VF),
-    NOISE(GHE, G,  G, K, AFTER_P, GK),      NOISE(KA,  K,  G, K, AFTER_P, GK),
-    NOISE(ZHE, ZH, ZH, SH, AFTER_T, NONE),  NOISE(SHA, SH, ZH, SH, AFTER_T, NONE),
-    NOISE_SZ(ZE, Z),                        NOISE_SZ(ES, S),
-    NOISE_TD(DE, D),                        NOISE_TD(TE, T),
-    NOISE(HA,  H,  H_VOICED,  H,  AFTER_P, KH),
-    NOISE(TSE, TS, TS_VOICED, TS, AFTER_T, NONE),
-    NOISE(CHE, CH, CH_VOICED, CH, AFTER_Q, NONE),
-    NOISE(SHCHA, SHCH, ZH_SOFT, SHCH, AFTER_Q, NONE),
-    SONORANT(EL, L, OTHER, AFTER_P, EL_ONLY), SONORANT(EM, M, OTHER, AFTER_P, EM_ONLY),
-    SONORANT(EN, N, SZNR, AFTER_P, EN_ONLY),  SONORANT(ER, R, SZNR, AFTER_P, ER_ONLY),
-    SONORANT(SHORT_I, GLIDE, OTHER, AFTER_Q, NONE),
-    CASES(HARD_SIGN, {{0}, HARD, SIGN, AFTER_SIGN, NONE}),
-    CASES(SOFT_SIGN, {{0}, SOFT, SIGN, AFTER_SIGN, ALL}),
-    [MARK]  = {{0}, STRESS, STRESS_MARK, AFTER_VOWEL, NONE},
-    [GAP]   = {{VOICELESS, VOICED, VOICELESS}, BREAK, WORD_BREAK, INITIAL, GAP_CODE},
-    [PAUSE] = {{VOICELESS, VOICELESS, VOICELESS}, BREAK, WORD_BREAK, INITIAL, PAUSE_CODE},
-};
-
-/* What a consonant's sound does to the consonant before it: by the sets D and U, and by softness. */
+/* What a consonant's sound does to a consonant before it. */
 struct effect {
-    uint16_t voice, softening;
+    uint16_t voice, groups;
 };
 
-#define HARD_AND_SOFT(code, voice, group) [code] = {voice, NONE}, [(code) + 1] = {voice, group}
-
-static const struct effect effects[CODES] = {
-    HARD_AND_SOFT(B, VOICED, BP), HARD_AND_SOFT(P, VOICELESS, BP), HARD_AND_SOFT(V, AS_WRITTEN, VF), HARD_AND_SOFT(F, VOICELESS, VF),
-    HARD_AND_SOFT(G, VOICED, GK), HARD_AND_SOFT(K, VOICELESS, GK), HARD_AND_SOFT(H_VOICED, VOICED, KH), HARD_AND_SOFT(H, VOICELESS, KH),
-    HARD_AND_SOFT(D, VOICED, DENTAL | EN_ONLY), HARD_AND_SOFT(T, VOICELESS, DENTAL | EN_ONLY),
-    HARD_AND_SOFT(Z, VOICED, DENTAL | EN_ONLY), HARD_AND_SOFT(S, VOICELESS, DENTAL | EN_ONLY),
-    HARD_AND_SOFT(N, AS_WRITTEN, DENTAL | EN_ONLY), HARD_AND_SOFT(L, AS_WRITTEN, EL_ONLY),
-    HARD_AND_SOFT(M, AS_WRITTEN, EM_ONLY), HARD_AND_SOFT(R, AS_WRITTEN, ER_ONLY),
-    [ZH] = {VOICED, NONE}, [SH] = {VOICELESS, NONE}, [TS_VOICED] = {VOICED, NONE}, [TS] = {VOICELESS, NONE},
-    [CH_VOICED] = {VOICED, EN_ONLY}, [CH] = {VOICELESS, EN_ONLY}, [ZH_SOFT] = {VOICED, EN_ONLY}, [SHCH] = {VOICELESS, EN_ONLY},
-};
+#define HARD_AND_SOFT(code, voice, hard, soft) [code] = {voice, hard}, [(code) + 1] = {voice, (hard) | (soft)}
 
 /*
  * Levels of a syllable as seen from its right: all vowels of a word without a mark are of level 1, which is kept apart from the level
@@ -111,33 +80,80 @@ static const struct effect effects[CODES] = {
  */
 enum { LEVEL_S, LEVEL_1, LEVEL_2, LEVEL_1_UNMARKED, NOT_KNOWN, LEVELS = NOT_KNOWN };
 
-/* Names of syllables; the bare ones are those whose vowel is initial or after a vowel. */
-static const uint8_t names[LEVELS][PRECEDERS] = {
-    [LEVEL_S] = {2, 2, 1, 1, 1, 1}, [LEVEL_1] = {4, 4, 3, 3, 3, 3}, [LEVEL_2] = {6, 6, 5, 5, 5, 5},
-    [LEVEL_1_UNMARKED] = {4, 4, 3, 3, 3, 3},
-};
-enum { INCOMPLETE = 7 };
-
 /* With J a glide comes before the sound. */
 enum { J = 0x80 };
 
 #define SND(s, one, two) {s, one, two, one}
 #define JOT(s, one, two) {J | s, J | one, J | two, J | one}
 
-/* Sounds of vowels by what is before them and by level. A hard boundary changes the tape afterwards. */
-static const uint8_t vowel_sounds[ROWS][8][LEVELS] = {
-    /*          initial             after a vowel       after a sign        after Q             after T             after P */
-    [ROW_A]  = {SND(A_S, A_1, A_1), SND(A_S, A_1, A_2), SND(A_S, A_1, A_2), SND(A_S, E_1, E_2), SND(A_S, A_1, A_2), SND(A_S, A_1, A_2)},
-    [ROW_O]  = {SND(O_S, A_1, A_1), SND(O_S, A_1, A_2), SND(O_S, A_1, A_2), SND(O_S, A_1, E_2), SND(O_S, A_1, A_2), SND(O_S, A_1, A_2)},
-    [ROW_U]  = {SND(U_S, U_1, U_1), SND(U_S, U_1, U_1), SND(U_S, U_1, U_1), SND(U_S, U_1, U_1), SND(U_S, U_1, U_1), SND(U_S, U_1, U_1)},
-    [ROW_Y]  = {SND(Y_S, Y_1, Y_1), SND(Y_S, Y_1, Y_1), SND(Y_S, Y_1, Y_1), SND(Y_S, Y_1, Y_1), SND(Y_S, Y_1, Y_1), SND(Y_S, Y_1, Y_1)},
-    [ROW_E]  = {SND(E_S, E_1, E_2), SND(E_S, E_1, E_2), SND(E_S, E_1, E_2), SND(E_S, E_1, E_2), SND(E_S, E_1, E_2), SND(E_S, E_1, E_2)},
-    [ROW_IE] = {JOT(E_S, E_1, E_1), JOT(E_S, E_1, E_2), JOT(E_S, E_1, E_2), SND(E_S, E_1, E_2), SND(E_S, Y_1, A_2), SND(E_S, E_1, E_2)},
-    [ROW_YO] = {JOT(O_S, O_S, O_S), JOT(O_S, O_S, O_S), JOT(O_S, O_S, O_S), SND(O_S, O_S, O_S), SND(O_S, O_S, O_S), SND(O_S, O_S, O_S)},
-    [ROW_YU] = {JOT(U_S, U_1, U_1), JOT(U_S, U_1, U_1), JOT(U_S, U_1, U_1), SND(U_S, U_1, U_1), SND(U_S, U_1, U_1), SND(U_S, U_1, U_1)},
-    [ROW_YA] = {JOT(A_S, E_1, E_1), JOT(A_S, E_1, E_2), JOT(A_S, E_1, E_2), SND(A_S, E_1, E_2), SND(A_S, E_1, E_2), SND(A_S, E_1, E_2)},
-    [ROW_I]  = {SND(I_S, I_1, I_1), SND(I_S, I_1, I_1), JOT(I_S, I_1, I_1), SND(I_S, I_1, I_1), SND(Y_S, Y_1, Y_1), SND(I_S, I_1, I_1)},
+/* All that the second pass looks up, in one object, so that one register can hold where it is. */
+/* clang-format off */
+static const struct {
+    struct symbol symbols[256];
+    struct effect effects[CODES];
+    uint8_t vowels[ROWS][8][LEVELS]; /* by what is before them (8, so that the index is made by shifts), not at a hard boundary */
+    uint8_t level_before[LEVELS];    /* of the vowel to the left of one of this level, where it has no mark */
+    uint8_t names[LEVELS][PRECEDERS];
+} tables = {
+    .symbols = {
+        VOWEL_1(A, ROW_A), VOWEL_1(O, ROW_O), VOWEL_1(U, ROW_U), VOWEL_1(YERU, ROW_Y), VOWEL_1(E, ROW_E),
+        VOWEL_2(IE, ROW_IE, SOFT_VOWEL), VOWEL_2(YU, ROW_YU, SOFT_VOWEL), VOWEL_2(YA, ROW_YA, SOFT_VOWEL), VOWEL_2(I, ROW_I, VOWEL_I),
+        [YO]         = {{ROW_YO}, SOFT_VOWEL, VOWEL, AFTER_VOWEL, ALL},
+        [CAPITAL_YO] = {{ROW_YO}, SOFT_VOWEL, VOWEL, AFTER_VOWEL, ALL},
+        NOISE(BE,  B,  B, P, AFTER_P, BP),      NOISE(PE,  P,  B, P, AFTER_P, BP),
+        NOISE(VE,  V,  V, F, AFTER_P, VF),      NOISE(EF,  F,  V, F, AFTER_P, VF),
+        NOISE(GHE, G,  G, K, AFTER_P, GK),      NOISE(KA,  K,  G, K, AFTER_P, GK),
+        NOISE(ZHE, ZH, ZH, SH, AFTER_T, NONE),  NOISE(SHA, SH, ZH, SH, AFTER_T, NONE),
+        NOISE_SZ(ZE, Z),                        NOISE_SZ(ES, S),
+        NOISE_TD(DE, D),                        NOISE_TD(TE, T),
+        NOISE(HA,  H,  H_VOICED,  H,  AFTER_P, KH),
+        NOISE(TSE, TS, TS_VOICED, TS, AFTER_T, NONE),
+        NOISE(CHE, CH, CH_VOICED, CH, AFTER_Q, NONE),
+        NOISE(SHCHA, SHCH, ZH_SOFT, SHCH, AFTER_Q, NONE),
+        SONORANT(EL, L, OTHER, AFTER_P, EL_ONLY), SONORANT(EM, M, OTHER, AFTER_P, EM_ONLY),
+        SONORANT(EN, N, SZNR, AFTER_P, EN_ONLY),  SONORANT(ER, R, SZNR, AFTER_P, ER_ONLY),
+        SONORANT(SHORT_I, GLIDE, OTHER, AFTER_Q, NONE),
+        CASES(HARD_SIGN, {{0}, HARD, SIGN, AFTER_SIGN, NONE}),
+        CASES(SOFT_SIGN, {{0}, SOFT, SIGN, AFTER_SIGN, ALL}),
+        [MARK]  = {{0}, STRESS, STRESS_MARK, AFTER_VOWEL, NONE},
+        [GAP]   = {{VOICELESS, VOICED, VOICELESS}, BREAK, WORD_BREAK, INITIAL, GAP_CODE},
+        [PAUSE] = {{VOICELESS, VOICELESS, VOICELESS}, BREAK, WORD_BREAK, INITIAL, PAUSE_CODE},
+    },
+    .effects = { /* the sets D and U, and softness */
+        HARD_AND_SOFT(B, VOICED, NONE, BP),         HARD_AND_SOFT(P, VOICELESS, NONE, BP),
+        HARD_AND_SOFT(V, AS_WRITTEN, NONE, VF),     HARD_AND_SOFT(F, VOICELESS, NONE, VF),
+        HARD_AND_SOFT(G, VOICED, NONE, GK),         HARD_AND_SOFT(K, VOICELESS, NONE, GK),
+        HARD_AND_SOFT(H_VOICED, VOICED, NONE, KH),  HARD_AND_SOFT(H, VOICELESS, NONE, KH),
+        HARD_AND_SOFT(D, VOICED, NONE, DENTAL | EN_ONLY),   HARD_AND_SOFT(T, VOICELESS, NONE, DENTAL | EN_ONLY),
+        HARD_AND_SOFT(Z, VOICED, ELIDES, DENTAL | EN_ONLY), HARD_AND_SOFT(S, VOICELESS, ELIDES, DENTAL | EN_ONLY),
+        HARD_AND_SOFT(N, AS_WRITTEN, ELIDES, DENTAL | EN_ONLY),
+        HARD_AND_SOFT(L, AS_WRITTEN, NONE, EL_ONLY), HARD_AND_SOFT(M, AS_WRITTEN, NONE, EM_ONLY),
+        HARD_AND_SOFT(R, AS_WRITTEN, NONE, ER_ONLY),
+        [ZH] = {VOICED, ELIDES}, [SH] = {VOICELESS, ELIDES}, [TS_VOICED] = {VOICED, ELIDES}, [TS] = {VOICELESS, ELIDES},
+        [CH_VOICED] = {VOICED, EN_ONLY | ELIDES}, [CH] = {VOICELESS, EN_ONLY | ELIDES},
+        [ZH_SOFT] = {VOICED, EN_ONLY}, [SHCH] = {VOICELESS, EN_ONLY},
+    },
+    .vowels = {
+        /*          initial             after a vowel       after a sign        after Q             after T             after P */
+        [ROW_A]  = {SND(A_S, A_1, A_1), SND(A_S, A_1, A_2), SND(A_S, A_1, A_2), SND(A_S, E_1, E_2), SND(A_S, A_1, A_2), SND(A_S, A_1, A_2)},
+        [ROW_O]  = {SND(O_S, A_1, A_1), SND(O_S, A_1, A_2), SND(O_S, A_1, A_2), SND(O_S, A_1, E_2), SND(O_S, A_1, A_2), SND(O_S, A_1, A_2)},
+        [ROW_U]  = {SND(U_S, U_1, U_1), SND(U_S, U_1, U_1), SND(U_S, U_1, U_1), SND(U_S, U_1, U_1), SND(U_S, U_1, U_1), SND(U_S, U_1, U_1)},
+        [ROW_Y]  = {SND(Y_S, Y_1, Y_1), SND(Y_S, Y_1, Y_1), SND(Y_S, Y_1, Y_1), SND(Y_S, Y_1, Y_1), SND(Y_S, Y_1, Y_1), SND(Y_S, Y_1, Y_1)},
+        [ROW_E]  = {SND(E_S, E_1, E_2), SND(E_S, E_1, E_2), SND(E_S, E_1, E_2), SND(E_S, E_1, E_2), SND(E_S, E_1, E_2), SND(E_S, E_1, E_2)},
+        [ROW_IE] = {JOT(E_S, E_1, E_1), JOT(E_S, E_1, E_2), JOT(E_S, E_1, E_2), SND(E_S, E_1, E_2), SND(E_S, Y_1, A_2), SND(E_S, E_1, E_2)},
+        [ROW_YO] = {JOT(O_S, O_S, O_S), JOT(O_S, O_S, O_S), JOT(O_S, O_S, O_S), SND(O_S, O_S, O_S), SND(O_S, O_S, O_S), SND(O_S, O_S, O_S)},
+        [ROW_YU] = {JOT(U_S, U_1, U_1), JOT(U_S, U_1, U_1), JOT(U_S, U_1, U_1), SND(U_S, U_1, U_1), SND(U_S, U_1, U_1), SND(U_S, U_1, U_1)},
+        [ROW_YA] = {JOT(A_S, E_1, E_1), JOT(A_S, E_1, E_2), JOT(A_S, E_1, E_2), SND(A_S, E_1, E_2), SND(A_S, E_1, E_2), SND(A_S, E_1, E_2)},
+        [ROW_I]  = {SND(I_S, I_1, I_1), SND(I_S, I_1, I_1), JOT(I_S, I_1, I_1), SND(I_S, I_1, I_1), SND(Y_S, Y_1, Y_1), SND(I_S, I_1, I_1)},
+    },
+    .level_before = {[LEVEL_S] = LEVEL_1, [LEVEL_1] = LEVEL_2, [LEVEL_2] = LEVEL_2, [LEVEL_1_UNMARKED] = LEVEL_1_UNMARKED},
+    .names = { /* a syllable is bare if its vowel is initial or after a vowel */
+        [LEVEL_S] = {2, 2, 1, 1, 1, 1}, [LEVEL_1] = {4, 4, 3, 3, 3, 3}, [LEVEL_2] = {6, 6, 5, 5, 5, 5},
+        [LEVEL_1_UNMARKED] = {4, 4, 3, 3, 3, 3},
+    },
 };
+
+enum { INCOMPLETE = 7 };
 
 /*
  * The check's automaton. A state remembers what the word so far ends in; it is held as the index of its row, so that a step adds the
@@ -165,7 +181,7 @@ enum { ONE_NAME = 0x10000 };
 #define NO(number) {0, STOP_REFUSED + (number)}
 
 static const struct step steps[STOP] = {
-    /* from             foreign а      и       е       к      с      т      ъ                  ь                  *            break */
+    /* from           foreign  а       и       е       к      с      т      ъ                  ь                  *            break */
     [AT_START]      =  NO(3), VOW(1), VOW(1), VOW(2), CON,   SZN,   CON,   NO(6),             NO(6),             NO(5),       NO(4),
     [AT_VOWEL]      =  NO(3), VOW(1), VOW(1), VOW(2), CON,   SZN,   CON,   TO(AT_VOWEL_HARD), TO(AT_VOWEL_SOFT), TO(AT_MARK), END(0),
     [AT_MARK]       =  NO(3), VOW(1), VOW(1), VOW(2), CON,   SZN,   CON,   TO(AT_VOWEL_HARD), TO(AT_VOWEL_SOFT), NO(5),       END(0),
@@ -180,7 +196,7 @@ static const struct step steps[STOP] = {
 
 static uint32_t small(uint8_t byte)
 {
-    return byte | 0x20; /* capitals become small letters, and nothing else becomes a letter */
+    return byte | 0x20; /* from а to я capitals become small letters, and nothing else becomes a letter */
 }
 
 #define CLUSTER(first, second, third) ((uint32_t)(first) << 16 | (second) << 8 | (third))
@@ -188,7 +204,7 @@ static uint32_t small(uint8_t byte)
 /* Pass 1: whether the т or д at p is elided (silent). */
 static bool elided(const uint8_t *msg, const uint8_t *p, const uint8_t *end)
 {
-    if (p == msg || symbols[p[-1]].column != SZNR)
+    if (p == msg)
         return false;
     uint32_t third = end - p > 1 ? small(p[1]) : 0;
     uint32_t fourth = end - p > 2 ? small(p[2]) : 0;
@@ -255,7 +271,7 @@ baseline_counts baseline_check(const uint8_t *msg, size_t len)
     uint32_t counts = 0;
     for (;;) {
         while (state < STOP && p != end) {
-            const struct step *step = &steps[state + symbols[*p++].column];
+            const struct step *step = &steps[state + tables.symbols[*p++].column];
             counts += step->counts;
             state = step->next;
         }
@@ -292,16 +308,10 @@ static uint32_t last_level(const uint8_t *msg, const uint8_t *p)
     return p != msg && p[-1] == MARK ? LEVEL_2 : LEVEL_1_UNMARKED;
 }
 
-/* The level of the vowel to the left of one of this level, where it has no mark: S, 1, 2, 2, .. or always 1 in a word without marks. */
-static uint32_t level_before(uint32_t level)
-{
-    return level + (level < LEVEL_2);
-}
-
 /* What a letter right after the byte before p finds there. */
 static uint32_t before(const uint8_t *msg, const uint8_t *p)
 {
-    return p != msg ? symbols[p[-1]].before : INITIAL;
+    return p != msg ? tables.symbols[p[-1]].before : INITIAL;
 }
 
 /* Writes the names of an accepted message so that they end at w. */
@@ -312,14 +322,14 @@ static void write_names(const uint8_t *msg, const uint8_t *end, uint8_t *w)
     if (before(msg, end) != AFTER_VOWEL)
         *--w = INCOMPLETE;
     for (const uint8_t *p = end; p != msg; p--) {
-        uint32_t kind = symbols[p[-1]].kind;
-        if (kind < VOWEL)
+        uint32_t kind = tables.symbols[p[-1]].kind;
+        if (kind == CONSONANT || kind == SIGN)
             continue;
         if (kind == VOWEL) {
             if (level == NOT_KNOWN)
                 level = last_level(msg, p - 1);
-            *--w = names[level][before(msg, p - 1)];
-            level = level_before(level);
+            *--w = tables.names[level][before(msg, p - 1)];
+            level = tables.level_before[level];
         } else if (kind == STRESS_MARK) {
             level = LEVEL_S;
         } else {
@@ -341,75 +351,15 @@ baseline_answer baseline_name(const uint8_t *msg, size_t len, uint8_t *out, size
     return (baseline_answer){.length = counts.names};
 }
 
-/* Where the second pass stands. */
-struct pen {
-    const uint8_t *p; /* what is left of the message ends here */
-    uint8_t *w;       /* the tape so far begins here */
-    uint32_t voice;   /* what the first sound of the tape so far asks of an obstruent before it */
-};
-
-/* Writes the last word of what is left of the message. */
-static struct pen write_word(const uint8_t *msg, const uint8_t *end, struct pen pen)
-{
-    const uint8_t *p = pen.p;
-    uint8_t *w = pen.w;
-    size_t voice = pen.voice;
-    uint32_t softening = NONE, level = NOT_KNOWN;
-
-    for (; p != msg; p--) {
-        const struct symbol *symbol = &symbols[p[-1]];
-        if (symbol->kind <= MAY_BE_ELIDED) {
-            if (symbol->kind == MAY_BE_ELIDED && elided(msg, p - 1, end))
-                continue;
-            uint32_t code = symbol->sound[voice] + ((symbol->softening & softening) != 0);
-            *--w = (uint8_t)code;
-            voice = effects[code].voice;
-            softening = effects[code].softening;
-        } else if (symbol->kind == VOWEL || symbol->kind == STRESS_MARK) {
-            if (symbol->kind == STRESS_MARK) {
-                level = LEVEL_S;
-                symbol = &symbols[*(--p - 1)];
-            } else if (level == NOT_KNOWN) {
-                level = last_level(msg, p - 1);
-            }
-            uint8_t sound = vowel_sounds[symbol->sound[0]][before(msg, p - 1)][level];
-            *--w = sound & ~J;
-            if (sound & J)
-                *--w = GLIDE;
-            level = level_before(level);
-            voice = AS_WRITTEN;
-            softening = symbol->softening;
-        } else if (symbol->kind == SIGN) {
-            softening = symbol->softening;
-        } else {
-            break;
-        }
-    }
-    return (struct pen){p, w, (uint32_t)voice};
-}
-
-/* What the first sound of a word asks for, where what comes after the word asks for this voice. */
-static uint32_t voice_through(const uint8_t *msg, const uint8_t *word, const uint8_t *word_end, const uint8_t *end, uint32_t voice)
-{
-    for (const uint8_t *p = word_end; p != word; p--) {
-        const struct symbol *symbol = &symbols[p[-1]];
-        if (symbol->kind == VOWEL)
-            voice = AS_WRITTEN;
-        else if (symbol->kind == CONSONANT || (symbol->kind == MAY_BE_ELIDED && !elided(msg, p - 1, end)))
-            voice = effects[symbol->sound[voice]].voice;
-    }
-    return voice;
-}
-
 /* Whether the word that ends before the gap at p makes a hard boundary there: it ends in T, P or a soft sign after T. */
 static bool hard_boundary(const uint8_t *p)
 {
     if (small(p[-1]) == SOFT_SIGN)
-        return symbols[p[-2]].before == AFTER_T;
-    return symbols[p[-1]].before == AFTER_T || symbols[p[-1]].before == AFTER_P;
+        return tables.symbols[p[-2]].before == AFTER_T;
+    return tables.symbols[p[-1]].before == AFTER_T || tables.symbols[p[-1]].before == AFTER_P;
 }
 
-/* Whether the gap at p changes the first sound of the word after it: и and э without a mark become ы at a hard boundary. */
+/* Whether the gap at p changes the first sound of the word after it: и, and э without a mark, sound ы at a hard boundary. */
 static bool changes_opening(const uint8_t *p, const uint8_t *end)
 {
     uint32_t first = small(p[1]);
@@ -421,42 +371,109 @@ static bool changes_opening(const uint8_t *p, const uint8_t *end)
 /* Whether the last letter before p, signs passed over, is an obstruent. */
 static bool ends_in_obstruent(const uint8_t *p)
 {
-    const struct symbol *last = &symbols[symbols[p[-1]].kind == SIGN ? p[-2] : p[-1]];
+    const struct symbol *last = &tables.symbols[tables.symbols[p[-1]].kind == SIGN ? p[-2] : p[-1]];
     return last->sound[VOICED] != last->sound[VOICELESS];
 }
 
+/* What the first sound of a word asks for, where what comes after the word asks for this voice. */
+static uint32_t voice_through(const uint8_t *msg, const uint8_t *word, const uint8_t *word_end, const uint8_t *end, uint32_t voice)
+{
+    for (const uint8_t *p = word_end; p != word; p--) {
+        const struct symbol *symbol = &tables.symbols[p[-1]];
+        if (symbol->kind == VOWEL)
+            voice = AS_WRITTEN;
+        else if (symbol->kind == CONSONANT && !(symbol->column == TD && elided(msg, p - 1, end)))
+            voice = tables.effects[symbol->sound[voice]].voice;
+    }
+    return voice;
+}
+
 /*
- * Writes the tape of an accepted message cut at these places so that it ends at w, and counts the live cuts. A cut keeps voice and
- * hard boundary from passing. Whether it is live depends on the voice in the whole message's tape, which is followed from break to
- * break: a word must be gone through again only where that voice and the one written came apart at its end.
+ * What the second pass keeps from break to break. A cut is live by the voice in the whole message's tape, which is not the one written;
+ * but a word need be gone through for it again only where the two came apart at its end.
  */
+struct joints {
+    const uint8_t *msg, *end;
+    const size_t *cuts;
+    size_t n;                    /* cuts not reached yet */
+    const uint8_t *word_end;     /* of the word that is being written */
+    uint32_t voice, whole_voice; /* what comes after that word asks for, in the tape written and in the whole one */
+    uint32_t live;
+};
+
+/*
+ * Takes the break at p. The tape of what is after it begins at w and asks for this voice; gives what the break asks for. Here, where it
+ * is known whether a cut stands between, a hard boundary changes the first sound.
+ */
+static uint32_t take_break(struct joints *joints, const uint8_t *p, uint32_t voice, uint8_t *w)
+{
+    const struct symbol *symbol = &tables.symbols[*p];
+    bool opening = *p == GAP && changes_opening(p, joints->end);
+    uint32_t whole_voice = voice;
+
+    if (joints->voice != joints->whole_voice)
+        whole_voice = voice_through(joints->msg, p + 1, joints->word_end, joints->end, joints->whole_voice);
+    joints->whole_voice = symbol->sound[whole_voice];
+    joints->word_end = p;
+    if (joints->n != 0 && p == joints->msg + joints->cuts[joints->n - 1]) {
+        joints->n--;
+        joints->live += opening || (joints->whole_voice == VOICED && ends_in_obstruent(p));
+        joints->voice = VOICELESS;
+    } else {
+        if (opening)
+            *w = *w == I_S ? Y_S : Y_1;
+        joints->voice = symbol->sound[voice];
+    }
+    return joints->voice;
+}
+
+/* Writes the tape of an accepted message cut at these places so that it ends at w, and counts the live cuts. */
 static uint32_t write_tape(const uint8_t *msg, const uint8_t *end, const size_t *cuts, size_t n, uint8_t *w)
 {
-    struct pen pen = {end, w, VOICELESS};
-    uint32_t whole_voice = VOICELESS, live = 0;
+    struct joints joints = {msg, end, cuts, n, end, VOICELESS, VOICELESS, 0};
+    size_t voice = VOICELESS, level = NOT_KNOWN;
+    uint32_t groups = NONE;
 
-    for (;;) {
-        const uint8_t *word_end = pen.p;
-        bool apart = whole_voice != pen.voice;
-        pen = write_word(msg, end, pen);
-        if (pen.p == msg)
-            return live;
-        whole_voice = apart ? voice_through(msg, pen.p, word_end, end, whole_voice) : pen.voice;
-
-        const uint8_t *p = --pen.p;
-        const struct symbol *symbol = &symbols[*p];
-        bool cut = n != 0 && p == msg + cuts[n - 1];
-        bool opening = *p == GAP && changes_opening(p, end);
-        if (cut) {
-            live += opening || (*p == GAP && whole_voice == VOICED && ends_in_obstruent(p));
-            n--;
-        } else if (opening) {
-            *pen.w = *pen.w == I_S ? Y_S : Y_1;
+    for (const uint8_t *p = end; p != msg;) {
+        const struct symbol *symbol = &tables.symbols[*--p];
+        if (symbol->kind == CONSONANT) {
+            uint32_t common = symbol->groups & groups;
+            if (common & ELIDES) {
+                if (elided(msg, p, end))
+                    continue;
+                common ^= ELIDES;
+            }
+            uint32_t code = symbol->sound[voice] + (uint32_t)(common != 0);
+            *--w = (uint8_t)code;
+            voice = tables.effects[code].voice;
+            groups = tables.effects[code].groups;
+        } else if (symbol->kind <= STRESS_MARK) {
+            if (symbol->kind == STRESS_MARK) {
+                level = LEVEL_S;
+                symbol = &tables.symbols[*--p];
+            } else if (level == NOT_KNOWN) {
+                level = last_level(msg, p);
+            }
+            uint8_t sound = tables.vowels[symbol->sound[0]][before(msg, p)][level];
+            if (sound & J) {
+                *--w = sound ^ J;
+                *--w = GLIDE;
+            } else {
+                *--w = sound;
+            }
+            level = tables.level_before[level];
+            voice = AS_WRITTEN;
+            groups = symbol->groups;
+        } else if (symbol->kind == SIGN) {
+            groups = symbol->groups;
+        } else {
+            voice = take_break(&joints, p, (uint32_t)voice, w);
+            *--w = (uint8_t)symbol->groups;
+            groups = NONE;
+            level = NOT_KNOWN;
         }
-        *--pen.w = (uint8_t)symbol->softening;
-        pen.voice = cut ? VOICELESS : symbol->sound[pen.voice];
-        whole_voice = symbol->sound[whole_voice];
     }
+    return joints.live;
 }
 
 /* The index of the first cut that is no break's place or not above the one before, or n. */
@@ -464,7 +481,7 @@ static size_t first_bad_cut(const uint8_t *msg, size_t len, const size_t *cuts, 
 {
     size_t lowest = 0;
     for (size_t i = 0; i < n; i++) {
-        if (cuts[i] < lowest || cuts[i] >= len || symbols[msg[cuts[i]]].kind != WORD_BREAK)
+        if (cuts[i] < lowest || cuts[i] >= len || tables.symbols[msg[cuts[i]]].kind != WORD_BREAK)
             return i;
         lowest = cuts[i] + 1;
     }

@@ -37,7 +37,7 @@ static const char *const cluster_words[] = {
     "стназдна*рдцандска", "ндштустску*нтски", "рдчиздци*ндцостна", "стскандшты*", "нтскиндсе*рдчуздня",
 };
 
-/* Obstruents alone: the voice of the last word goes through all words before it. */
+/* Obstruents alone: the voice of a last word that begins with д goes through all words before it. */
 static const char *const chain_words[] = {"к", "с", "т", "п", "ш", "х", "ц", "ч", "щ"};
 
 static const char *const letter_words[] = {"к", "с", "в", "а", "у", "о", "и", "я", "б", "э"};
@@ -89,9 +89,18 @@ static void fill(struct message *message, size_t len, const char *const *from, s
         append(message, len, from[pick]);
         append(message, len, shuffled && i % 9 == 8 ? "#" : " ");
     }
-    uint8_t *last = &message->bytes[len - 1];
-    if (*last == ' ' || *last == '#')
-        append(message, (message->len = len - 1) + 1, "о");
+    if (message->bytes[len - 1] == ' ' || message->bytes[len - 1] == '#') {
+        message->len = len - 1;
+        append(message, len, "о");
+    }
+}
+
+/* Puts a word at the end of a message, where a word as long or one-letter words stand. */
+static void end_with(struct message *message, const char *word)
+{
+    size_t len = message->len, letters = strlen(word) / 2;
+    message->len = len - letters;
+    append(message, len, word);
 }
 
 static void list_all_cuts(struct message *message)
@@ -108,20 +117,21 @@ struct test_case {
     const char *const *words;
     size_t count;
     int shuffled;
+    const char *last; /* the word to end with, or NULL */
 };
 
 #define LIST(array) array, sizeof array / sizeof array[0]
 
 static const struct test_case cases[] = {
-    {"text", 16, LIST(words), 1},
-    {"text", 64, LIST(words), 1},
-    {"text", 256, LIST(words), 1},
-    {"text", 1024, LIST(words), 1},
-    {"text", 4096, LIST(words), 1},
-    {"one-letter words", 4096, LIST(letter_words), 1},
-    {"chain of voice", 4096, LIST(chain_words), 0},
-    {"64 vowels", 4096, LIST(vowel_words), 0},
-    {"clusters", 4096, LIST(cluster_words), 0},
+    {"text", 16, LIST(words), 1, NULL},
+    {"text", 64, LIST(words), 1, NULL},
+    {"text", 256, LIST(words), 1, NULL},
+    {"text", 1024, LIST(words), 1, NULL},
+    {"text", 4096, LIST(words), 1, NULL},
+    {"one-letter words", 4096, LIST(letter_words), 1, NULL},
+    {"chain of voice", 4096, LIST(chain_words), 0, "до"},
+    {"64 vowels", 4096, LIST(vowel_words), 0, NULL},
+    {"clusters", 4096, LIST(cluster_words), 0, NULL},
 };
 
 enum operation { NOTHING, CHECK, NAME, TRANSCRIBE, JOIN_NO_CUT, JOIN_ALL_CUTS, OPERATIONS };
@@ -170,6 +180,8 @@ static uint8_t outputs[2][OUT_BYTES];
 static void make(struct message *message, const struct test_case *c)
 {
     fill(message, c->len, c->words, c->count, c->shuffled);
+    if (c->last)
+        end_with(message, c->last);
     list_all_cuts(message);
 }
 

@@ -1,4 +1,3 @@
-pub mod Classes
 pub mod Word
 pub mod Cuts
 pub mod Stretch

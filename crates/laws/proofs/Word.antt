@@ -5,7 +5,7 @@ use Prim.Native.Nat.{ℕ, suc}
 use native.Mathlib.Omega.{arith}
 use mathlib.Core.Path.{_≡_, refl, sym, ap, subst, _∙_}
 use mathlib.Core.Bool.{Bool, true, false, cond, not, _&&_, _||_, true≢false, false≢true, and-false, and-eq-true-iff}
-use mathlib.Core.List.{List, [], _∷_, _++_}
+use mathlib.Core.List.{List, [], _∷_, _++_, map}
 use lib.ListN.{length}
 use lib.Dec.{eqb}
 use borrow.Author.Tests.{eqb-true, eqb-false, not-true}
@@ -22,7 +22,7 @@ use Rattle.message.specs.Joints.{endsInObstruent, endsInObstruentFrom, beginsWi
 use Rattle.message.specs.declared.Level.{Level}
 use Rattle.message.specs.declared.Level.the-variants.{Stressed, First, Second}
 use Rattle.message.proofs.Computed.{everything}
-use Rattle.laws.proofs.Classes.{every, among-fact}
+use Rattle.message.proofs.Classes.{among-same}
 
 -- the last code; 0 where there is none
 unfoldable pub lastCodeFrom : ℕ → List ℕ → ℕ
@@ -93,8 +93,8 @@ voice-quiet n n′ (x ∷ y ∷ xs) e = ap (λ (r : List Phone). voiceOne n x r 
 
 -- an obstruent's voiced code is not its voiceless one
 pub tones-differ : (b : ℕ) → isObstruent b ≡ true → voicedCode b ≡ voicelessCode b → ⊥
-unfolding everything every
-tones-differ b o = eqb-false (voicedCode b) (voicelessCode b) (not-true (eqb (voicedCode b) (voicelessCode b)) (among-fact (λ x. not (eqb (voicedCode x) (voicelessCode x))) obstruents b refl o))
+unfolding everything
+tones-differ b o = eqb-false (voicedCode b) (voicelessCode b) (among-same (λ x. eqb (voicedCode x) (voicelessCode x)) (λ _. false) obstruents b refl o)
 
 -- nor where both are palatalized
 soft-differ : (b : ℕ) (soft : Bool) → isObstruent b ≡ true → cond soft (suc (voicedCode b)) (voicedCode b) ≡ cond soft (suc (voicelessCode b)) (voicelessCode b) → ⊥
@@ -110,20 +110,20 @@ alike-differ (alike-more l s (alike-more l′ s′ a)) e q = alike-differ (alike
 
 -- a letter before a sign or at the end of a word is not elided
 kept-before : (p b : ℕ) (w : List Letter) → among (0 ∷ signs) (firstByte w) ≡ true → elides p b w ≡ false
-unfolding elides elidesT elidesD begins₁ begins₂ every
+unfolding elides elidesT elidesD begins₁ begins₂
 kept-before p b w e = simp (other «н» refl, other «с» refl, other «ц» refl, other «ч» refl, other «ш» refl, and-false)
   where
-    other : (c : ℕ) → every (λ x. not (eqb x c)) (0 ∷ signs) ≡ true → eqb (firstByte w) c ≡ false
-    other c f = not-true (eqb (firstByte w) c) (among-fact (λ x. not (eqb x c)) (0 ∷ signs) (firstByte w) f e)
+    other : (c : ℕ) → map (λ x. eqb x c) (0 ∷ signs) ≡ map (λ _. false) (0 ∷ signs) → eqb (firstByte w) c ≡ false
+    other c f = among-same (λ x. eqb x c) (λ _. false) (0 ∷ signs) (firstByte w) f e
 
 -- so after an elided letter the last letter, signs passed over, is another
 elided-ends : (p b : ℕ) (d d′ : Bool) (w : List Letter) → elides p b w ≡ true → endsInObstruentFrom d w ≡ endsInObstruentFrom d′ w
-unfolding endsInObstruentFrom firstByte among isSign every
+unfolding endsInObstruentFrom firstByte among isSign
 elided-ends p b d d′ [] e = absurd (true≢false (sym e ∙ kept-before p b [] refl))
 elided-ends p b d d′ (l ∷ w) e = by (isSign (l .byte)) refl
   where
     by : (t : Bool) → isSign (l .byte) ≡ t → endsInObstruentFrom (cond t d (isObstruent (l .byte))) w ≡ endsInObstruentFrom (cond t d′ (isObstruent (l .byte))) w
-    by true q = absurd (true≢false (sym e ∙ kept-before p b (l ∷ w) (among-fact (among (0 ∷ signs)) signs (l .byte) refl q)))
+    by true q = absurd (true≢false (sym e ∙ kept-before p b (l ∷ w) (among-same (among (0 ∷ signs)) (λ _. true) signs (l .byte) refl q)))
     by false q = refl
 
 -- pass 1 leaves the last letter, signs passed over
