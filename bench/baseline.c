@@ -443,7 +443,7 @@ static uint32_t write_tape(const uint8_t *msg, const uint8_t *end, const size_t 
                     continue;
                 common ^= ELIDES;
             }
-            uint32_t code = symbol->sound[voice] + (uint32_t)(common != 0);
+            uint32_t code = symbol->sound[voice] + (common != 0);
             *--w = (uint8_t)code;
             voice = tables.effects[code].voice;
             groups = tables.effects[code].groups;

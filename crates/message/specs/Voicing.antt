@@ -13,14 +13,20 @@ use Rattle.message.specs.Vowels.{Phone}
 unfoldable pub voicedCode : ℕ → ℕ
 voicedCode b =
     entry
-    ((«б» gives Б) ∷ («п» gives Б) ∷ («в» gives В) ∷ («ф» gives В) ∷ («г» gives Г) ∷ («к» gives Г) ∷ («д» gives Д) ∷ («т» gives Д) ∷ («ж» gives Ж) ∷ («ш» gives Ж) ∷ («з» gives З) ∷ («с» gives З) ∷ («х» gives Х1) ∷ («ц» gives Ц1) ∷ («ч» gives Ч1) ∷ («щ» gives Ж') ∷ [])
+    ((«б» gives Б) ∷ («п» gives Б) ∷ («в» gives В) ∷ («ф» gives В)
+    ∷ («г» gives Г) ∷ («к» gives Г) ∷ («д» gives Д) ∷ («т» gives Д)
+    ∷ («ж» gives Ж) ∷ («ш» gives Ж) ∷ («з» gives З) ∷ («с» gives З)
+    ∷ («х» gives Х1) ∷ («ц» gives Ц1) ∷ («ч» gives Ч1) ∷ («щ» gives Ж') ∷ [])
     b
 
 -- the pairs, voiceless: х ц ч щ are so as written
 unfoldable pub voicelessCode : ℕ → ℕ
 voicelessCode b =
     entry
-    ((«б» gives П) ∷ («п» gives П) ∷ («в» gives Ф) ∷ («ф» gives Ф) ∷ («г» gives К) ∷ («к» gives К) ∷ («д» gives Т) ∷ («т» gives Т) ∷ («ж» gives Ш) ∷ («ш» gives Ш) ∷ («з» gives С) ∷ («с» gives С) ∷ («х» gives Х) ∷ («ц» gives Ц) ∷ («ч» gives Ч) ∷ («щ» gives Щ) ∷ [])
+    ((«б» gives П) ∷ («п» gives П) ∷ («в» gives Ф) ∷ («ф» gives Ф)
+    ∷ («г» gives К) ∷ («к» gives К) ∷ («д» gives Т) ∷ («т» gives Т)
+    ∷ («ж» gives Ш) ∷ («ш» gives Ш) ∷ («з» gives С) ∷ («с» gives С)
+    ∷ («х» gives Х) ∷ («ц» gives Ц) ∷ («ч» gives Ч) ∷ («щ» gives Щ) ∷ [])
     b
 
 -- what the sounds after it make of an obstruent

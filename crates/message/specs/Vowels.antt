@@ -45,33 +45,43 @@ initial p = eqb p 0
 
 -- The vowel table, a row a vowel. p is the letter before ("after"); hard says that a hard boundary stands right before this letter.
 module _ (hard : Bool) (p : ℕ) (level : Level) where
+  -- pass 3, row а: reduced one way after a soft-only consonant (class Q), and kept А1 where initial
   unfoldable pub rowА : ℕ
   rowА = byLevel level А* (cond (isSoftOnly p) Э1 А1) (cond (initial p) А1 (cond (isSoftOnly p) Э2 А2))
 
+  -- pass 3, row о
   unfoldable pub rowО : ℕ
   rowО = byLevel level О* А1 (cond (initial p) А1 (cond (isSoftOnly p) Э2 А2))
 
+  -- pass 3, row у, one sound for levels 1 and 2
   unfoldable pub rowУ : ℕ
   rowУ = byStress level У* У1
 
+  -- pass 3, row ы
   unfoldable pub rowЫ : ℕ
   rowЫ = byStress level Ы* Ы1
 
+  -- pass 3, row э: the stressed sound comes first, then the hard boundary
   unfoldable pub rowЭ : ℕ
   rowЭ = byLevel level Э* (cond (initial p && hard) Ы1 Э1) (cond (initial p && hard) Ы1 Э2)
 
+  -- pass 3, row е: after a hard-only consonant (class T) it is Ы1 or А2
   unfoldable pub rowЕ : ℕ
   rowЕ = byLevel level Э* (cond (isHardOnly p) Ы1 Э1) (cond (initial p) Э1 (cond (isHardOnly p) А2 Э2))
 
+  -- pass 3, row ё: the same at every level
   unfoldable pub rowЁ : ℕ
   rowЁ = О*
 
+  -- pass 3, row ю
   unfoldable pub rowЮ : ℕ
   rowЮ = byStress level У* У1
 
+  -- pass 3, row я
   unfoldable pub rowЯ : ℕ
   rowЯ = byLevel level А* Э1 (cond (initial p) Э1 Э2)
 
+  -- pass 3, row и: Ы after a hard-only consonant or behind a hard boundary
   unfoldable pub rowИ : ℕ
   rowИ = cond (isHardOnly p || (initial p && hard)) (byStress level Ы* Ы1) (byStress level И* И1)
 
@@ -80,7 +90,8 @@ module _ (hard : Bool) (p : ℕ) (level : Level) where
   unfolding rowА rowО rowУ rowЫ rowЭ rowЕ rowЁ rowЮ rowЯ rowИ
   vowelSound b =
       entry
-      ((«а» gives rowА) ∷ («о» gives rowО) ∷ («у» gives rowУ) ∷ («ы» gives rowЫ) ∷ («э» gives rowЭ) ∷ («е» gives rowЕ) ∷ («ё» gives rowЁ) ∷ («ю» gives rowЮ) ∷ («я» gives rowЯ) ∷ («и» gives rowИ) ∷ [])
+      ((«а» gives rowА) ∷ («о» gives rowО) ∷ («у» gives rowУ) ∷ («ы» gives rowЫ) ∷ («э» gives rowЭ)
+      ∷ («е» gives rowЕ) ∷ («ё» gives rowЁ) ∷ («ю» gives rowЮ) ∷ («я» gives rowЯ) ∷ («и» gives rowИ) ∷ [])
       b
 
 -- J: before the sound of е ё ю я when the syllable is bare or the letter is after a sign, and before that of и after a sign
@@ -103,7 +114,9 @@ pub record Phone : Type 0 where
 unfoldable pub writtenCode : ℕ → ℕ
 writtenCode b =
     entry
-    ((«б» gives Б) ∷ («в» gives В) ∷ («г» gives Г) ∷ («д» gives Д) ∷ («ж» gives Ж) ∷ («з» gives З) ∷ («й» gives J) ∷ («к» gives К) ∷ («л» gives Л) ∷ («м» gives М) ∷ («н» gives Н) ∷ («п» gives П) ∷ («р» gives Р) ∷ («с» gives С) ∷ («т» gives Т) ∷ («ф» gives Ф) ∷ («х» gives Х) ∷ («ц» gives Ц) ∷ («ч» gives Ч) ∷ («ш» gives Ш) ∷ («щ» gives Щ) ∷ [])
+    ((«б» gives Б) ∷ («в» gives В) ∷ («г» gives Г) ∷ («д» gives Д) ∷ («ж» gives Ж) ∷ («з» gives З) ∷ («й» gives J)
+    ∷ («к» gives К) ∷ («л» gives Л) ∷ («м» gives М) ∷ («н» gives Н) ∷ («п» gives П) ∷ («р» gives Р) ∷ («с» gives С)
+    ∷ («т» gives Т) ∷ («ф» gives Ф) ∷ («х» gives Х) ∷ («ц» gives Ц) ∷ («ч» gives Ч) ∷ («ш» gives Ш) ∷ («щ» gives Щ) ∷ [])
     b
 
 -- pass 5, its first sentence: the next letter is ь or a softening vowel
