@@ -2,7 +2,7 @@
 //! says it: a refusal keeps every byte of the output, an answer takes its beginning only.
 
 use crate::refusals::Refusal;
-use crate::{join, names, tape};
+use crate::{fit, join, names, tape};
 
 /// The four numbers of an answer. An accepted message has number 0 and place 0.
 #[derive(Clone, Copy, Debug, PartialEq, Eq)]
@@ -13,25 +13,44 @@ pub struct Answer {
     pub live: usize,
 }
 
+/// An answer with nothing known of the output yet: what is written and the live count, or a refusal
+/// other than 11.
+pub type Whole = Result<(Vec<u8>, usize), Refusal>;
+
+pub fn whole_names(msg: &[u8]) -> Whole {
+    names(msg, usize::MAX).map(|names| (names, 0))
+}
+
+pub fn whole_tape(msg: &[u8]) -> Whole {
+    tape(msg, usize::MAX).map(|tape| (tape, 0))
+}
+
+pub fn whole_join(msg: &[u8], cuts: &[usize]) -> Whole {
+    join(msg, cuts, usize::MAX).map(|joined| (joined.tape, joined.live))
+}
+
 /// The answer of the naming operation, and the lent output afterwards.
 pub fn expected_names(msg: &[u8], before: &[u8]) -> (Answer, Vec<u8>) {
-    settle(names(msg, before.len()).map(|names| (names, 0)), before)
+    lent(&whole_names(msg), before)
 }
 
 /// The answer of the transcriber, and the lent output afterwards.
 pub fn expected_transcribe(msg: &[u8], before: &[u8]) -> (Answer, Vec<u8>) {
-    settle(tape(msg, before.len()).map(|tape| (tape, 0)), before)
+    lent(&whole_tape(msg), before)
 }
 
 /// The answer of the joiner, and the lent output afterwards.
 pub fn expected_join(msg: &[u8], cuts: &[usize], before: &[u8]) -> (Answer, Vec<u8>) {
-    let joined = join(msg, cuts, before.len());
-    settle(joined.map(|joined| (joined.tape, joined.live)), before)
+    lent(&whole_join(msg, cuts), before)
 }
 
-fn settle(result: Result<(Vec<u8>, usize), Refusal>, before: &[u8]) -> (Answer, Vec<u8>) {
+/// An answer with an output lent to it, and the output afterwards.
+pub fn lent(whole: &Whole, before: &[u8]) -> (Answer, Vec<u8>) {
+    let fitted = whole
+        .clone()
+        .and_then(|(written, live)| Ok((fit(written, before.len())?, live)));
     let mut after = before.to_vec();
-    let answer = match result {
+    let answer = match fitted {
         Ok((written, live)) => {
             after[..written.len()].copy_from_slice(&written);
             Answer {

@@ -3,12 +3,14 @@
 pub mod accepted;
 pub mod cuts;
 pub mod damaged;
+pub mod extreme;
 pub mod lexicon;
 pub mod noise;
 
 pub use accepted::{message, message_of_any_length, word};
 pub use cuts::{bad_cuts, every_list, good_cuts, BadCut};
 pub use damaged::{damaged, Spot};
+pub use extreme::extreme_messages;
 
 /// A splitmix64 generator: short, and good enough for test material.
 pub struct Rng(u64);

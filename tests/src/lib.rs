@@ -2,10 +2,15 @@
 //! each operation must answer; it is plain rather than fast.
 //!
 //! The modules follow the paper's sections: letters, refusals, the five passes, codes, joints.
+//! Beside them stand `gen` with the messages to try, `unit` with the library under test, and what
+//! holds the two to each other.
 
 pub mod answers;
 pub mod codes;
+pub mod demand3;
 pub mod elision;
+pub mod fence;
+pub mod fuzz;
 pub mod gen;
 pub mod joints;
 pub mod letters;
@@ -15,6 +20,8 @@ pub mod refusals;
 pub mod syllables;
 pub mod text;
 pub mod transcription;
+pub mod trial;
+pub mod unit;
 pub mod voicing;
 pub mod vowels;
 

@@ -1,59 +1,21 @@
 //! Demand 3 by search: the tape of a whole message beside the tapes of its parts, for every list
 //! of cuts of every short message over small alphabets, and for random ones of long messages.
 
+use govorun_tests::demand3::Pair;
 use govorun_tests::gen::noise::every_string;
 use govorun_tests::gen::{every_list, good_cuts, message_of_any_length, Rng};
 use govorun_tests::joints::live_places;
 use govorun_tests::message::breaks;
 use govorun_tests::{cp1251, join, show, tape};
 
+/// The transcriber and the joiner written from the paper.
+const PAIR: Pair = Pair {
+    tape: |msg| tape(msg, usize::MAX).ok(),
+    join: |msg, cuts| join(msg, cuts, usize::MAX).expect("good cuts"),
+};
+
 fn tape_of(msg: &[u8]) -> Vec<u8> {
-    tape(msg, usize::MAX).expect("a message and its parts are accepted")
-}
-
-/// Splits the message byte by byte, not by the code that the joiner of the library uses.
-fn parts_and_marks(msg: &[u8], cuts: &[usize]) -> Vec<u8> {
-    let mut tape = Vec::new();
-    let mut part = Vec::new();
-    for (place, &byte) in msg.iter().enumerate() {
-        if cuts.contains(&place) {
-            tape.extend(tape_of(&part));
-            part.clear();
-            tape.push(if byte == b' ' { 0 } else { 63 });
-        } else {
-            part.push(byte);
-        }
-    }
-    tape.extend(tape_of(&part));
-    tape
-}
-
-/// The index on the tape of the mark of the break at a place. Marks are the only codes 0 and 63,
-/// so the marks and the breaks are in the same order.
-fn mark_index(msg: &[u8], tape: &[u8], place: usize) -> usize {
-    let rank = breaks(&msg[..place]).len();
-    let is_mark = |&index: &usize| tape[index] == 0 || tape[index] == 63;
-    let mut marks = (0..tape.len()).filter(is_mark);
-    marks.nth(rank).expect("every break has its mark")
-}
-
-/// The claim of demand 3 for one list of cuts of one accepted message.
-fn holds(msg: &[u8], whole: &[u8], live_of_all: &[usize], cuts: &[usize]) {
-    let told = || format!("{} cut at {cuts:?}", show(msg));
-    let joined = join(msg, cuts, usize::MAX).expect("good cuts");
-    let second = &joined.tape;
-    assert_eq!(*second, parts_and_marks(msg, cuts), "{}", told());
-    assert_eq!(second.len(), whole.len(), "{}", told());
-    let is_live = |cut: &usize| live_of_all.contains(cut);
-    let live: Vec<usize> = cuts.iter().copied().filter(is_live).collect();
-    assert_eq!(joined.live, live.len(), "{}", told());
-    assert_eq!(second == whole, live.is_empty(), "{}", told());
-    for cut in live {
-        let mark = mark_index(msg, whole, cut);
-        assert_eq!(second[mark], whole[mark], "{}", told());
-        let differs = |index: usize| second[index] != whole[index];
-        assert!(differs(mark - 1) || differs(mark + 1), "{}", told());
-    }
+    tape(msg, usize::MAX).expect("an accepted message")
 }
 
 /// How many messages were accepted, and how many of them had a live joint. A search that meets
@@ -73,7 +35,7 @@ impl Met {
         assert!(whole.len() <= 2 * msg.len(), "{}", show(msg));
         let live = live_places(msg);
         for cuts in every_list(msg) {
-            holds(msg, &whole, &live, &cuts);
+            PAIR.holds(msg, &whole, &live, &cuts);
         }
         self.accepted += 1;
         self.live += usize::from(!live.is_empty());
@@ -192,9 +154,9 @@ fn random_messages_with_random_lists() {
         let live = live_places(&msg);
         for _ in 0..3 {
             let cuts = good_cuts(&mut rng, &msg);
-            holds(&msg, &whole, &live, &cuts);
+            PAIR.holds(&msg, &whole, &live, &cuts);
         }
-        holds(&msg, &whole, &live, &breaks(&msg));
+        PAIR.holds(&msg, &whole, &live, &breaks(&msg));
     }
 }
 

@@ -12,7 +12,7 @@ use borrow.Author.Tests.{eqb-true, eqb-false, not-true}
 use Rattle.message.specs.Alphabet.{«и», «н», «с», «ц», «ч», «ш», «э»}
 use Rattle.message.specs.Tables.{among, entry}
 use Rattle.message.specs.Letters.{Letter, firstByte, obstruents, signs, isSign, isVowel, isObstruent}
-use Rattle.message.specs.Elision.{begins₁, begins₂, elidesT, elidesD, elides, elideFrom, elide}
+use Rattle.message.specs.Elision.{elidesT, elidesD, elides, elideFrom, elide, elidesAmong}
 use Rattle.message.specs.Syllables.{coverAfter, hasMark, nextStressed, levelOf, syllableOf}
 use Rattle.message.specs.Vowels.{Phone, byStress, byLevel, glides, vowelSound, vowelPhones, phonesOf, phonesFrom}
 use Rattle.message.specs.Voicing.{voicedCode, voicelessCode, toneOf, toned, voiceOne, voice}
@@ -110,7 +110,7 @@ alike-differ (alike-more l s (alike-more l′ s′ a)) e q = alike-differ (alike
 
 -- a letter before a sign or at the end of a word is not elided
 kept-before : (p b : ℕ) (w : List Letter) → among (0 ∷ signs) (firstByte w) ≡ true → elides p b w ≡ false
-unfolding elides elidesT elidesD begins₁ begins₂
+unfolding elides elidesAmong elidesT elidesD
 kept-before p b w e = simp (other «н» refl, other «с» refl, other «ц» refl, other «ч» refl, other «ш» refl, and-false)
   where
     other : (c : ℕ) → map (λ x. eqb x c) (0 ∷ signs) ≡ map (λ _. false) (0 ∷ signs) → eqb (firstByte w) c ≡ false
@@ -143,7 +143,7 @@ word-toned h w = phones-toned h (hasMark w) false 0 (elideFrom 0 w) ∙ elide-en
 
 -- a word's first letter is not elided
 first-kept : (b : ℕ) (w : List Letter) → elides 0 b w ≡ false
-unfolding elides elidesT elidesD
+unfolding elides elidesAmong elidesT elidesD
 first-kept b w = simp and-false
 
 -- pass 3: at the start of a word a hard boundary changes no vowel but и and unmarked э

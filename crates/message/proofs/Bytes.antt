@@ -1,18 +1,16 @@
 -- What holds of every number below a bound is one computation, so a byte's tests go by its class.
 -- Assumes nothing.
-use Prim.Native.Nat.{ℕ, zero, suc, _+_, _*_, _/_, _%_, _<_, _≤_}
-use mathlib.Core.Path.{_≡_, refl, sym, ap, _∙_}
-use mathlib.Core.Bool.{Bool, true, false, cond, _&&_, _||_, false≢true}
+use Prim.Native.Nat.{ℕ, zero, suc, _<_}
+use mathlib.Core.Path.{_≡_, refl}
+use mathlib.Core.Bool.{Bool, true, false, _&&_, _||_}
 use mathlib.Core.List.{List, [], _∷_, map}
 use native.Mathlib.Omega.{arith}
 use lib.Dec.{eqb, leb}
-use lib.ListN.{length, getD, List·getD-append}
-use lib.Seq.{getD-append-add}
 use borrow.Author.Tests.{eqb-true, eqb-false, leb-true, ne-eqb}
 use Rattle.message.specs.Alphabet.{«д», «т»}
 use Rattle.message.specs.Letters.{small, isMark, isBreak, isConsonant}
 use Rattle.message.specs.Refusals.{vowelByte, signByte, hardSignByte, consonantByte, letterByte}
-use Rattle.message.specs.Scan.{classOf, isBreakClass, isSignClass, isConsonantClass, isVowelClass, isLetterClass, nextKind, faultIn, widthIn, namesIn, packed, tabulate, tables, elidesAmong, letterAt, elidedAt, widthAt}
+use Rattle.message.specs.Scan.{classOf, isBreakClass, isSignClass, isConsonantClass, isVowelClass, isLetterClass}
 use Rattle.message.proofs.Computed.{everything}
 
 -- the numbers below n

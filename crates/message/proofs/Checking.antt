@@ -4,7 +4,6 @@ use Prim.Native.Nat.{ℕ, zero, suc, _+_, _-_, _<_, _≤_}
 use mathlib.Core.Path.{_≡_, refl, sym, ap, _∙_}
 use mathlib.Core.Bool.{Bool, true, false, cond, _&&_, _||_, not, and-false, false≢true}
 use mathlib.Core.List.{List, [], _∷_}
-use native.Mathlib.Numerals.{add-one}
 use native.Mathlib.Omega.{arith}
 use lib.Dec.{eqb}
 use lib.ListN.{length, getD, drop}
@@ -12,7 +11,7 @@ use lib.Seq.{drop-cons, drop-length}
 use borrow.Author.Tests.{eqb-true, eqb-false, eq-eqb, ne-eqb}
 use Rattle.message.specs.Letters.{isMark, isBreak}
 use Rattle.message.specs.Refusals.{vowelByte, signByte, hardSignByte, first, none, adjacent, vowelSign, lettersBefore, row3, row4, row5, row6, row7, row8, row9, row10, faultAt, refusal, scan, checkOf}
-use Rattle.message.specs.Scan.{classOf, isBreakClass, isSignClass, isConsonantClass, isVowelClass, isLetterClass, isVowelKind, isHardSignKind, isVowelSignKind, isSignKind, nextKind, faultIn, namesIn, tailNames, kindAt, widthAt, codesTo, namesTo, lettersNext, stepOf, finishOf, Fits}
+use Rattle.message.specs.Scan.{classOf, isBreakClass, isSignClass, isConsonantClass, isVowelClass, isLetterClass, isVowelKind, isHardSignKind, isVowelSignKind, isSignKind, nextKind, faultIn, namesIn, tailNames, kindAt, widthAt, codesTo, namesTo, limitNext, passOf, stepOf, finishOf, Fits}
 use Rattle.message.specs.declared.Checked.{Checked}
 use Rattle.message.specs.declared.Checked.the-variants.{Accepted, Refused}
 use Rattle.message.specs.declared.Seen.{Seen}
@@ -199,36 +198,28 @@ letters-tests : (n c : ℕ) → c < 13 → cond (eqb c 0) 0 (cond (isLetterClass
 letters-tests n c h =
     below-same (λ c. cond (eqb c 0) 0 (cond (isLetterClass c) (suc n) (cond (eqb c 1) n 0))) (λ c. cond (eqb c 0) 0 (cond (isBreakClass c) 0 (cond (isLetterClass c) (suc n) n))) 13 c refl h
 
--- the walk counts a word's letters
-letters-more : (before : List ℕ) (k b : ℕ) → ByClass b → faultIn k (classOf b) ≡ 0 → lettersNext (classOf b) (lettersBefore before) ≡ lettersBefore (b ∷ before)
-unfolding lettersNext lettersBefore faultIn
-letters-more before k b c f =
+-- the letters of the word and the limit still come to 64 more than the place, one byte on
+limit-more : (before : List ℕ) (k b i l : ℕ) → ByClass b → faultIn k (classOf b) ≡ 0 → lettersBefore before + l ≡ i + 64 → lettersBefore (b ∷ before) + limitNext (classOf b) i l ≡ suc i + 64
+unfolding limitNext lettersBefore faultIn
+limit-more before k b i l c f h =
+    let n = lettersBefore before in
     let z : eqb (classOf b) 0 ≡ false = ne-eqb (classOf b) 0 (λ e. let g : 3 ≡ 0 = rw e at f in omega arith) in
-    rw (add-one (lettersBefore before), c .break, c .letter) (rw z at (letters-tests (lettersBefore before) (classOf b) (c .class)))
-
--- the 65th letter, by class
-letters-full : (c n : ℕ) → n < 65 → eqb (lettersNext c n) 65 ≡ (isLetterClass c && eqb n 64)
-unfolding lettersNext
-letters-full c n h = by (isLetterClass c) (eqb c 1)
+    let e : cond (isLetterClass (classOf b)) (suc n) (cond (eqb (classOf b) 1) n 0) ≡ cond (isBreakClass (classOf b)) 0 (cond (isLetterClass (classOf b)) (suc n) n) =
+    rw z at (letters-tests n (classOf b) (c .class)) in
+    rw (c .break, c .letter, ← e) (by (isLetterClass (classOf b)) (eqb (classOf b) 1))
   where
-    by : (t u : Bool) → eqb (cond t (n + 1) (cond u n 0)) 65 ≡ (t && eqb n 64)
-    by true u = one (eqb n 64) refl
-      where
-        one : (v : Bool) → eqb n 64 ≡ v → eqb (n + 1) 65 ≡ v
-        one true d = let e = eqb-true n 64 d in eq-eqb (n + 1) 65 (omega arith)
-        one false d = let e = eqb-false n 64 d in ne-eqb (n + 1) 65 (omega arith)
-    by false true = ne-eqb n 65 (omega arith)
-    by false false = refl
-
--- a byte adds at most one letter
-letters-up : (c n : ℕ) → lettersNext c n ≤ n + 1
-unfolding lettersNext
-letters-up c n = by (isLetterClass c) (eqb c 1)
-  where
-    by : (t u : Bool) → cond t (n + 1) (cond u n 0) ≤ n + 1
-    by true u = omega arith
-    by false true = omega arith
+    by : (t u : Bool) → cond t (suc (lettersBefore before)) (cond u (lettersBefore before) 0) + cond t l (cond u (l + 1) (i + 65)) ≡ suc i + 64
+    by true u = omega (arith, h)
+    by false true = omega (arith, h)
     by false false = omega arith
+
+-- a letter at the limit is the 65th
+limit-full : (n l i : ℕ) → n + l ≡ i + 64 → eqb i l ≡ eqb n 64
+limit-full n l i h = by (eqb n 64) refl
+  where
+    by : (t : Bool) → eqb n 64 ≡ t → eqb i l ≡ t
+    by true d = eq-eqb i l (omega (arith, h, eqb-true n 64 d))
+    by false d = ne-eqb i l (λ e. eqb-false n 64 d (omega (arith, h, e)))
 
 -- there are i bytes before place i
 before-length : (m : List ℕ) (i : ℕ) → length (beforeAt m i) ≡ i
@@ -241,21 +232,21 @@ pub record Walked (m : List ℕ) (i : ℕ) (s : Seen) : Type 0 where
   pub within : i ≤ length m
   pub fits : Fits i s
   pub kind : s .kind ≡ kindAt m i
-  pub letters : s .letters ≡ lettersBefore (beforeAt m i)
+  pub limit : lettersBefore (beforeAt m i) + s .limit ≡ i + 64
   pub codes : s .codes ≡ codesTo m i
   pub names : s .names ≡ namesTo m i
   pub told : Told (beforeAt m i) (s .kind)
   pub scanned : (a : Checked) → scan a [] m ≡ rest a (beforeAt m i) (drop i m)
 
 -- the walk starts
-pub walked-none : (m : List ℕ) → Walked m 0 (record { kind = 2; letters = 0; codes = 0; names = 0 })
+pub walked-none : (m : List ℕ) → Walked m 0 (record { kind = 2; limit = 64; codes = 0; names = 0 })
 unfolding kindAt codesTo namesTo beforeAt lettersBefore
 walked-none m =
     record {
       within = omega arith;
-      fits = record { kind = omega arith; letters = omega arith; codes = omega arith; names = omega arith };
+      fits = record { kind = omega arith; limit = omega arith; codes = omega arith; names = omega arith };
       kind = refl;
-      letters = refl;
+      limit = refl;
       codes = refl;
       names = refl;
       told = told-none;
@@ -266,45 +257,49 @@ walked-none m =
 abbrev seenNext : List ℕ → ℕ → Seen → Seen
 seenNext m i s =
     let c = classOf (getD m i 0) in
-    record { kind = nextKind (s .kind) c; letters = lettersNext c (s .letters); codes = s .codes + widthAt m i (s .kind); names = s .names + namesIn (s .kind) c }
+    record { kind = nextKind (s .kind) c; limit = limitNext c i (s .limit); codes = s .codes + widthAt m i (s .kind); names = s .names + namesIn (s .kind) c }
 
 module _ (m : List ℕ) (i : ℕ) (s : Seen) (bytes : (j : ℕ) → getD m j 0 < 256) (h : i < length m) (w : Walked m i s) where
+  -- the limit tells whether the word has 64 letters
+  full-here : eqb i (s .limit) ≡ eqb (lettersBefore (beforeAt m i)) 64
+  full-here = limit-full (lettersBefore (beforeAt m i)) (s .limit) i (w .limit)
+
   -- the fault at place i
-  fault-here : faultAt (beforeAt m i) (getD m i 0) (drop (suc i) m) ≡ faultOf (none (drop (suc i) m)) (eqb (s .letters) 64) (s .kind) (classOf (getD m i 0))
+  fault-here : faultAt (beforeAt m i) (getD m i 0) (drop (suc i) m) ≡ faultOf (none (drop (suc i) m)) (eqb i (s .limit)) (s .kind) (classOf (getD m i 0))
   fault-here =
-      fault-told (beforeAt m i) (s .kind) (getD m i 0) (drop (suc i) m) (w .fits .kind) (by-class (getD m i 0) (bytes i)) (w .told) ∙ rw (w .letters)
+      fault-told (beforeAt m i) (s .kind) (getD m i 0) (drop (suc i) m) (w .fits .kind) (by-class (getD m i 0) (bytes i)) (w .told) ∙ rw full-here
 
   -- a byte without a fault is passed
-  walked-next : faultIn (s .kind) (classOf (getD m i 0)) ≡ 0 → eqb (lettersNext (classOf (getD m i 0)) (s .letters)) 65 ≡ false → Walked m (suc i) (seenNext m i s)
+  walked-next : faultIn (s .kind) (classOf (getD m i 0)) ≡ 0 → (isLetterClass (classOf (getD m i 0)) && eqb i (s .limit)) ≡ false → Walked m (suc i) (seenNext m i s)
   unfolding kindAt codesTo namesTo beforeAt
   walked-next f l =
       let b = getD m i 0 in
       let c = by-class b (bytes i) in
       let e = entry-holds (s .kind) (classOf b) (w .fits .kind) (c .class) in
-      let u : (isLetterClass (classOf b) && eqb (lettersBefore (beforeAt m i)) 64) ≡ false = rw (← w .letters) (sym (letters-full (classOf b) (s .letters) (w .fits .letters)) ∙ l) in
+      let n = limit-more (beforeAt m i) (s .kind) b i (s .limit) c f (w .limit) in
       record {
         within = h;
         fits =
             record {
               kind = e .next;
-              letters = omega (arith, w .fits .letters, letters-up (classOf b) (s .letters), eqb-false (lettersNext (classOf b) (s .letters)) 65 l);
+              limit = omega (arith, n);
               codes = omega (arith, w .fits .codes, width-up m i (s .kind) e);
               names = omega (arith, w .fits .names, e .one);
             };
         kind = rw (w .kind);
-        letters = rw (w .letters) (letters-more (beforeAt m i) (s .kind) b c f);
+        limit = n;
         codes = rw (w .codes, w .kind);
         names = rw (w .names, w .kind);
         told = told-more (beforeAt m i) (s .kind) b (w .fits .kind) c (w .told) f;
-        scanned = λ a. w .scanned a ∙ rw (drop-cons m i 0 h) (rest-more a (beforeAt m i) (s .kind) b (drop (suc i) m) (w .fits .kind) c (w .told) f u);
+        scanned = λ a. w .scanned a ∙ rw (drop-cons m i 0 h) (rest-more a (beforeAt m i) (s .kind) b (drop (suc i) m) (w .fits .kind) c (w .told) f (rw full-here at l));
       }
 
   -- the walk goes on
   pub walked-more : (s′ : Seen) → stepOf m i s ≡ Next s′ → Walked m (suc i) s′
-  unfolding stepOf
-  walked-more s′ e = by (eqb (faultIn (s .kind) (classOf (getD m i 0))) 0) refl (eqb (lettersNext (classOf (getD m i 0)) (s .letters)) 65) refl e
+  unfolding stepOf passOf
+  walked-more s′ e = by (eqb (faultIn (s .kind) (classOf (getD m i 0))) 0) refl (isLetterClass (classOf (getD m i 0)) && eqb i (s .limit)) refl e
     where
-      by : (t : Bool) → eqb (faultIn (s .kind) (classOf (getD m i 0))) 0 ≡ t → (u : Bool) → eqb (lettersNext (classOf (getD m i 0)) (s .letters)) 65 ≡ u
+      by : (t : Bool) → eqb (faultIn (s .kind) (classOf (getD m i 0))) 0 ≡ t → (u : Bool) → (isLetterClass (classOf (getD m i 0)) && eqb i (s .limit)) ≡ u
           → cond t (cond u (Fault 10) (Next (seenNext m i s))) (Fault (faultIn (s .kind) (classOf (getD m i 0)))) ≡ Next s′ → Walked m (suc i) s′
       by true d true l q = absurd (let z : _≡_ {A = ℕ} 0 1 = cc in omega arith)
       by true d false l q = let r : seenNext m i s ≡ s′ = cc in rw (← r) (walked-next (eqb-true _ _ d) l)
@@ -312,16 +307,13 @@ module _ (m : List ℕ) (i : ℕ) (s : Seen) (bytes : (j : ℕ) → getD m j 0 <
 
   -- the step's fault is the paper's
   step-fault : (n : ℕ) → stepOf m i s ≡ Fault n → (faultAt (beforeAt m i) (getD m i 0) (drop (suc i) m) ≡ n) × (n ≡ 0 → ⊥)
-  unfolding stepOf
-  step-fault n e = by (eqb (faultIn (s .kind) (classOf (getD m i 0))) 0) refl (eqb (lettersNext (classOf (getD m i 0)) (s .letters)) 65) refl e
+  unfolding stepOf passOf
+  step-fault n e = by (eqb (faultIn (s .kind) (classOf (getD m i 0))) 0) refl (isLetterClass (classOf (getD m i 0)) && eqb i (s .limit)) refl e
     where
-      by : (t : Bool) → eqb (faultIn (s .kind) (classOf (getD m i 0))) 0 ≡ t → (u : Bool) → eqb (lettersNext (classOf (getD m i 0)) (s .letters)) 65 ≡ u
+      by : (t : Bool) → eqb (faultIn (s .kind) (classOf (getD m i 0))) 0 ≡ t → (u : Bool) → (isLetterClass (classOf (getD m i 0)) && eqb i (s .limit)) ≡ u
           → cond t (cond u (Fault 10) (Next (seenNext m i s))) (Fault (faultIn (s .kind) (classOf (getD m i 0)))) ≡ Fault n
           → (faultAt (beforeAt m i) (getD m i 0) (drop (suc i) m) ≡ n) × (n ≡ 0 → ⊥)
-      by true d true l q =
-          let v : (isLetterClass (classOf (getD m i 0)) && eqb (s .letters) 64) ≡ true = sym (letters-full (classOf (getD m i 0)) (s .letters) (w .fits .letters)) ∙ l in
-          let r : _≡_ {A = ℕ} 10 n = cc in
-          (fault-here ∙ rw (d, v) r, omega arith)
+      by true d true l q = let r : _≡_ {A = ℕ} 10 n = cc in (fault-here ∙ rw (d, l) r, omega arith)
       by true d false l q = absurd (let z : _≡_ {A = ℕ} 0 1 = cc in omega arith)
       by false d u l q =
           let r : faultIn (s .kind) (classOf (getD m i 0)) ≡ n = cc in

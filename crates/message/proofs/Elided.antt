@@ -8,7 +8,7 @@ use lib.Dec.{eqb}
 use Rattle.message.specs.Alphabet.{«д», «н», «с», «т», «ц», «ч», «ш»}
 use Rattle.message.specs.Tables.{among}
 use Rattle.message.specs.Letters.{Letter, firstByte, isSign, isVowel}
-use Rattle.message.specs.Elision.{begins₁, begins₂, elidesT, elidesD, elides, elideFrom}
+use Rattle.message.specs.Elision.{secondByte, elidesT, elidesD, elides, elideFrom, elidesAmong}
 use Rattle.message.specs.Syllables.{levelOf, nextStressed, syllableOf, namesFrom}
 use Rattle.message.specs.Vowels.{softens, phonesOf, phonesFrom}
 use Rattle.message.proofs.Classes.{among-same, among-none}
@@ -24,8 +24,8 @@ afterSilent = «с» ∷ «н» ∷ «ч» ∷ «ц» ∷ «ш» ∷ []
 
 -- an elided letter is т or д
 pub elided-silent : (p b : ℕ) (w : List Letter) → elides p b w ≡ true → among silent b ≡ true
-unfolding elides among
-elided-silent p b w h = by (eqb b «т») (eqb b «д») (elidesT p w) (elidesD p w) h
+unfolding elides elidesAmong among
+elided-silent p b w h = by (eqb b «т») (eqb b «д») (elidesT p (firstByte w) (secondByte w)) (elidesD p (firstByte w) (secondByte w)) h
   where
     by : (t d x y : Bool) → ((t && x) || (d && y)) ≡ true → (t || (d || false)) ≡ true
     by true d x y e = refl
@@ -34,7 +34,7 @@ elided-silent p b w h = by (eqb b «т») (eqb b «д») (elidesT p w) (elidesD 
 
 -- no letter is elided but before с н ч ц ш
 pub elided-next : (p b : ℕ) (w : List Letter) → elides p b w ≡ true → among afterSilent (firstByte w) ≡ true
-unfolding elides elidesT elidesD begins₁ begins₂ among
+unfolding elides elidesAmong elidesT elidesD among
 elided-next p b w h = by (among afterSilent (firstByte w)) refl
   where
     no : among afterSilent (firstByte w) ≡ false → (x : ℕ) → among afterSilent x ≡ true → eqb (firstByte w) x ≡ false
@@ -46,7 +46,7 @@ elided-next p b w h = by (among afterSilent (firstByte w)) refl
 
 -- and those letters stay
 pub next-stays : (p : ℕ) (w : List Letter) → among afterSilent (firstByte w) ≡ true → firstByte (elideFrom p w) ≡ firstByte w
-unfolding elideFrom elides firstByte among
+unfolding elideFrom elides elidesAmong firstByte among
 next-stays p [] h = refl
 next-stays p (l ∷ w) h = rw (among-same (λ b. eqb b «т») (λ _. false) afterSilent (l .byte) refl h, among-same (λ b. eqb b «д») (λ _. false) afterSilent (l .byte) refl h)
 

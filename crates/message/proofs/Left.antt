@@ -4,7 +4,7 @@
 use Prim.Native.Nat.{ℕ, zero, suc, _<_}
 use mathlib.Core.Path.{_≡_, refl, sym, ap, _∙_}
 use mathlib.Core.Bool.{Bool, true, false, cond, _&&_, _||_, not}
-use mathlib.Core.List.{List, [], _∷_, _++_}
+use mathlib.Core.List.{List, [], _∷_}
 use lib.Dec.{leb}
 use lib.ListN.{length, getD, drop, List·getD-eq-default}
 use lib.Seq.{drop-cons, drop-length}
@@ -12,15 +12,10 @@ use borrow.Author.Tests.{eqb-true, leb-true, leb-false}
 use native.Mathlib.Omega.{arith}
 use Rattle.message.specs.Alphabet.{mark}
 use Rattle.message.specs.Letters.{Letter, Message, last, more, putLetter, read, firstWord, small, isMark, isBreak, isGap, beginsWithMark}
-use Rattle.message.specs.Codes.{markOf, isVoicing}
-use Rattle.message.specs.Syllables.{hasMark, namesFrom}
-use Rattle.message.specs.Vowels.{endsHardFrom, hardEnd}
-use Rattle.message.specs.Voicing.{Tone, toneBefore}
-use Rattle.message.specs.Palatalization.{firstCode}
-use Rattle.message.specs.Tape.{segment, namesOf}
+use Rattle.message.specs.Syllables.{hasMark}
+use Rattle.message.specs.Vowels.{hardEnd}
 use Rattle.message.specs.Refusals.{vowelByte}
-use Rattle.message.specs.Scan.{classOf}
-use Rattle.message.specs.Places.{Left, stepLeft, leftAt, markBefore, markFrom, markedAt, tailTape, tailNext, tailWord, tapeAt, wordAt, toneAt, soundAt, letterOf, codesAt, Steady}
+use Rattle.message.specs.Places.{Left, stepLeft, leftAt, markFrom, letterOf, Steady}
 
 -- a mark is no break
 pub mark-within : (b : ℕ) → isMark b ≡ true → isBreak b ≡ false

@@ -5,9 +5,8 @@ use mathlib.Core.Path.{_≡_, refl}
 use mathlib.Core.List.{List, [], _∷_, map}
 use lib.ListN.{replicate}
 use Rattle.message.specs.Alphabet.{gap, pause, mark, «а», «б», «к», «ъ», «ь», «я»}
-use Rattle.message.specs.Refusals.{refusal, checkOf}
-use Rattle.message.specs.Answers.{afterCheck, within, joinAnswer, tapeAnswer}
-use Rattle.message.specs.declared.Answer.{Answer}
+use Rattle.message.specs.Refusals.{refusal}
+use Rattle.message.specs.Answers.{joinAnswer}
 use Rattle.message.specs.declared.Answer.the-variants.{Refused}
 use Rattle.message.proofs.Computed.{everything}
 

@@ -2,18 +2,20 @@
 -- Assumes nothing.
 use Prim.Native.Nat.{ℕ, zero, suc, _+_, _*_, _/_, _%_, _<_, _≤_}
 use mathlib.Core.Path.{_≡_, refl, sym, ap, _∙_}
-use mathlib.Core.Bool.{Bool, true, false, cond, _&&_, _||_, false≢true}
-use mathlib.Core.List.{List, [], _∷_, map}
+use mathlib.Core.Bool.{Bool, true, false, cond, _&&_, _||_, not, and-false, false≢true}
+use mathlib.Core.List.{List, [], _∷_}
 use native.Mathlib.Omega.{arith}
 use lib.Dec.{eqb, leb}
 use lib.ListN.{length, getD, List·getD-append}
 use lib.Seq.{getD-append-add}
-use borrow.Author.Tests.{eqb-true, eqb-false, leb-true, ne-eqb}
-use Rattle.message.specs.Alphabet.{«д», «т»}
-use Rattle.message.specs.Letters.{small, isMark, isBreak}
-use Rattle.message.specs.Refusals.{vowelByte, signByte, hardSignByte, consonantByte, letterByte}
-use Rattle.message.specs.Scan.{classOf, isBreakClass, isSignClass, isConsonantClass, isVowelClass, isLetterClass, nextKind, faultIn, widthIn, namesIn, packed, tabulate, tables, elidesAmong, letterAt, elidedAt, widthAt}
-use Rattle.message.proofs.Bytes.{below, pairs-same, by-class}
+use borrow.Author.Tests.{eqb-true, leb-true, ne-eqb}
+use Rattle.message.specs.Alphabet.{«д», «з», «н», «р», «с», «т»}
+use Rattle.message.specs.Tables.{among}
+use Rattle.message.specs.Letters.{small}
+use Rattle.message.specs.Elision.{elidesT, elidesD, elidesAmong}
+use Rattle.message.specs.Scan.{classOf, nextKind, faultIn, widthIn, namesIn, packed, tabulate, tables, letterAt, letterBefore, elidedAt, kindAt, widthAt}
+use Rattle.message.proofs.Bytes.{pairs-same, by-class, not-both}
+use Rattle.message.proofs.Classes.{among-none}
 use Rattle.message.proofs.Computed.{everything}
 
 -- a byte of another class than т and д is not elided
@@ -26,6 +28,29 @@ class-spoken m i h n =
     by true d x y e = absurd (false≢true (sym e))
     by false true x y e = absurd (false≢true (sym e))
     by false false x y e = refl
+
+-- the letters after which т and д are elided
+abbrev beforeSilent : List ℕ
+beforeSilent = «с» ∷ «н» ∷ «р» ∷ «з» ∷ []
+
+-- after another letter none is
+after-spoken : (p b c d : ℕ) → among beforeSilent p ≡ false → elidesAmong p b c d ≡ false
+unfolding among elidesAmong elidesT elidesD
+after-spoken p b c d e = simp (no «с» refl, no «н» refl, no «р» refl, no «з» refl, and-false)
+  where
+    no : (x : ℕ) → among beforeSilent x ≡ true → eqb p x ≡ false
+    no x i = among-none beforeSilent p x e i
+
+-- all of them are of class 7
+class-before : (b : ℕ) → b < 256 → not (eqb (classOf b) 7) ≡ true → among beforeSilent (small b) ≡ false
+unfolding everything
+class-before b = not-both (λ x. not (eqb (classOf x) 7)) (λ x. among beforeSilent (small x)) b refl
+
+-- so a byte after another kind than 7 is not elided
+pub kind-spoken : (m : List ℕ) (i : ℕ) → ((j : ℕ) → getD m j 0 < 256) → (kindAt m i ≡ 7 → ⊥) → elidedAt m i ≡ false
+unfolding among elidedAt letterBefore letterAt kindAt nextKind
+kind-spoken m zero h n = after-spoken 0 _ _ _ refl
+kind-spoken m (suc i) h n = after-spoken (small (getD m i 0)) _ _ _ (class-before (getD m i 0) (h i) (rw (ne-eqb (classOf (getD m i 0)) 7 (λ e. n (rw e)))))
 
 -- a table has its length
 tabulate-length : (f : ℕ → ℕ) (i n : ℕ) → length (tabulate f i n) ≡ n

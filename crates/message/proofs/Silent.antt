@@ -12,9 +12,8 @@ use native.Mathlib.Numerals.{add-one}
 use Rattle.message.specs.Alphabet.{«д», «з», «к», «н», «р», «с», «т», «ц», «ч», «ш»}
 use Rattle.message.specs.Tables.{among}
 use Rattle.message.specs.Letters.{Letter, read, firstWord, firstByte, small, hardOnly, paired, softOnly, plainVowels, softeningVowels, isMark, isBreak, isVowel, isConsonant}
-use Rattle.message.specs.Elision.{secondByte, begins₁, begins₂, elides}
-use Rattle.message.specs.Elision as elision
-use Rattle.message.specs.Scan.{elidesT, elidesD, elidesAmong, letterAt, letterBefore, elidedAt}
+use Rattle.message.specs.Elision.{secondByte, elides, elidesT, elidesD, elidesAmong}
+use Rattle.message.specs.Scan.{letterAt, letterBefore, elidedAt}
 use Rattle.message.proofs.Bytes.{break-consonant, mark-consonant, consonant-vowel}
 use Rattle.message.proofs.Classes.{among-same, among-none}
 use Rattle.message.specs.Places.{leftAt, wordAt, letterOf, Steady}
@@ -25,7 +24,7 @@ use Rattle.message.proofs.Computed.{everything}
 
 -- elision looks at the letter before and the two after
 pub elides-beside : (p b : ℕ) (w : List Letter) → elides p b w ≡ elidesAmong p b (firstByte w) (secondByte w)
-unfolding elides elision.elidesT elision.elidesD begins₁ begins₂ elidesAmong elidesT elidesD
+unfolding elides elidesAmong elidesT elidesD
 elides-beside p b w = refl
 
 -- no difference between two bytes for a test of consonants

@@ -2,14 +2,13 @@
 -- Assumes nothing: these are definitions.
 use Prim.Native.Nat.{ℕ}
 use mathlib.Core.Path.{_≡_}
-use mathlib.Core.Bool.{Bool, cond}
-use mathlib.Core.List.{List, [], _∷_, _++_}
+use mathlib.Core.Bool.{cond}
+use mathlib.Core.List.{List, _++_}
 use lib.Dec.{eqb, leb}
 use lib.ListN.{length, drop}
 use Rattle.message.specs.Tape.{tape, names}
 use Rattle.message.specs.Refusals.{refusal, checkOf}
 use Rattle.message.specs.Joints.{joined, liveCount, badCut}
-use Rattle.message.specs.declared.Refusal.{Refusal}
 use Rattle.message.specs.declared.Checked.{Checked}
 use Rattle.message.specs.declared.Answer.{Answer}
 use Rattle.message.specs.declared.Checked.the-variants as checked

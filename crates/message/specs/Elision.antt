@@ -1,7 +1,7 @@
 -- Paper 01, pass 1, silent letters: which т and д of a word are elided. Judged on the word as written, all together.
 -- Assumes nothing: these are definitions.
 use Prim.Native.Nat.{ℕ}
-use mathlib.Core.Bool.{Bool, false, cond, _&&_, _||_}
+use mathlib.Core.Bool.{Bool, cond, _&&_, _||_}
 use mathlib.Core.List.{List, [], _∷_}
 use lib.Dec.{eqb}
 use Rattle.message.specs.Alphabet.{«д», «з», «к», «н», «р», «с», «т», «ц», «ч», «ш»}
@@ -12,29 +12,23 @@ unfoldable pub secondByte : List Letter → ℕ
 secondByte [] = 0
 secondByte (l ∷ w) = firstByte w
 
--- the first two letters of w are b and c
-unfoldable pub begins₂ : ℕ → ℕ → List Letter → Bool
-begins₂ b c w = eqb (firstByte w) b && eqb (secondByte w) c
+-- Letters in a row, 0 for none. т after p and before c and d: after с before ск or н; after н before ск
+unfoldable pub elidesT : ℕ → ℕ → ℕ → Bool
+elidesT p c d = (eqb p «с» && (eqb c «с» && eqb d «к» || eqb c «н»)) || (eqb p «н» && (eqb c «с» && eqb d «к»))
 
-unfoldable pub begins₁ : ℕ → List Letter → Bool
-begins₁ b w = eqb (firstByte w) b
+-- д after p and before c and d: after р before ч or ц; after з before н or ц; after н before ц, с or шт
+unfoldable pub elidesD : ℕ → ℕ → ℕ → Bool
+elidesD p c d =
+    (eqb p «р» && (eqb c «ч» || eqb c «ц»))
+    || ((eqb p «з» && (eqb c «н» || eqb c «ц»)) || (eqb p «н» && (eqb c «ц» || (eqb c «с» || eqb c «ш» && eqb d «т»))))
 
--- т after the letter p and before w: after с before ск or н; after н before ск
-unfoldable pub elidesT : ℕ → List Letter → Bool
-elidesT p w =
-    (eqb p «с» && (begins₂ «с» «к» w || begins₁ «н» w))
-    || (eqb p «н» && begins₂ «с» «к» w)
-
--- д after the letter p and before w: after р before ч or ц; after з before н or ц; after н before ц, с or шт
-unfoldable pub elidesD : ℕ → List Letter → Bool
-elidesD p w =
-    (eqb p «р» && (begins₁ «ч» w || begins₁ «ц» w))
-    || ((eqb p «з» && (begins₁ «н» w || begins₁ «ц» w))
-    || (eqb p «н» && (begins₁ «ц» w || (begins₁ «с» w || begins₂ «ш» «т» w))))
+-- is the letter b after p and before c and d silent?
+unfoldable pub elidesAmong : ℕ → ℕ → ℕ → ℕ → Bool
+elidesAmong p b c d = (eqb b «т» && elidesT p c d) || (eqb b «д» && elidesD p c d)
 
 -- is the letter b, after p and before w, silent?
 unfoldable pub elides : ℕ → ℕ → List Letter → Bool
-elides p b w = (eqb b «т» && elidesT p w) || (eqb b «д» && elidesD p w)
+elides p b w = elidesAmong p b (firstByte w) (secondByte w)
 
 -- the letters left of w, whose letter before, as written, is p (0 at the start of a word)
 unfoldable pub elideFrom : ℕ → List Letter → List Letter

@@ -1,7 +1,7 @@
 -- All five passes of a word as one recursion over its letters as written, from the right, as the code goes. These are not the paper's words: `proofs/Fused.antt` shows that they agree with the passes one after the other.
 -- Assumes nothing: these are definitions.
 use Prim.Native.Nat.{ℕ}
-use mathlib.Core.Bool.{Bool, true, false, cond}
+use mathlib.Core.Bool.{Bool, false, cond}
 use mathlib.Core.List.{List, [], _∷_, _++_}
 use Rattle.message.specs.Letters.{Letter, firstByte, isSign, isVowel, isObstruent}
 use Rattle.message.specs.Codes.{J, palatalized}

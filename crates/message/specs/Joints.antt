@@ -1,12 +1,12 @@
 -- Paper 01, 'Joints': cuts, the parts between them, the second tape, and which cuts are live.
 -- Assumes nothing: these are definitions.
 use Prim.Native.Nat.{ℕ, suc, _-_}
-use mathlib.Core.Bool.{Bool, true, false, cond, _&&_, _||_, not}
+use mathlib.Core.Bool.{Bool, false, cond, _&&_, _||_, not}
 use mathlib.Core.List.{List, [], _∷_, _++_}
 use lib.Dec.{eqb, leb}
 use lib.ListN.{length, take, drop, getD}
 use Rattle.message.specs.Alphabet.{«и», «э»}
-use Rattle.message.specs.Letters.{Letter, Message, read, firstWord, lastWord, isGap, isBreak, isSign, isObstruent}
+use Rattle.message.specs.Letters.{Letter, read, firstWord, lastWord, isGap, isBreak, isSign, isObstruent}
 use Rattle.message.specs.Codes.{isVoicing, markOf}
 use Rattle.message.specs.Vowels.{endsHard}
 use Rattle.message.specs.Tape.{tape}

@@ -5,9 +5,10 @@ use mathlib.Core.Bool.{Bool, cond, _&&_, _||_}
 use mathlib.Core.List.{List, [], _∷_, _++_}
 use lib.Dec.{eqb, leb}
 use lib.ListN.{getD}
-use Rattle.message.specs.Alphabet.{gap, pause, «д», «е», «ё», «з», «и», «к», «н», «р», «с», «т», «ц», «ч», «ш», «ъ», «ь», «ю», «я»}
+use Rattle.message.specs.Alphabet.{gap, pause, «д», «е», «ё», «и», «т», «ъ», «ь», «ю», «я»}
 use Rattle.message.specs.Tables.{among}
 use Rattle.message.specs.Letters.{between, small, isMark, isHardOnly, isPaired, isSoftOnly, isVowel}
+use Rattle.message.specs.Elision.{elidesAmong}
 use Rattle.message.specs.Refusals.{refusal}
 use Rattle.message.specs.declared.Checked.{Checked}
 use Rattle.message.specs.declared.Checked.the-variants.{Accepted, Refused}
@@ -101,19 +102,6 @@ tabulate f i (suc n) = f i ∷ tabulate f (suc i) n
 unfoldable pub tables : List ℕ
 tables = tabulate classOf 0 256 ++ tabulate (λ j. packed (j / 16) (j % 16)) 0 256
 
--- Pass 1 on letters in a row, 0 for none: is т, or д, after p and before c and d silent?
-unfoldable pub elidesT : ℕ → ℕ → ℕ → Bool
-elidesT p c d = (eqb p «с» && (eqb c «с» && eqb d «к» || eqb c «н»)) || (eqb p «н» && (eqb c «с» && eqb d «к»))
-
-unfoldable pub elidesD : ℕ → ℕ → ℕ → Bool
-elidesD p c d =
-    (eqb p «р» && (eqb c «ч» || eqb c «ц»))
-    || ((eqb p «з» && (eqb c «н» || eqb c «ц»)) || (eqb p «н» && (eqb c «ц» || (eqb c «с» || eqb c «ш» && eqb d «т»))))
-
--- is the letter b after p and before c and d silent?
-unfoldable pub elidesAmong : ℕ → ℕ → ℕ → ℕ → Bool
-elidesAmong p b c d = (eqb b «т» && elidesT p c d) || (eqb b «д» && elidesD p c d)
-
 -- the small letter of the byte at place i; 0 past the end
 unfoldable pub letterAt : List ℕ → ℕ → ℕ
 letterAt m i = small (getD m i 0)
@@ -145,18 +133,21 @@ unfoldable pub namesTo : List ℕ → ℕ → ℕ
 namesTo m zero = 0
 namesTo m (suc i) = namesTo m i + namesIn (kindAt m i) (classOf (getD m i 0))
 
--- how many letters of the word have been read after a byte of class c, where n had been before it
-unfoldable pub lettersNext : ℕ → ℕ → ℕ
-lettersNext c n = cond (isLetterClass c) (n + 1) (cond (eqb c 1) n 0)
+-- the place at which a letter would be the 65th of its word, after a byte of class c at place i, where it was l before it
+unfoldable pub limitNext : ℕ → ℕ → ℕ → ℕ
+limitNext c i l = cond (isLetterClass c) l (cond (eqb c 1) (l + 1) (i + 65))
+
+-- a byte of class c at place i that makes w codes and n names and has no fault, unless it is a 65th letter
+unfoldable pub passOf : ℕ → ℕ → ℕ → ℕ → Seen → Step
+passOf i c w n s =
+    cond (isLetterClass c && eqb i (s .limit)) (Fault 10)
+    (Next (record { kind = nextKind (s .kind) c; limit = limitNext c i (s .limit); codes = s .codes + w; names = s .names + n }))
 
 -- one step of the check's walk, and its end
 unfoldable pub stepOf : List ℕ → ℕ → Seen → Step
 stepOf m i s =
     let c = classOf (getD m i 0) in
-    cond (eqb (faultIn (s .kind) c) 0)
-    (cond (eqb (lettersNext c (s .letters)) 65) (Fault 10)
-    (Next (record { kind = nextKind (s .kind) c; letters = lettersNext c (s .letters); codes = s .codes + widthAt m i (s .kind); names = s .names + namesIn (s .kind) c })))
-    (Fault (faultIn (s .kind) c))
+    cond (eqb (faultIn (s .kind) c) 0) (passOf i c (widthAt m i (s .kind)) (namesIn (s .kind) c) s) (Fault (faultIn (s .kind) c))
 
 unfoldable pub finishOf : ℕ → Seen → Checked
 finishOf n s =
@@ -166,6 +157,6 @@ finishOf n s =
 -- what keeps the walk's numbers small: a byte makes at most two codes and one name
 pub record Fits (i : ℕ) (s : Seen) : Type 0 where
   pub kind : s .kind < 15
-  pub letters : s .letters < 65
+  pub limit : s .limit ≤ i + 64
   pub codes : s .codes ≤ 2 * i
   pub names : s .names ≤ i

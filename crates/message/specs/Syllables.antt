@@ -1,9 +1,8 @@
 -- Paper 01, pass 2: the syllables of a word, and their names. The words here have been through pass 1.
 -- Assumes nothing: these are definitions.
 use Prim.Native.Nat.{ℕ}
-use mathlib.Core.Bool.{Bool, true, false, cond, _&&_, _||_, not}
+use mathlib.Core.Bool.{Bool, false, cond, _||_, not}
 use mathlib.Core.List.{List, [], _∷_}
-use lib.Dec.{eqb}
 use Rattle.message.specs.Letters.{Letter, isVowel, isConsonant, isSign}
 use Rattle.message.specs.declared.Cover.{Cover}
 use Rattle.message.specs.declared.Cover.the-variants.{Bare, Covered}

@@ -1,9 +1,9 @@
 -- What the tables of paper 01 are written with: a class is a list of bytes, and a table a list of entries.
 -- Assumes nothing: these are definitions.
 use Prim.Native.Nat.{ℕ}
-use mathlib.Core.Bool.{Bool, true, false, cond, _||_}
+use mathlib.Core.Bool.{Bool, false, cond, _||_}
 use mathlib.Core.List.{List, [], _∷_}
-use lib.Dec.{eqb, leb}
+use lib.Dec.{eqb}
 
 infix 40 _gives_
 -- is b one of the list?

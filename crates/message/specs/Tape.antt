@@ -2,7 +2,7 @@
 -- Assumes nothing: these are definitions.
 use Prim.Native.Nat.{ℕ}
 use mathlib.Core.Bool.{Bool, false, _&&_}
-use mathlib.Core.List.{List, [], _∷_, _++_}
+use mathlib.Core.List.{List, _∷_, _++_}
 use Rattle.message.specs.Letters.{Letter, Message, last, more, read, isGap}
 use Rattle.message.specs.Codes.{isVoicing, markOf}
 use Rattle.message.specs.Elision.{elide}

@@ -4,7 +4,7 @@ use Prim.Native.Nat.{ℕ}
 use mathlib.Core.Bool.{Bool, cond}
 use mathlib.Core.List.{List, [], _∷_}
 use Rattle.message.specs.Alphabet.{«б», «в», «г», «д», «ж», «з», «к», «п», «с», «т», «ф», «х», «ц», «ч», «ш», «щ»}
-use Rattle.message.specs.Tables.{Entry, _gives_, entry}
+use Rattle.message.specs.Tables.{_gives_, entry}
 use Rattle.message.specs.Letters.{isObstruent}
 use Rattle.message.specs.Codes.{Б, В, Г, Х1, Д, Ж, Ж', З, К, П, С, Т, Ф, Х, Ц, Ц1, Ч, Ч1, Ш, Щ, isVoicing, isDevoicing}
 use Rattle.message.specs.Vowels.{Phone}

@@ -5,7 +5,7 @@ use mathlib.Core.Bool.{Bool, true, false, cond, _&&_, _||_}
 use mathlib.Core.List.{List, [], _∷_, _++_}
 use lib.Dec.{eqb}
 use Rattle.message.specs.Alphabet.{«а», «б», «в», «г», «д», «е», «ж», «з», «и», «й», «к», «л», «м», «н», «о», «п», «р», «с», «т», «у», «ф», «х», «ц», «ч», «ш», «щ», «ы», «ь», «э», «ю», «я», «ё»}
-use Rattle.message.specs.Tables.{among, Entry, _gives_, entry}
+use Rattle.message.specs.Tables.{among, _gives_, entry}
 use Rattle.message.specs.Letters.{Letter, firstByte, isHardOnly, isPaired, isSoftOnly, isSign, isVowel, isSofteningVowel}
 use Rattle.message.specs.Codes.{А*, О*, Э*, Ы*, И*, У*, А1, Э1, Ы1, И1, У1, А2, Э2, Б, В, Г, Д, Ж, J, З, К, Л, М, Н, П, Р, С, Т, Ф, Х, Ц, Ч, Ш, Щ}
 use Rattle.message.specs.Syllables.{syllableOf}

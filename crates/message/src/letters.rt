@@ -1,9 +1,10 @@
 // Letters of a message by their bytes, and which of them are elided.
 ghost use mathlib.Core.Path.{_≡_};
-ghost use Prim.Native.Nat.{_+_, _<_};
+ghost use Prim.Native.Nat.{_<_};
 ghost use lib.ListN.{length};
 ghost use Rattle.message.specs.Letters.{small};
-ghost use Rattle.message.specs.Scan.{letterAt, letterBefore, elidesT, elidesD, elidesAmong, elidedAt};
+ghost use Rattle.message.specs.Elision.{elidesT, elidesD, elidesAmong};
+ghost use Rattle.message.specs.Scan.{letterAt, letterBefore, elidedAt};
 
 // The small letter of a byte.
 pub fn small_letter(b: u8) -> u8

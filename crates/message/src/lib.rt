@@ -44,10 +44,10 @@ pub enum Answer {
     Refused(Refusal),
 }
 
-// What the check has seen of a message: the kind of what stands before, the letters of this word, and the counts so far.
+// What the check has seen of a message: the kind of what stands before, the place at which a letter would be the 65th of its word, and the counts so far.
 pub struct Seen {
     pub kind: usize,
-    pub letters: usize,
+    pub limit: usize,
     pub codes: usize,
     pub names: usize,
 }

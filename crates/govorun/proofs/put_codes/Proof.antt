@@ -2,7 +2,7 @@
 -- Assumes nothing.
 use lib.ListN.{length, length-set}
 use mathlib.Core.Path.{_≡_}
-use Prim.Native.Nat.{_≤_, _*_, _-_, _+_}
+use Prim.Native.Nat.{_≤_, _*_, _-_}
 use native.Mathlib.Omega.{arith}
 use Rattle.govorun.proofs.put_codes.Statement.{statement}
 use Rattle.govorun.proofs.put_codes.Tie as tie

@@ -1,8 +1,8 @@
--- Only ъ and ь, classes 4 and 5, go by the kind before; it is a vowel's if it is a mark (1) or a vowel (10 to 12).
+-- The kind before is a vowel's if it is a mark (1) or a vowel (10 to 12).
 -- Assumes nothing.
-use Prim.Native.Nat.{ℕ, _≤_}
+use Prim.Native.Nat.{ℕ, _≤_, _<_}
 use mathlib.Core.Path.{_≡_}
-use mathlib.Core.Bool.{true, and-false}
+use mathlib.Core.Bool.{true}
 use native.Mathlib.Omega.{arith}
 use borrow.Author.Tests.{eq-eqb, ne-eqb, le-leb, lt-leb}
 use borrow.Author.Needs.{needs}
@@ -11,40 +11,37 @@ use Rattle.message.proofs.check.next_kind.Statement.{statement}
 use Rattle.message.proofs.check.next_kind.Tie as tie
 
 -- a class from 4 to 5 is a sign's
-sign-class : (c : ℕ) → 4 ≤ c → c ≤ 5 → isSignClass c ≡ true
-sign-class c h l = rw (le-leb 4 c h, le-leb c 5 l)
-
-returns : tie.Need-returns
-unfolding nextKind
-returns c = rw (lt-leb 4 (c .before .args .c) (c .if1 .taken))
-
-returns-2 : tie.Need-returns-2
-unfolding nextKind
-returns-2 c = simp (and-false, lt-leb _ 5 (c .if2 .taken))
+sign-class : (c : ℕ) → (4 ≤ c) × (c < 6) → isSignClass c ≡ true
+sign-class c h = rw (le-leb 4 c (h .0), le-leb c 5 (omega (arith, h .1)))
 
 add-result : tie.Need-add-result
 add-result c = search needs
 
+returns : tie.Need-returns
+unfolding nextKind
+returns c = let s = c .before in rw (sign-class (s .args .c) (s .pre), eq-eqb _ 1 (c .if1 .taken))
+
+returns-2 : tie.Need-returns-2
+unfolding nextKind
+returns-2 c = let s = c .before .before in rw (sign-class (s .args .c) (s .pre), ne-eqb (s .args .k) 1 (c .before .if1 .left), lt-leb 10 (s .args .k) (c .if2 .taken))
+
 returns-3 : tie.Need-returns-3
 unfolding nextKind
-returns-3 c = let a = c .before .before .before .args in rw (sign-class (a .c) (omega arith) (omega arith), eq-eqb _ 1 (c .if3 .taken))
-
-returns-4 : tie.Need-returns-4
-unfolding nextKind
-returns-4 c = let a = c .before .before .before .before .args in rw (sign-class (a .c) (omega arith) (omega arith), ne-eqb (a .k) 1 (c .before .if3 .left), lt-leb 10 (a .k) (c .if4 .taken))
-
-returns-5 : tie.Need-returns-5
-unfolding nextKind
-returns-5 c = let a = c .before .before .before .before .before .args in rw (sign-class (a .c) (omega arith) (omega arith), ne-eqb (a .k) 1 (c .before .before .if3 .left), le-leb 10 (a .k) (omega arith), lt-leb (a .k) 12 (c .if5 .taken))
+returns-3 c =
+    let s = c .before .before .before in
+    let k = s .args .k in
+    rw (sign-class (s .args .c) (s .pre), ne-eqb k 1 (c .before .before .if1 .left), le-leb 10 k (omega arith), lt-leb k 12 (c .if3 .taken))
 
 add-result-2 : tie.Need-add-result-2
 add-result-2 c = search needs
 
-returns-6 : tie.Need-returns-6
+returns-4 : tie.Need-returns-4
 unfolding nextKind
-returns-6 c = let a = c .before .before .before .before .before .args in rw (sign-class (a .c) (omega arith) (omega arith), ne-eqb (a .k) 1 (c .before .before .if3 .left), le-leb 10 (a .k) (omega arith), le-leb (a .k) 12 (omega arith))
+returns-4 c =
+    let s = c .before .before .before in
+    let k = s .args .k in
+    rw (sign-class (s .args .c) (s .pre), ne-eqb k 1 (c .before .before .if1 .left), le-leb 10 k (omega arith), le-leb k 12 (omega arith))
 
 pub next-kind-spec : {M : Type 1} → statement M
 next-kind-spec =
-    tie.close
-    (tie.spec returns returns-2 add-result returns-3 returns-4 returns-5 add-result-2 returns-6)
+    tie.close (tie.spec add-result returns returns-2 returns-3 add-result-2 returns-4)

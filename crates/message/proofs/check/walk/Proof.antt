@@ -20,7 +20,7 @@ loop-holds : tie.Need-loop-holds Inv-loop μ-loop
 loop-holds c = walked-none (c .before .args .m .now)
 
 step-requires : tie.Need-step-requires Inv-loop μ-loop
-step-requires c κs = (c .before .before .before .pre .0, c .loop-test .taken, omega arith, c .before .loop .inv .fits)
+step-requires c κs = (c .before .before .before .pre .0, c .loop-test .taken, omega arith, c .before .loop .inv .kind, c .before .loop .inv .fits)
 
 enum-known-number : tie.Need-enum-known-number Inv-loop μ-loop
 enum-known-number c = search needs

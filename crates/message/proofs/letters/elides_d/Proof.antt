@@ -2,7 +2,7 @@
 -- Assumes nothing.
 use mathlib.Core.Bool.{or-false}
 use borrow.Author.Tests.{ne-eqb}
-use Rattle.message.specs.Scan.{elidesD}
+use Rattle.message.specs.Elision.{elidesD}
 use Rattle.message.proofs.letters.elides_d.Statement.{statement}
 use Rattle.message.proofs.letters.elides_d.Tie as tie
 

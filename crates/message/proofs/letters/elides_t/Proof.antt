@@ -2,7 +2,7 @@
 -- Assumes nothing.
 use mathlib.Core.Bool.{and-true, and-false, or-false}
 use borrow.Author.Tests.{ne-eqb}
-use Rattle.message.specs.Scan.{elidesT}
+use Rattle.message.specs.Elision.{elidesT}
 use Rattle.message.proofs.letters.elides_t.Statement.{statement}
 use Rattle.message.proofs.letters.elides_t.Tie as tie
 

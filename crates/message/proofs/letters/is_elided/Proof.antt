@@ -3,7 +3,8 @@
 use mathlib.Core.Bool.{or-false}
 use borrow.Author.Needs.{needs}
 use borrow.Author.Tests.{ne-eqb}
-use Rattle.message.specs.Scan.{elidesAmong, elidedAt}
+use Rattle.message.specs.Elision.{elidesAmong}
+use Rattle.message.specs.Scan.{elidedAt}
 use Rattle.message.proofs.letters.is_elided.Statement.{statement}
 use Rattle.message.proofs.letters.is_elided.Tie as tie
 

@@ -1,0 +1,226 @@
+//! One call of the library beside what the paper asks of it: the answer, and every byte of the
+//! lent memory and around it.
+
+use crate::answers::{lent, whole_join, whole_names, whole_tape, Whole};
+use crate::gen::{noise, Rng};
+use crate::text::{hex, show};
+use crate::unit;
+
+/// How many bytes are watched on each side of the lent ones.
+const GUARD: usize = 64;
+
+/// Answers up to this length are tried with outputs of every length.
+const SHORT: usize = 12;
+
+/// An operation that writes to a lent output.
+#[derive(Clone, Copy, Debug)]
+pub enum Operation<'a> {
+    Name,
+    Transcribe,
+    Join(&'a [usize]),
+}
+
+impl Operation<'_> {
+    /// The answer that the paper asks for, before an output is lent.
+    fn whole(self, msg: &[u8]) -> Whole {
+        match self {
+            Operation::Name => whole_names(msg),
+            Operation::Transcribe => whole_tape(msg),
+            Operation::Join(cuts) => whole_join(msg, cuts),
+        }
+    }
+
+    /// The answer of the library.
+    fn call(self, msg: &[u8], out: &mut [u8]) -> unit::Answer {
+        match self {
+            Operation::Name => unit::name(msg, out),
+            Operation::Transcribe => unit::transcribe(msg, out),
+            Operation::Join(cuts) => unit::join(msg, cuts, out),
+        }
+    }
+}
+
+/// Bytes at any address, odd ones too, with random bytes on both sides.
+struct Placed {
+    memory: Vec<u8>,
+    start: usize,
+    length: usize,
+}
+
+impl Placed {
+    /// Room for so many bytes; they hold a random pattern.
+    fn room(rng: &mut Rng, length: usize) -> Self {
+        let start = GUARD + rng.below(16);
+        Placed {
+            memory: noise::bytes(rng, start + length + GUARD),
+            start,
+            length,
+        }
+    }
+
+    fn copy(rng: &mut Rng, content: &[u8]) -> Self {
+        let mut placed = Placed::room(rng, content.len());
+        placed.bytes_mut().copy_from_slice(content);
+        placed
+    }
+
+    fn bytes(&self) -> &[u8] {
+        &self.memory[self.start..][..self.length]
+    }
+
+    fn bytes_mut(&mut self) -> &mut [u8] {
+        &mut self.memory[self.start..][..self.length]
+    }
+
+    /// The memory, guards too, as it must be once the bytes are these.
+    fn memory_with(&self, content: &[u8]) -> Vec<u8> {
+        let (before, after) = (
+            &self.memory[..self.start],
+            &self.memory[self.start + self.length..],
+        );
+        [before, content, after].concat()
+    }
+}
+
+/// The check on a message, or what is wrong with its answer.
+pub fn check(rng: &mut Rng, msg: &[u8]) -> Result<(), String> {
+    let placed = Placed::copy(rng, msg);
+    let expected = unit::Counts::from(crate::check(msg));
+    let given = unit::check(placed.bytes());
+    if given == expected {
+        return Ok(());
+    }
+    Err(format!(
+        "the check gives {given:?} in the place of {expected:?}\n{}",
+        told(msg)
+    ))
+}
+
+/// An operation on a message, with the answer that the paper asks for.
+pub struct Trial<'a> {
+    operation: Operation<'a>,
+    msg: &'a [u8],
+    whole: Whole,
+}
+
+impl<'a> Trial<'a> {
+    pub fn new(operation: Operation<'a>, msg: &'a [u8]) -> Self {
+        Trial {
+            operation,
+            msg,
+            whole: operation.whole(msg),
+        }
+    }
+
+    /// The length of the whole answer; 0 for a refusal.
+    pub fn length(&self) -> usize {
+        self.whole.as_ref().map_or(0, |(written, _)| written.len())
+    }
+
+    /// Tries the operation with an output of `cap` bytes, and says what is wrong with it.
+    pub fn with_output(&self, rng: &mut Rng, cap: usize) -> Result<(), String> {
+        let placed = Placed::copy(rng, self.msg);
+        let mut out = Placed::room(rng, cap);
+        let (_, after) = lent(&self.whole, out.bytes());
+        let memory = out.memory_with(&after);
+        self.in_place(placed.bytes(), out.bytes_mut())?;
+        if out.memory != memory {
+            return Err(self.told(&told_memory(&out, &memory)));
+        }
+        Ok(())
+    }
+
+    /// Tries the operation on this copy of the message and this output.
+    pub fn in_place(&self, msg: &[u8], out: &mut [u8]) -> Result<(), String> {
+        let (expected, after) = lent(&self.whole, out);
+        let expected = unit::Answer::from(expected);
+        let given = self.operation.call(msg, out);
+        if given != expected {
+            let cap = out.len();
+            return Err(self.told(&format!("gives {given:?} for {expected:?}, output {cap}")));
+        }
+        if out != after {
+            let out = hex(out);
+            return Err(self.told(&format!("leaves {out} for {}", hex(&after))));
+        }
+        if msg != self.msg {
+            return Err(self.told("changes the message"));
+        }
+        Ok(())
+    }
+
+    fn told(&self, wrong: &str) -> String {
+        format!("{:?} {wrong}\n{}", self.operation, told(self.msg))
+    }
+}
+
+/// The message for a report.
+fn told(msg: &[u8]) -> String {
+    format!(
+        "message of {} bytes: {}\n{}",
+        msg.len(),
+        hex(msg),
+        show(msg)
+    )
+}
+
+fn told_memory(out: &Placed, expected: &[u8]) -> String {
+    let differs = |&index: &usize| out.memory[index] != expected[index];
+    let first = (0..expected.len()).find(differs).unwrap_or(0);
+    let index = first as isize - out.start as isize;
+    format!("changes the byte at {index} of an output of {}", out.length)
+}
+
+/// The operations that write to an output.
+pub fn writing(cuts: &[usize]) -> [Operation<'_>; 3] {
+    [
+        Operation::Name,
+        Operation::Transcribe,
+        Operation::Join(cuts),
+    ]
+}
+
+/// All operations on a message, with outputs of all lengths that matter.
+pub fn all(rng: &mut Rng, msg: &[u8], cuts: &[usize]) -> Result<(), String> {
+    check(rng, msg)?;
+    for operation in writing(cuts) {
+        let trial = Trial::new(operation, msg);
+        for cap in caps(rng, trial.length()) {
+            trial.with_output(rng, cap)?;
+        }
+    }
+    Ok(())
+}
+
+/// All operations on a message, each with an output of one length.
+pub fn once(rng: &mut Rng, msg: &[u8], cuts: &[usize]) -> Result<(), String> {
+    check(rng, msg)?;
+    for operation in writing(cuts) {
+        let trial = Trial::new(operation, msg);
+        let cap = any_cap(rng, trial.length());
+        trial.with_output(rng, cap)?;
+    }
+    Ok(())
+}
+
+/// The lengths of outputs to try for an answer of this length: every one up to one more, or only
+/// those around the ends if the answer is long.
+fn caps(rng: &mut Rng, full: usize) -> Vec<usize> {
+    let mut caps: Vec<usize> = if full <= SHORT {
+        (0..=full + 1).collect()
+    } else {
+        vec![0, 1, rng.below(full), full - 1, full, full + 1]
+    };
+    caps.push(full + rng.below(100));
+    caps
+}
+
+fn any_cap(rng: &mut Rng, full: usize) -> usize {
+    match rng.below(8) {
+        0 => 0,
+        1 => rng.below(full + 1),
+        2 => full.saturating_sub(1),
+        3 | 4 => full + rng.below(100),
+        _ => full,
+    }
+}

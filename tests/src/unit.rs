@@ -1,0 +1,105 @@
+//! The library under test: the C interface of `include/govorun.h`, with slices in the place of
+//! pointers and lengths.
+
+use crate::refusals::Refusal;
+
+/// The archive that is linked; `build.rs` finds it.
+pub const ARCHIVE: &str = env!("GOVORUN_ARCHIVE");
+
+/// `govorun_answer` of the header.
+#[repr(C)]
+#[derive(Clone, Copy, Debug, PartialEq, Eq)]
+pub struct Answer {
+    pub number: u32,
+    pub place: u32,
+    pub length: u32,
+    pub live: u32,
+}
+
+/// `govorun_counts` of the header.
+#[repr(C)]
+#[derive(Clone, Copy, Debug, PartialEq, Eq)]
+pub struct Counts {
+    pub number: u32,
+    pub place: u32,
+    pub codes: u32,
+    pub names: u32,
+}
+
+/// The functions as the header declares them.
+pub mod raw {
+    use super::{Answer, Counts};
+
+    #[link(name = "capi", kind = "static")]
+    extern "C" {
+        pub fn govorun_check(msg: *const u8, len: usize) -> Counts;
+        pub fn govorun_name(msg: *const u8, len: usize, out: *mut u8, cap: usize) -> Answer;
+        pub fn govorun_transcribe(msg: *const u8, len: usize, out: *mut u8, cap: usize) -> Answer;
+        pub fn govorun_join(
+            msg: *const u8,
+            len: usize,
+            cuts: *const usize,
+            n: usize,
+            out: *mut u8,
+            cap: usize,
+        ) -> Answer;
+    }
+}
+
+pub fn check(msg: &[u8]) -> Counts {
+    // SAFETY: a slice points to as many bytes as it says; so too below.
+    unsafe { raw::govorun_check(msg.as_ptr(), msg.len()) }
+}
+
+pub fn name(msg: &[u8], out: &mut [u8]) -> Answer {
+    // SAFETY: what is borrowed for writing overlaps nothing else; so too below.
+    unsafe { raw::govorun_name(msg.as_ptr(), msg.len(), out.as_mut_ptr(), out.len()) }
+}
+
+pub fn transcribe(msg: &[u8], out: &mut [u8]) -> Answer {
+    // SAFETY: as above.
+    unsafe { raw::govorun_transcribe(msg.as_ptr(), msg.len(), out.as_mut_ptr(), out.len()) }
+}
+
+pub fn join(msg: &[u8], cuts: &[usize], out: &mut [u8]) -> Answer {
+    let (places, count) = (cuts.as_ptr(), cuts.len());
+    let (start, cap) = (out.as_mut_ptr(), out.len());
+    // SAFETY: as above.
+    unsafe { raw::govorun_join(msg.as_ptr(), msg.len(), places, count, start, cap) }
+}
+
+/// The expected answer in the header's types.
+impl From<crate::Answer> for Answer {
+    fn from(expected: crate::Answer) -> Self {
+        Answer {
+            number: expected.number.into(),
+            place: narrow(expected.place),
+            length: narrow(expected.length),
+            live: narrow(expected.live),
+        }
+    }
+}
+
+/// The expected answer of the check in the header's types.
+impl From<Result<crate::Counts, Refusal>> for Counts {
+    fn from(expected: Result<crate::Counts, Refusal>) -> Self {
+        match expected {
+            Ok(counts) => Counts {
+                number: 0,
+                place: 0,
+                codes: narrow(counts.codes),
+                names: narrow(counts.names),
+            },
+            Err(refusal) => Counts {
+                number: refusal.number.into(),
+                place: narrow(refusal.place),
+                codes: 0,
+                names: 0,
+            },
+        }
+    }
+}
+
+fn narrow(number: usize) -> u32 {
+    u32::try_from(number).expect("places and lengths are small")
+}

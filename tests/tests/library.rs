@@ -1,0 +1,272 @@
+//! Every function of the C interface beside the expected answers: the four numbers, the lent
+//! output byte for byte, and the bytes around it.
+
+use govorun_tests::fence::{as_places, Fenced};
+use govorun_tests::gen::cuts::BAD_CUTS;
+use govorun_tests::gen::damaged::SPOTS;
+use govorun_tests::gen::noise::{bytes, every_string, string};
+use govorun_tests::gen::{
+    bad_cuts, damaged, extreme_messages, good_cuts, message, message_of_any_length, Rng,
+};
+use govorun_tests::message::breaks;
+use govorun_tests::trial::{self, Operation, Trial};
+use govorun_tests::{check, cp1251, hex, tape, unit};
+
+/// All operations on one message with one list of cuts.
+fn agrees(rng: &mut Rng, msg: &[u8], cuts: &[usize]) {
+    if let Err(difference) = trial::all(rng, msg, cuts) {
+        panic!("{difference}\ncuts {cuts:?}");
+    }
+}
+
+/// The joiner alone, with outputs of the given lengths.
+fn joins(rng: &mut Rng, msg: &[u8], cuts: &[usize], caps: &[usize]) {
+    let trial = Trial::new(Operation::Join(cuts), msg);
+    for &cap in caps {
+        if let Err(difference) = trial.with_output(rng, cap) {
+            panic!("{difference}");
+        }
+    }
+}
+
+/// A list of places without any order, in and around a message.
+fn any_cuts(rng: &mut Rng, msg: &[u8]) -> Vec<usize> {
+    let place = |rng: &mut Rng| match rng.below(8) {
+        0 => usize::MAX,
+        1 => rng.bits() as usize,
+        _ => rng.below(msg.len() + 2),
+    };
+    (0..rng.below(5)).map(|_| place(rng)).collect()
+}
+
+#[test]
+fn every_string_of_up_to_two_bytes() {
+    let mut rng = Rng::for_test(20);
+    let every_byte: Vec<u8> = (0..=255).collect();
+    let mut count = 0;
+    every_string(&every_byte, 2, &mut |msg| {
+        let cuts = any_cuts(&mut rng, msg);
+        agrees(&mut rng, msg, &cuts);
+        count += 1;
+    });
+    assert_eq!(count, 1 + 256 + 65536);
+}
+
+#[test]
+fn every_word_of_up_to_three_letters() {
+    let mut rng = Rng::for_test(21);
+    let letters = cp1251("абвдежзийкнсьъэ* ");
+    every_string(&letters, 3, &mut |msg| {
+        let cuts = breaks(msg);
+        agrees(&mut rng, msg, &cuts);
+    });
+}
+
+#[test]
+fn short_accepted_messages_with_good_cuts() {
+    let mut rng = Rng::for_test(22);
+    for _ in 0..80_000 {
+        let length = rng.between(1, 30);
+        let msg = message(&mut rng, length);
+        let cuts = good_cuts(&mut rng, &msg);
+        agrees(&mut rng, &msg, &cuts);
+    }
+}
+
+#[test]
+fn accepted_messages_with_good_cuts() {
+    let mut rng = Rng::for_test(31);
+    for _ in 0..15_000 {
+        let msg = message_of_any_length(&mut rng);
+        let cuts = good_cuts(&mut rng, &msg);
+        agrees(&mut rng, &msg, &cuts);
+    }
+}
+
+#[test]
+fn accepted_messages_with_bad_cuts() {
+    let mut rng = Rng::for_test(23);
+    for _ in 0..10_000 {
+        let msg = message_of_any_length(&mut rng);
+        let codes = check(&msg).expect("an accepted message").codes;
+        for kind in BAD_CUTS {
+            if let Some((cuts, _)) = bad_cuts(&mut rng, &msg, kind) {
+                joins(&mut rng, &msg, &cuts, &[0, codes]);
+            }
+        }
+    }
+}
+
+#[test]
+fn damaged_messages() {
+    let mut rng = Rng::for_test(24);
+    for number in 1..=10 {
+        for spot in SPOTS {
+            for _ in 0..1500 {
+                let (msg, _) = damaged(&mut rng, number, spot);
+                let cuts = any_cuts(&mut rng, &msg);
+                agrees(&mut rng, &msg, &cuts);
+            }
+        }
+    }
+}
+
+#[test]
+fn strings_of_a_few_letters() {
+    let mut rng = Rng::for_test(25);
+    let alphabets = [
+        "дква #",
+        "сбьъа ",
+        "иэдьж* ",
+        "ижцйьа #",
+        "яежхч* ",
+        "стнди ",
+        "здцнршк",
+    ];
+    for _ in 0..80_000 {
+        let alphabet = cp1251(rng.pick(&alphabets));
+        let length = rng.between(3, 12);
+        let msg = string(&mut rng, &alphabet, length);
+        let cuts = good_cuts(&mut rng, &msg);
+        agrees(&mut rng, &msg, &cuts);
+    }
+}
+
+#[test]
+fn random_bytes() {
+    let mut rng = Rng::for_test(26);
+    for _ in 0..20_000 {
+        let length = rng.below(40);
+        let msg = bytes(&mut rng, length);
+        let cuts = any_cuts(&mut rng, &msg);
+        agrees(&mut rng, &msg, &cuts);
+    }
+}
+
+#[test]
+fn messages_of_about_the_longest_length() {
+    let mut rng = Rng::for_test(27);
+    for length in (4090..=4100).chain([5000, 8192, 65_535, 65_536, 65_537, 1_000_000]) {
+        for _ in 0..5 {
+            let msg = message(&mut rng, length);
+            let cuts = good_cuts(&mut rng, &msg);
+            agrees(&mut rng, &msg, &cuts);
+        }
+    }
+}
+
+#[test]
+fn extreme_messages_with_many_cuts() {
+    let mut rng = Rng::for_test(28);
+    for msg in extreme_messages(&mut rng, 10) {
+        let all = breaks(&msg);
+        agrees(&mut rng, &msg, &all);
+        agrees(&mut rng, &msg, &[]);
+        let half: Vec<usize> = all.iter().copied().step_by(2).collect();
+        agrees(&mut rng, &msg, &half);
+        let twice = all.repeat(2);
+        joins(&mut rng, &msg, &twice, &[0, 9000]);
+        let endless = vec![usize::MAX; 100_000];
+        joins(&mut rng, &msg, &endless, &[0, 9000]);
+    }
+}
+
+/// An operation with all its memory at fences: the bytes of the message, the cuts and the output
+/// stand right after a fence or right before one.
+struct AtFences {
+    msg: Fenced,
+    cuts: Fenced,
+    out: Fenced,
+}
+
+type Side = fn(&mut Fenced, usize) -> &mut [u8];
+const SIDES: [Side; 2] = [Fenced::first, Fenced::last];
+
+impl AtFences {
+    fn new() -> Self {
+        AtFences {
+            msg: Fenced::new(4096 + 100),
+            cuts: Fenced::new(2048 * size_of::<usize>()),
+            out: Fenced::new(2 * 4096),
+        }
+    }
+
+    /// All operations, with outputs of these lengths.
+    fn agree(&mut self, side: Side, msg: &[u8], cuts: &[usize], caps: &[usize]) {
+        let placed = side(&mut self.msg, msg.len());
+        placed.copy_from_slice(msg);
+        let list = as_places(side(&mut self.cuts, size_of_val(cuts)));
+        list.copy_from_slice(cuts);
+        assert_eq!(unit::check(placed), check(msg).into(), "{}", hex(msg));
+        for operation in trial::writing(list) {
+            let trial = Trial::new(operation, msg);
+            for &cap in caps {
+                let tried = trial.in_place(placed, side(&mut self.out, cap));
+                tried.unwrap_or_else(|difference| panic!("{difference}"));
+            }
+        }
+    }
+}
+
+#[test]
+fn nothing_outside_is_touched() {
+    let mut rng = Rng::for_test(29);
+    let mut memory = AtFences::new();
+    for round in 0..4000 {
+        let side = SIDES[round % 2];
+        let number = 3 + round as u8 % 8;
+        let (bad, _) = damaged(&mut rng, number, SPOTS[round % 3]);
+        memory.agree(side, &bad, &[], &[1]);
+        let msg = message_of_any_length(&mut rng);
+        let cuts = good_cuts(&mut rng, &msg);
+        let full = tape(&msg, usize::MAX).expect("an accepted message").len();
+        let longer = (full + 10).min(2 * 4096);
+        memory.agree(side, &msg, &cuts, &[0, full - 1, full, longer]);
+    }
+}
+
+#[test]
+fn empty_slices() {
+    let mut rng = Rng::for_test(30);
+    for (msg, cuts) in [
+        ("", &[][..]),
+        ("", &[0]),
+        ("а", &[]),
+        ("а б", &[]),
+        ("7", &[]),
+    ] {
+        let msg = cp1251(msg);
+        assert_eq!(unit::check(&msg), check(&msg).into());
+        for operation in trial::writing(cuts) {
+            let tried = Trial::new(operation, &msg).in_place(&msg, &mut []);
+            tried.unwrap_or_else(|difference| panic!("{difference}"));
+        }
+        agrees(&mut rng, &msg, cuts);
+    }
+}
+
+/// Lengths whose lower 32 bits alone would be other lengths that matter.
+#[test]
+fn lengths_above_32_bits() {
+    const HUGE: usize = 1 << 32;
+    let msg = cp1251("а б");
+    let mut memory = Fenced::new(HUGE + 3);
+    memory.first(3).copy_from_slice(&msg);
+    let long = memory.first(HUGE + 3);
+    assert_eq!(unit::check(long).number, 2);
+    let mut out = [9; 8];
+    for answer in [
+        unit::name(long, &mut out),
+        unit::transcribe(long, &mut out),
+        unit::join(long, &[1], &mut out),
+    ] {
+        assert_eq!((answer.number, answer.place, out), (2, 0, [9; 8]));
+    }
+    let lent = memory.last(HUGE);
+    assert_eq!(unit::name(&msg, lent).length, 2);
+    assert_eq!(unit::transcribe(&msg, lent).length, 3);
+    assert_eq!(unit::join(&msg, &[1], lent).length, 3);
+    let mut zeros = Fenced::new(HUGE * size_of::<usize>());
+    let answer = unit::join(&msg, as_places(zeros.whole()), &mut out);
+    assert_eq!((answer.number, answer.place, out), (12, 0, [9; 8]));
+}

@@ -1,0 +1,190 @@
+//! The built program beside the expected print, one process for each message. The environment
+//! variable GOVORUN_PROGRAM names another program to try.
+
+use std::env;
+use std::fs::File;
+use std::io::{ErrorKind, Write};
+use std::path::{Path, PathBuf};
+use std::process::{Child, Command, Stdio};
+use std::thread;
+use std::time::Duration;
+
+use govorun_tests::gen::damaged::SPOTS;
+use govorun_tests::gen::noise::{bytes, string};
+use govorun_tests::gen::{damaged, lexicon, message, message_of_any_length, word, Rng};
+use govorun_tests::{cp1251, expected_print, hex};
+
+const WORKERS: usize = 2;
+
+fn program() -> PathBuf {
+    let given = env::var_os("GOVORUN_PROGRAM").unwrap_or_else(|| "../target/bin/govorun".into());
+    Path::new(env!("CARGO_MANIFEST_DIR")).join(given)
+}
+
+fn start(input: Stdio) -> Child {
+    let program = program();
+    let mut command = Command::new(&program);
+    let started = command.stdin(input).stdout(Stdio::piped()).spawn();
+    started.unwrap_or_else(|error| {
+        panic!(
+            "{}: {error}; `rt check govorun` builds it, or GOVORUN_PROGRAM names another",
+            program.display()
+        )
+    })
+}
+
+/// What the program printed, once it has ended as it should.
+fn printed(child: Child, input: &[u8]) -> String {
+    let output = child.wait_with_output().expect("the program ends");
+    assert!(output.status.success(), "{} {}", output.status, hex(input));
+    String::from_utf8_lossy(&output.stdout).into_owned()
+}
+
+/// What the program prints for an input that comes through a pipe, in pieces of this length.
+fn piped(input: &[u8], piece: usize, wait: Duration) -> String {
+    let mut child = start(Stdio::piped());
+    let mut pipe = child.stdin.take().expect("a pipe was asked for");
+    for part in input.chunks(piece) {
+        match pipe.write_all(part) {
+            Ok(()) => thread::sleep(wait),
+            // It may stop reading once it is clear that the message is too long.
+            Err(error) => assert_eq!(error.kind(), ErrorKind::BrokenPipe),
+        }
+    }
+    drop(pipe);
+    printed(child, input)
+}
+
+fn compare(msg: &[u8]) {
+    let given = piped(msg, msg.len().max(1), Duration::ZERO);
+    assert_eq!(given, expected_print(msg), "message {}", hex(msg));
+}
+
+/// Compares all messages; the workers take them in turns.
+fn compare_all(messages: &[Vec<u8>]) {
+    println!("{} messages", messages.len());
+    thread::scope(|scope| {
+        for worker in 0..WORKERS {
+            let mine = messages.iter().skip(worker).step_by(WORKERS);
+            scope.spawn(|| mine.for_each(|msg| compare(msg)));
+        }
+    });
+}
+
+#[test]
+fn empty_message_and_every_byte() {
+    let mut messages: Vec<Vec<u8>> = (0..=255).map(|byte| vec![byte]).collect();
+    messages.push(Vec::new());
+    compare_all(&messages);
+}
+
+#[test]
+fn every_thirteenth_pair_of_bytes() {
+    let pair = |number: u16| number.to_be_bytes().to_vec();
+    let messages: Vec<Vec<u8>> = (0..=u16::MAX).step_by(13).map(pair).collect();
+    compare_all(&messages);
+}
+
+#[test]
+fn listed_words() {
+    let mut rng = Rng::for_test(50);
+    let words: Vec<Vec<u8>> = lexicon::words().iter().map(|word| cp1251(word)).collect();
+    let mut messages = words.clone();
+    for _ in 0..2000 {
+        let count = rng.between(2, 5);
+        let chosen: Vec<&[u8]> = (0..count)
+            .map(|_| &words[rng.below(words.len())][..])
+            .collect();
+        messages.push(chosen.join(&rng.pick(b"   #")));
+    }
+    compare_all(&messages);
+}
+
+#[test]
+fn accepted_messages() {
+    let mut rng = Rng::for_test(51);
+    let mut messages: Vec<Vec<u8>> = (0..6500).map(|_| message_of_any_length(&mut rng)).collect();
+    messages.extend((0..500).map(|_| word(&mut rng)));
+    messages.extend((1..=100).map(|short| message(&mut rng, 4097 - short)));
+    compare_all(&messages);
+}
+
+#[test]
+fn damaged_messages() {
+    let mut rng = Rng::for_test(52);
+    let mut messages = Vec::new();
+    for number in 1..=10 {
+        for spot in SPOTS {
+            messages.extend((0..150).map(|_| damaged(&mut rng, number, spot).0));
+        }
+    }
+    compare_all(&messages);
+}
+
+#[test]
+fn bytes_and_strings_without_sense() {
+    let mut rng = Rng::for_test(53);
+    let mut messages = Vec::new();
+    for _ in 0..1000 {
+        let length = rng.below(60);
+        messages.push(bytes(&mut rng, length));
+        let alphabet = rng.pick(&["абв* #", "иэдьж* ", "стндзцк ", "сбьъа ", "а7\n*"]);
+        let length = rng.between(3, 12);
+        messages.push(string(&mut rng, &cp1251(alphabet), length));
+    }
+    compare_all(&messages);
+}
+
+#[test]
+fn messages_over_the_longest_length() {
+    let mut rng = Rng::for_test(54);
+    let mut messages = Vec::new();
+    for length in [
+        4097, 4098, 5000, 8191, 8192, 8193, 16_384, 65_536, 65_537, 100_000,
+    ] {
+        messages.push(message(&mut rng, length));
+        messages.push(bytes(&mut rng, length));
+        messages.push(vec![b' '; length]);
+        messages.push(vec![0xE0; length]);
+    }
+    compare_all(&messages);
+}
+
+#[test]
+fn an_end_of_line_is_a_foreign_byte() {
+    for text in ["ду*б ра*д\n", "\n", "ду*б\r\n", "а\0"] {
+        compare(&cp1251(text));
+    }
+}
+
+#[test]
+fn input_that_comes_in_pieces() {
+    let mut rng = Rng::for_test(55);
+    let wait = Duration::from_millis(2);
+    for (length, piece) in [
+        (7, 1),
+        (30, 1),
+        (4096, 1000),
+        (4096, 4095),
+        (4097, 4096),
+        (9000, 4096),
+    ] {
+        let msg = message(&mut rng, length);
+        let given = piped(&msg, piece, wait);
+        assert_eq!(given, expected_print(&msg), "message {}", hex(&msg));
+    }
+}
+
+#[test]
+fn input_from_a_file() {
+    let mut rng = Rng::for_test(56);
+    let path = Path::new(env!("CARGO_TARGET_TMPDIR")).join("message");
+    for length in [1, 100, 4096, 4097, 100_000] {
+        let msg = message(&mut rng, length);
+        std::fs::write(&path, &msg).expect("a file for the message");
+        let file = File::open(&path).expect("the file is there");
+        let given = printed(start(file.into()), &msg);
+        assert_eq!(given, expected_print(&msg), "message {}", hex(&msg));
+    }
+    assert_eq!(printed(start(Stdio::null()), &[]), "refused 1 at 0\n");
+}

@@ -1,0 +1,154 @@
+//! How much stack each function of the library takes: it is called on a stack of our own, painted
+//! before, and the deepest changed byte is found afterwards. No proof bounds the stack.
+
+use std::arch::asm;
+
+use govorun_tests::check;
+use govorun_tests::fence::Fenced;
+use govorun_tests::gen::damaged::SPOTS;
+use govorun_tests::gen::{damaged, extreme_messages, noise, Rng};
+use govorun_tests::message::breaks;
+use govorun_tests::unit::raw;
+
+/// The most that a call may take, in bytes, its return address with it.
+const BOUND: usize = 4096;
+
+/// A painted stack.
+struct Stack {
+    memory: Fenced,
+    paint: Vec<u8>,
+}
+
+impl Stack {
+    fn new(rng: &mut Rng) -> Self {
+        let mut memory = Fenced::new(1 << 18);
+        let paint = noise::bytes(rng, memory.whole().len());
+        Stack { memory, paint }
+    }
+
+    /// Calls a function of the C interface with these arguments and gives the number of its answer
+    /// and how many bytes of stack it touched.
+    fn call(&mut self, function: *const (), arguments: &[usize]) -> (u32, usize) {
+        self.memory.whole().copy_from_slice(&self.paint);
+        let top = self.memory.whole().as_mut_ptr_range().end;
+        let mut six = [0; 6];
+        six[..arguments.len()].copy_from_slice(arguments);
+        // SAFETY: the stack is ours, and the caller hands the arguments that the function takes.
+        let number = unsafe { call_on(top, function, six) };
+        (number, self.touched())
+    }
+
+    fn touched(&mut self) -> usize {
+        let paint = &self.paint;
+        let changed = self
+            .memory
+            .whole()
+            .iter()
+            .zip(paint)
+            .position(|(a, b)| a != b);
+        paint.len() - changed.unwrap_or(paint.len())
+    }
+}
+
+/// Calls a function of up to six whole numbers on another stack. All answers of the interface
+/// come back in two registers, the number in the lower half of the first.
+///
+/// # Safety
+/// The function takes these arguments, and `top` is the end of a long enough stack.
+unsafe fn call_on(top: *mut u8, function: *const (), arguments: [usize; 6]) -> u32 {
+    let [first, second, third, fourth, fifth, sixth] = arguments;
+    let answer: u64;
+    asm!(
+        "mov r12, rsp",
+        "mov rsp, {top}",
+        "call {function}",
+        "mov rsp, r12",
+        top = in(reg) top,
+        function = in(reg) function,
+        in("rdi") first,
+        in("rsi") second,
+        in("rdx") third,
+        in("rcx") fourth,
+        in("r8") fifth,
+        in("r9") sixth,
+        out("r12") _,
+        out("rax") answer,
+        clobber_abi("C"),
+    );
+    answer as u32
+}
+
+/// The most stack that each function was seen to touch.
+#[derive(Debug, Default)]
+struct Deepest {
+    check: usize,
+    name: usize,
+    transcribe: usize,
+    join: usize,
+}
+
+impl Deepest {
+    /// Calls all functions on a message, with this list of cuts and an output of this length.
+    fn measure(&mut self, stack: &mut Stack, msg: &[u8], cuts: &[usize], cap: usize) {
+        let mut out = vec![0; cap];
+        let (msg, len) = (msg.as_ptr() as usize, msg.len());
+        let (cuts, n) = (cuts.as_ptr() as usize, cuts.len());
+        let out = out.as_mut_ptr() as usize;
+        let mut deepest = |seen: &mut usize, function: *const (), arguments: &[usize]| {
+            let (number, touched) = stack.call(function, arguments);
+            *seen = touched.max(*seen);
+            number
+        };
+        let writes = [msg, len, out, cap];
+        let joins = [msg, len, cuts, n, out, cap];
+        let number = deepest(&mut self.check, raw::govorun_check as _, &[msg, len]);
+        let others = [
+            deepest(&mut self.name, raw::govorun_name as _, &writes),
+            deepest(&mut self.transcribe, raw::govorun_transcribe as _, &writes),
+            deepest(&mut self.join, raw::govorun_join as _, &joins),
+        ];
+        // A call that went wrong would measure nothing.
+        let may_be_short = cap < 2 * len;
+        let right = |&other: &u32| other == number || (number == 0 && may_be_short && other == 11);
+        assert!(others.iter().all(right), "{number} {others:?}");
+    }
+
+    fn at_most(&self, bound: usize) {
+        println!("bytes of stack: {self:?}");
+        for used in [self.check, self.name, self.transcribe, self.join] {
+            assert!(used <= bound, "{used} bytes of stack, over {bound}");
+        }
+    }
+}
+
+#[test]
+fn longest_messages() {
+    let mut rng = Rng::for_test(70);
+    let mut stack = Stack::new(&mut rng);
+    let mut deepest = Deepest::default();
+    for msg in extreme_messages(&mut rng, 50) {
+        assert!(check(&msg).is_ok());
+        for cuts in [breaks(&msg), Vec::new()] {
+            for cap in [2 * msg.len(), 0] {
+                deepest.measure(&mut stack, &msg, &cuts, cap);
+            }
+        }
+    }
+    deepest.at_most(BOUND);
+}
+
+#[test]
+fn refused_messages() {
+    let mut rng = Rng::for_test(71);
+    let mut stack = Stack::new(&mut rng);
+    let mut deepest = Deepest::default();
+    for number in 1..=10 {
+        for spot in SPOTS {
+            for _ in 0..20 {
+                let (msg, _) = damaged(&mut rng, number, spot);
+                deepest.measure(&mut stack, &msg, &[], 2 * msg.len());
+            }
+        }
+    }
+    deepest.at_most(BOUND);
+}
