@@ -1,191 +1,162 @@
--- The parts' tapes over the whole message's: each part is as long as its stretch of the whole tape, so its end is the index of the cut's mark, and what stands after it is the whole tape's still.
+-- The parts' tapes over the whole message's, the last part first: each part is as long as its stretch of the whole tape, so right before it stands the cut's mark, which is the whole tape's own.
 -- Assumes nothing.
 use Prim.Native.Nat.{ℕ, zero, suc, _+_, _-_, _<_, _≤_}
 use mathlib.Core.Path.{_≡_, refl, sym, ap, _∙_}
-use mathlib.Core.Bool.{Bool, true, false, cond}
-use mathlib.Core.Logic.{inl, inr}
+use mathlib.Core.Bool.{Bool, true, false}
+use mathlib.Core.Logic.{_⊎_, inl, inr}
 use mathlib.Core.List.{List, [], _∷_, _++_, append-nil, append-assoc}
-use native.Mathlib.Numerals.{add-one}
 use native.Mathlib.Omega.{arith}
-use lib.ListN.{length, take, drop, getD, length-append, length-drop, drop-of-length-le}
-use lib.Seq.{length-take-le, take-all, take-length, take-suc, drop-cons, take-at, drop-at, drop-drop, drop-append-add, take-add, getD-append-add, getD-drop}
+use borrow.Author.Tests.{leb-true, leb-false}
+use lib.Dec.{leb}
+use lib.ListN.{length, take, drop, getD, length-append, length-take, length-drop, List·getD-eq-default}
+use lib.Seq.{length-take-le, take-all, take-length, take-suc, take-take, take-append-le, drop-at, drop-length, drop-cons, getD-take, getD-drop, getD-at}
+use Rattle.message.specs.Letters.{isBreak, read}
 use Rattle.message.specs.Codes.{markOf}
-use Rattle.message.specs.Tape.{tape}
+use Rattle.message.specs.Tape.{tape, segment}
+use Rattle.message.specs.Places.{Steady}
 use Rattle.message.specs.Refusals.{checkOf}
-use Rattle.message.specs.Joints.{joinedFrom, joined, markIndex, isLive, liveCount}
+use Rattle.message.specs.Joints.{joinedFrom, joined, markIndex}
 use Rattle.message.specs.declared.Counts.{Counts}
 use Rattle.message.specs.declared.Checked.the-variants.{Accepted}
-use Rattle.message.proofs.Accepted.{countsOf}
-use Rattle.laws.proofs.Cuts.{RisingFrom, Rising, CutOf, break-within}
-use Rattle.laws.proofs.Parts.{part, Begins, joined-length, tape-cut, mark-index}
-use Rattle.laws.proofs.Cutting.{cutting}
-use Rattle.joiner.specs.Writing.{PartFits, PartPut, PartsLaid}
+use Rattle.message.proofs.Accepted.{countsOf, accepted-steady}
+use Rattle.transcriber.specs.Walk.{Put}
+use Rattle.laws.proofs.Cuts.{RisingFrom, Rising, break-within}
+use Rattle.laws.proofs.Parts.{part, Begins, onward, voicedAt, part-first, joined-length, onward-first, tape-cut, mark-index}
 use Rattle.laws.proofs.PartsAccepted.{part-accepted}
+use Rattle.joiner.proofs.Counting.{rising-at}
 
--- one tape up to index i, and another from there on
-abbrev pub over : List ℕ → List ℕ → ℕ → List ℕ
-over j w i = take i j ++ drop i w
+-- where a part ends that these cuts follow
+abbrev pub endOf : List ℕ → List ℕ → ℕ
+endOf m [] = length m
+endOf m (c ∷ cuts) = c
 
--- The parts before place a are laid, up to index at; k cuts are passed, and live of them are live.
-pub record Laying (m cuts out : List ℕ) (a at live k : ℕ) : Type 0 where
-  pub begins : Begins m a
-  pub rising : RisingFrom m a (drop k cuts)
+-- and what follows its tape
+abbrev pub restOf : List ℕ → List ℕ → List ℕ
+restOf m [] = []
+restOf m (c ∷ cuts) = markOf (getD m c 0) ∷ joinedFrom m (suc c) cuts
+
+-- The parts after the first k cuts but for the one that ends at place e are laid, from index at on.
+pub record Laying (m cuts out : List ℕ) (e at k : ℕ) : Type 0 where
   pub within : k ≤ length cuts
-  pub room : at ≤ length (tape m)
-  pub rest : drop at (joined m cuts) ≡ joinedFrom m a (drop k cuts)
-  pub bytes : out ≡ over (joined m cuts) (tape m) at
-  pub few : live ≤ k
-  pub count : live + liveCount m (drop k cuts) ≡ liveCount m cuts
+  pub ends : e ≡ endOf m (drop k cuts)
+  pub place : at + length (restOf m (drop k cuts)) ≡ length (tape m)
+  pub bytes : out ≡ take at (tape m) ++ restOf m (drop k cuts)
 
-module _ (j w : List ℕ) where
-  -- codes that j has from index at on were put there
-  put-over : (t r out out′ : List ℕ) (at at′ : ℕ) → at ≤ length j → drop at j ≡ t ++ r → out ≡ over j w at → PartPut t out out′ at at′ → out′ ≡ over j w at′
-  put-over t r out out′ at at′ h e b p =
-      let l = length-take-le at j h in
-      let d = drop-at (take at j) (drop at w) at l in
-      p .bytes
-      ∙ rw (p .place, b, take-at (take at j) (drop at w) at l, ← drop-drop (length t) at (over j w at), d, drop-drop (length t) at w, take-add at (length t) j, e, take-at t r (length t) refl, append-assoc)
-
-  -- a code that both have counts as put
-  one-over : (i : ℕ) → i < length j → i < length w → getD j i 0 ≡ getD w i 0 → over j w i ≡ over j w (suc i)
-  one-over i h h′ e = rw (take-suc j i 0 h, append-assoc, drop-cons w i 0 h′, e)
-
-  -- the code after index i
-  after-over : (i : ℕ) → i ≤ length j → getD (over j w i) (i + 1) 0 ≡ getD w (suc i) 0
-  after-over i h =
-      rw (length-take-le i j h) at (getD-append-add (take i j) (drop i w) 1 0) ∙ getD-drop i w 1 0 ∙ rw (add-one i)
-
--- the cut at an index is one of the list
-cut-of : (k : ℕ) (cuts : List ℕ) → k < length cuts → CutOf (getD cuts k 0) cuts
-cut-of k [] h = absurd (omega arith)
-cut-of zero (c ∷ cuts) h = inl refl
-cut-of (suc k) (c ∷ cuts) h = inr (cut-of k cuts (omega arith))
+-- the second tape from a place on: the first part's, and what follows it
+joined-part : (m : List ℕ) (a : ℕ) (cuts : List ℕ) → joinedFrom m a cuts ≡ tape (part m a (endOf m cuts)) ++ restOf m cuts
+unfolding joinedFrom
+joined-part m a [] = rw (append-nil (tape (part m a (length m))), take-all (length m - a) (drop a m) (simp length-drop (omega arith)))
+joined-part m a (c ∷ cuts) = refl
 
 -- a part begins within the message
 begins-within : (m : List ℕ) (a : ℕ) → Begins m a → a ≤ length m
 begins-within m zero b = omega arith
 begins-within m (suc c) b = break-within m c b
 
--- one cut more is counted if it is live
-count-more : (t : Bool) (n i k all : ℕ) → n ≤ i → n + cond t (suc k) k ≡ all → (cond t (n + 1) n ≤ suc i) × (cond t (n + 1) n + k ≡ all)
-count-more true n i k all h e = (omega arith, omega arith)
-count-more false n i k all h e = (omega arith, e)
+-- it ends at a break or at the message's end
+part-ends : (m : List ℕ) (a : ℕ) (cuts : List ℕ) → Begins m a → RisingFrom m a cuts
+    → (a ≤ endOf m cuts) × (endOf m cuts ≤ length m) × ((isBreak (getD m (endOf m cuts) 0) ≡ true) ⊎ (endOf m cuts ≡ length m))
+part-ends m a [] b r = (begins-within m a b, omega arith, inr refl)
+part-ends m a (c ∷ cuts) b r = (r .0, omega (arith, break-within m c (r .1)), inl (r .1))
 
-module _ (m cuts : List ℕ) (rising : Rising m cuts) where
-  -- both tapes have equal length
-  same : length (joined m cuts) ≡ length (tape m)
-  same = cutting m cuts rising .lengths
+-- its bytes are the message's
+part-bytes : (m : List ℕ) → ((j : ℕ) → getD m j 0 < 256) → (a e j : ℕ) → getD (part m a e) j 0 < 256
+part-bytes m bytes a e j = by (leb (suc j) (e - a)) refl
+  where
+    by : (t : Bool) → leb (suc j) (e - a) ≡ t → getD (part m a e) j 0 < 256
+    by true q = rw (getD-take (e - a) (drop a m) j 0 (leb-true (suc j) (e - a) q), getD-drop a m j 0) (bytes (a + j))
+    by false q = rw (List·getD-eq-default (part m a e) 0 {n = j} (simp length-take (omega (arith, leb-false (suc j) (e - a) q)))) (omega arith)
 
-  -- before the first part
-  pub laying-none : {out : List ℕ} → out ≡ tape m → Laying m cuts out 0 0 0 0
-  unfolding joined
-  laying-none e = record { begins = tt; rising = rising; within = omega arith; room = omega arith; rest = refl; bytes = e; few = omega arith; count = omega arith }
+-- from the place of a part on the whole tape is no longer than all of it
+onward-short : (m : List ℕ) (a : ℕ) → Begins m a → length (onward m a) ≤ length (tape m)
+onward-short m zero b = omega (arith, ap length (onward-first m))
+onward-short m (suc c) b = omega (arith, simp length-append at (ap length (tape-cut m c b)))
 
-  module _ {out : List ℕ} {a at live k : ℕ} (l : Laying m cuts out a at live k) where
-    -- the output is as long as the tape
-    pub laying-length : length out ≡ length (tape m)
-    laying-length = rw (l .bytes) (simp (length-append, length-take-le at (joined m cuts) (omega (arith, same, l .room)), length-drop) (omega (arith, l .room)))
+-- before the last part
+pub laying-none : (m cuts : List ℕ) {out : List ℕ} → out ≡ tape m → Laying m cuts out (length m) (length out) (length cuts)
+laying-none m cuts e = record {
+  within = omega arith;
+  ends = rw (drop-length cuts);
+  place = rw (drop-length cuts, e) (omega arith);
+  bytes = rw (drop-length cuts, append-nil, e, take-length);
+}
 
-    -- At the next cut:
-    module _ (lt : k < length cuts) where
-      -- it is a break, and not before the part's start
-      pub next-rises : RisingFrom m a (getD cuts k 0 ∷ drop (suc k) cuts)
-      next-rises = rw (drop-cons cuts k 0 lt) at (l .rising)
+module _ {m cuts out : List ℕ} {e at k : ℕ} (l : Laying m cuts out e at k) where
+  -- the output is as long as the tape
+  pub laying-length : length out ≡ length (tape m)
+  laying-length = rw (l .bytes) (simp (length-append, length-take-le at (tape m) (omega (arith, l .place))) (l .place))
 
-      -- the second tape goes on with the part before it, its mark, and the other parts
-      next-rest : drop at (joined m cuts) ≡ tape (part m a (getD cuts k 0)) ++ (markOf (getD m (getD cuts k 0) 0) ∷ joinedFrom m (suc (getD cuts k 0)) (drop (suc k) cuts))
-      unfolding joinedFrom
-      next-rest = rw (drop-cons cuts k 0 lt) at (l .rest)
+  -- The part from place a on is next.
+  module _ (a : ℕ) (begins : Begins m a) (rising : RisingFrom m a (drop k cuts)) where
+    -- it stands within the message
+    pub part-within : (a ≤ e) × (e ≤ length m)
+    part-within = let w = part-ends m a (drop k cuts) begins rising in rw (l .ends) (w .0, w .1)
 
-      -- the part ends at the mark's index, which is within the tape
-      pub next-mark : (at + length (tape (part m a (getD cuts k 0))) ≡ markIndex m (getD cuts k 0)) × (markIndex m (getD cuts k 0) < length (tape m))
-      next-mark =
-          let c = getD cuts k 0 in
-          let r = next-rises in
-          let whole = simp length-append at (ap length (tape-cut m c (r .1))) in
-          let parts = simp (length-append, length-drop) at (ap length next-rest) in
-          let i = mark-index m c (r .1) in
-          let j = joined-length m (suc c) (drop (suc k) cuts) (r .1) (r .2) in
-          (omega (arith, same, l .room), omega arith)
+    -- the length of the second tape from there on
+    length-on : length (tape (part m a e)) + length (restOf m (drop k cuts)) ≡ length (onward m a)
+    length-on =
+        rw (l .ends) (sym (length-append (tape (part m a (endOf m (drop k cuts)))) (restOf m (drop k cuts))) ∙ ap length (sym (joined-part m a (drop k cuts))) ∙ joined-length m a (drop k cuts) begins rising)
 
-      -- the part can be written
-      pub next-fits : {counts : Counts} → checkOf m ≡ Accepted counts → PartFits m a (getD cuts k 0) at (length out)
-      next-fits {counts} e =
-          let c = getD cuts k 0 in
-          let r = next-rises in
-          let w : c ≤ length m = omega (arith, break-within m c (r .1)) in
-          record {
-            starts = r .0;
-            ends = w;
-            counts = countsOf (part m a c);
-            accepted = part-accepted m counts a c e (l .begins) (r .0) w (inl (r .1));
-            room = omega (arith, laying-length, next-mark .0, next-mark .1);
-          }
+    -- it can be written
+    pub part-steady : {counts : Counts} → checkOf m ≡ Accepted counts → ((j : ℕ) → getD m j 0 < 256) → Steady (part m a e)
+    part-steady {counts} accepted bytes =
+        let w = part-ends m a (drop k cuts) begins rising in
+        let n = endOf m (drop k cuts) in
+        rw (l .ends) (accepted-steady (part m a n) (countsOf (part m a n)) (part-accepted m counts a n accepted begins (w .0) (w .1) (w .2)) (part-bytes m bytes a n))
 
-      module _ {out′ : List ℕ} {at′ : ℕ} (p : PartPut (tape (part m a (getD cuts k 0))) out out′ at at′) where
-        -- when it is written, its end is the mark's index
-        pub next-end : at′ ≡ markIndex m (getD cuts k 0)
-        next-end = p .place ∙ next-mark .0
+    -- and there is room for it
+    pub part-room : (length (tape (part m a e)) ≤ at) × (at ≤ length out)
+    part-room = (omega (arith, length-on, onward-short m a begins, l .place), omega (arith, laying-length, l .place))
 
-        -- and the whole tape goes on from there
-        next-bytes : out′ ≡ over (joined m cuts) (tape m) at′
-        next-bytes = put-over (joined m cuts) (tape m) _ _ out out′ at at′ (omega (arith, same, l .room)) next-rest (l .bytes) p
+    module _ {out′ : List ℕ} {q : ℕ} (p : Put (tape (part m a e)) out out′ at q) where
+      -- when it is written, as many codes stand from its start on as in the whole tape
+      part-place : q + length (onward m a) ≡ length (tape m)
+      part-place = omega (arith, p .place, length-on, l .place)
 
-        -- the code after the mark
-        pub next-code : getD out′ (at′ + 1) 0 ≡ getD (tape m) (suc (markIndex m (getD cuts k 0))) 0
-        next-code = rw (next-bytes, next-end) (after-over (joined m cuts) (tape m) (markIndex m (getD cuts k 0)) (omega (arith, same, next-mark .1)))
+      -- and they are the second tape's
+      part-laid : out′ ≡ take q (tape m) ++ joinedFrom m a (drop k cuts)
+      part-laid =
+          let w = tape m in
+          let rest = restOf m (drop k cuts) in
+          let n = length-take-le at w (omega (arith, l .place)) in
+          let t = take-append-le q (take at w) rest (omega (arith, p .place)) in
+          let u = take-take q at w (omega (arith, p .place)) in
+          p .bytes ∙ rw (l .bytes, t, u, drop-at (take at w) rest at n, joined-part m a (drop k cuts), ← l .ends)
 
-        -- one part more
-        pub laying-more : (live′ : ℕ) → live′ ≡ cond (isLive m (getD cuts k 0)) (live + 1) live
-            → Laying m cuts out′ (getD cuts k 0 + 1) (at′ + 1) live′ (k + 1)
-        unfolding liveCount
-        laying-more live′ e =
-            let c = getD cuts k 0 in
-            let marks = cutting m cuts rising .marks c (cut-of k cuts lt) in
-            let t = next-end in
-            let codes = tape (part m a c) in
-            let s : suc at′ ≡ at + (length codes + 1) = omega (arith, p .place) in
-            let n = count-more (isLive m c) live k (liveCount m (drop (suc k) cuts)) (liveCount m cuts) (l .few) (rw (drop-cons cuts k 0 lt) at (l .count)) in
-            let i : at′ < length (tape m) = omega (arith, next-mark .1) in
-            rw (add-one c, add-one at′, add-one k)
-            (record {
-              begins = next-rises .1;
-              rising = next-rises .2;
-              within = lt;
-              room = i;
-              rest = rw (s, ← drop-drop (length codes + 1) at (joined m cuts), next-rest) (drop-append-add codes (markOf (getD m c 0) ∷ joinedFrom m (suc c) (drop (suc k) cuts)) 1);
-              bytes = next-bytes ∙ one-over (joined m cuts) (tape m) at′ (omega (arith, same)) i (rw t (marks .1 ∙ sym (marks .0)));
-              few = rw e (n .0);
-              count = rw e (n .1);
-            })
+-- a part that begins after a cut begins right after its mark
+pub part-mark : (m cuts : List ℕ) → Rising m cuts → {out out′ : List ℕ} {e at j q : ℕ} → Laying m cuts out e at (suc j)
+    → Put (tape (part m (suc (getD cuts j 0)) e)) out out′ at q → q ≡ suc (markIndex m (getD cuts j 0))
+part-mark m cuts rising {out} {out′} {e} {at} {j} {q} l p =
+    let c = getD cuts j 0 in
+    let r = rising-at m 0 cuts j rising (l .within) in
+    let w = simp length-append at (ap length (tape-cut m c (r .0))) in
+    omega (arith, part-place l (suc c) (r .0) (r .1) p, mark-index m c (r .0))
 
-    -- After the last cut:
-    module _ (le : length cuts ≤ k) where
-      -- the last part is the rest of the message
-      last-rest : (part m a (length m) ≡ drop a m) × (drop at (joined m cuts) ≡ tape (drop a m))
-      unfolding joinedFrom
-      last-rest = (take-all (length m - a) (drop a m) (simp length-drop (omega arith)), rw (drop-of-length-le cuts le) at (l .rest))
+-- one part more
+pub laying-more : (m cuts : List ℕ) → Rising m cuts → {out out′ : List ℕ} {e at j q : ℕ} → Laying m cuts out e at (suc j)
+    → Put (tape (part m (suc (getD cuts j 0)) e)) out out′ at q → Laying m cuts out′ (getD cuts j 0) (q - 1) j
+laying-more m cuts rising {out} {out′} {e} {at} {j} {q} l p =
+    let c = getD cuts j 0 in
+    let k = markIndex m c in
+    let r = rising-at m 0 cuts j rising (l .within) in
+    let u = part-mark m cuts rising l p in
+    let v : q - 1 ≡ k = omega (arith, u) in
+    let n = part-place l (suc c) (r .0) (r .1) p in
+    let s = joined-length m (suc c) (drop (suc j) cuts) (r .0) (r .1) in
+    let mark : getD (tape m) k 0 ≡ markOf (getD m c 0) = rw (tape-cut m c (r .0)) (getD-at (segment false (voicedAt m c) (read (take c m))) _ _ 0 k (mark-index m c (r .0))) in
+    let t = take-suc (tape m) k 0 (omega (arith, u, n)) in
+    record {
+      within = omega (arith, l .within);
+      ends = rw (drop-cons cuts j 0 (l .within));
+      place = rw (drop-cons cuts j 0 (l .within)) (omega (arith, u, n, s));
+      bytes = part-laid l (suc c) (r .0) (r .1) p ∙ rw (v, drop-cons cuts j 0 (l .within), u, t, mark, append-assoc);
+    }
 
-      -- it can be written
-      pub last-fits : {counts : Counts} → checkOf m ≡ Accepted counts → PartFits m a (length m) at (length out)
-      last-fits {counts} e =
-          let w = begins-within m a (l .begins) in
-          record {
-            starts = w;
-            ends = omega arith;
-            counts = countsOf (part m a (length m));
-            accepted = part-accepted m counts a (length m) e (l .begins) w (omega arith) (inr refl);
-            room = rw (last-rest .0) (omega (arith, simp length-drop at (ap length (last-rest .1)), laying-length, same, l .room));
-          }
-
-      -- and then all parts are
-      pub laying-all : {out′ : List ℕ} {at′ : ℕ} → PartPut (tape (part m a (length m))) out out′ at at′ → PartsLaid m cuts out′ live
-      unfolding liveCount
-      laying-all {out′} {at′} p =
-          let q = rw (last-rest .0) at p in
-          let b = put-over (joined m cuts) (tape m) (tape (drop a m)) [] out out′ at at′ (omega (arith, same, l .room)) (last-rest .1 ∙ sym (append-nil (tape (drop a m)))) (l .bytes) q in
-          let t : at′ ≡ length (joined m cuts) = omega (arith, q .place, simp length-drop at (ap length (last-rest .1)), same, l .room) in
-          record {
-            live = omega (arith, rw (drop-of-length-le cuts le) at (l .count));
-            bytes = b ∙ rw (t, take-length, drop-of-length-le (tape m) {i = length (joined m cuts)} (omega (arith, same)), append-nil);
-          }
+-- with the first part all are laid
+pub laying-all : (m cuts : List ℕ) → Rising m cuts → {out out′ : List ℕ} {e at q : ℕ} → Laying m cuts out e at 0
+    → Put (tape (take e m)) out out′ at q → out′ ≡ joined m cuts
+unfolding joined
+laying-all m cuts rising {out} {out′} {e} {at} {q} l p =
+    let f = rw (← part-first m e) at p in
+    let z : q ≡ 0 = omega (arith, part-place l 0 tt rising f, ap length (onward-first m)) in
+    part-laid l 0 tt rising f ∙ rw z

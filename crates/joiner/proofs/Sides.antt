@@ -159,7 +159,7 @@ two-left m (suc i) h = rw (two-left m i (omega arith)) (by (isBreak b) refl (isM
     by false s false e = rw (left-letter m i h s e)
 
 -- so it tells whether the word before a place ends hard
-hard-left : (m : List ℕ) (i : ℕ) → i ≤ length m → endsHard (wordBefore m i) ≡ hardEnd (leftAt m i .q) (leftAt m i .p)
+pub hard-left : (m : List ℕ) (i : ℕ) → i ≤ length m → endsHard (wordBefore m i) ≡ hardEnd (leftAt m i .q) (leftAt m i .p)
 unfolding endsHard
 hard-left m i h = rw (hard-word 0 0 (wordBefore m i), over-before (0, 0) two m i h, two-left m i h)
 

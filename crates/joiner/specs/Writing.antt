@@ -1,36 +1,36 @@
--- What the joiner's own functions ask for and give: a part's tape put over the output, and all parts' tapes over the whole message's.
+-- What the joiner's own functions ask for and give: the cuts that a walk from the right has passed, and the message whose tapes are written.
 -- Assumes nothing: these are definitions.
-use Prim.Native.Nat.{ℕ, _+_, _-_, _≤_}
+use Prim.Native.Nat.{ℕ, suc, _+_, _<_, _≤_}
 use mathlib.Core.Path.{_≡_}
-use mathlib.Core.List.{List, _++_}
-use lib.ListN.{length, take, drop}
+use mathlib.Core.Bool.{true}
+use mathlib.Core.List.{List}
+use lib.ListN.{length, drop, getD}
+use Rattle.message.specs.Letters.{isBreak}
 use Rattle.message.specs.Tape.{tape}
+use Rattle.message.specs.Places.{Steady}
 use Rattle.message.specs.Refusals.{checkOf}
-use Rattle.message.specs.Joints.{joined, liveCount, badCut}
+use Rattle.message.specs.Joints.{markIndex, liveCount, badCut}
 use Rattle.message.specs.declared.Counts.{Counts}
 use Rattle.message.specs.declared.Checked.the-variants.{Accepted}
+use Rattle.joiner.specs.declared.Passing.{Passing}
 
--- the bytes from place a up to place e are an accepted message, and an output of this size has room for its tape from index at on
-pub record PartFits (m : List ℕ) (a e at size : ℕ) : Type 0 where
-  pub starts : a ≤ e
-  pub ends : e ≤ length m
-  pub counts : Counts
-  pub accepted : checkOf (take (e - a) (drop a m)) ≡ Accepted counts
-  pub room : at + length (tape (take (e - a) (drop a m))) ≤ size
-
--- codes were put over the output from index at on, and r is where they end
-pub record PartPut (codes out out′ : List ℕ) (at r : ℕ) : Type 0 where
-  pub place : r ≡ at + length codes
-  pub bytes : out′ ≡ take at out ++ (codes ++ drop r out)
-
--- the message and its cuts are accepted, and the output is the whole message's tape
-pub record TapeLaid (m cuts out : List ℕ) : Type 0 where
+-- the message and its cuts are accepted, and an output of this size is as long as its tape
+pub record TapeDue (m cuts : List ℕ) (size : ℕ) : Type 0 where
   pub counts : Counts
   pub accepted : checkOf m ≡ Accepted counts
   pub rising : badCut m cuts ≡ length cuts
-  pub bytes : out ≡ tape m
+  pub fits : size ≡ length (tape m)
 
--- the output is the second tape, and r counts the live cuts
-pub record PartsLaid (m cuts out′ : List ℕ) (r : ℕ) : Type 0 where
-  pub live : r ≡ liveCount m cuts
-  pub bytes : out′ ≡ joined m cuts
+-- all cuts of the list from place i on are passed, and no other
+pub record CutsPassed (m cuts : List ℕ) (i : ℕ) (p : Passing) : Type 0 where
+  pub few : p .live + p .left ≤ length cuts
+  pub below : (j : ℕ) → p .left ≡ suc j → getD cuts j 0 < i
+  pub live : p .live ≡ liveCount m (drop (p .left) cuts)
+
+-- A walk stands at place i: the cuts after it are passed, and if a break stands there, the output has at index at + 1 what the whole tape has after its mark.
+pub record CutReady (m cuts : List ℕ) (i : ℕ) (out : List ℕ) (at : ℕ) (p : Passing) : Type 0 where
+  pub steady : Steady m
+  pub rising : badCut m cuts ≡ length cuts
+  pub passed : CutsPassed m cuts (suc i) p
+  pub place : at ≤ length out
+  pub code : isBreak (getD m i 0) ≡ true → getD out (at + 1) 0 ≡ getD (tape m) (suc (markIndex m i)) 0

@@ -1,18 +1,24 @@
-// The joiner: the whole message's tape first, then its parts' over it, from left to right.
+// The joiner: the whole message's tape first, then its parts' over it, all from right to left.
 ghost use mathlib.Core.Path.{_≡_};
-ghost use Prim.Native.Nat.{_-_};
-ghost use lib.ListN.{length, take, drop, getD};
+ghost use lib.ListN.{length, getD};
+ghost use Rattle.message.specs.Scan.{tables};
 ghost use Rattle.message.specs.Tape.{tape};
-ghost use Rattle.message.specs.Joints.{badCut, row12, joined};
+ghost use Rattle.message.specs.Joints.{badCut, row12, joined, liveCount};
 ghost use Rattle.message.specs.Answers.{Answered, joinAnswer};
-ghost use Rattle.joiner.specs.Writing.{PartFits, PartPut, TapeLaid, PartsLaid};
+ghost use Rattle.transcriber.specs.Sounds.{soundTable};
+ghost use Rattle.joiner.specs.Writing.{TapeDue, CutsPassed, CutReady};
+use crate::Passing;
 use crate::joints::is_live;
 use message::Answer;
 use message::Checked;
 use message::Refusal;
 use message::check::check;
+use message::tables::TABLES;
+use transcriber::tables::SOUNDS;
 use transcriber::tape::refused;
-use transcriber::tape::transcribe;
+use transcriber::tape::start;
+use transcriber::tape::step;
+use transcriber::tape::write_tape;
 
 // Number 12 at one cut: no break stands there, or it is below the least place that it may have.
 fn is_bad(m: &[u8], least: usize, c: usize) -> bool
@@ -48,18 +54,6 @@ fn bad_cut(m: &[u8], cuts: &[usize]) -> usize
     k
 }
 
-// Writes the tape of the part from place a up to e over the output from index at on, and tells where it ends.
-fn put_part(m: &[u8], a: usize, e: usize, at: usize, out: &mut [u8]) -> usize
-    requires { ⌜ PartFits (now m) a e at (length (now out)) ⌝ }
-    ensures { λ r. ⌜ PartPut (tape (take (e - a) (drop a (now (m .entry))))) (now (out .entry)) (now (out .exit)) at r ⌝ }
-{
-    // The part is accepted and has room, so it is never refused.
-    let Answer::Written { length, live: _ } = transcribe(&m[a..e], &mut out[at..]) else {
-        return at;
-    };
-    at + length
-}
-
 // The code at index i of a tape, or 0 past its end.
 fn code_at(t: &[u8], i: usize) -> u8
     ensures { λ r. ⌜ r ≡ getD (now (t .entry)) i 0 ⌝ }
@@ -67,27 +61,64 @@ fn code_at(t: &[u8], i: usize) -> u8
     if i < t.len() { t[i] } else { 0 }
 }
 
-// Writes the tapes of the parts over the whole message's tape, and counts the live cuts. A part is as long as its stretch of the whole tape,
-// so the cut's mark is in place already, and the code after it is still the whole tape's when the cut is reached.
-fn write_parts(m: &[u8], cuts: &[usize], out: &mut [u8]) -> usize
-    requires { ⌜ TapeLaid (now m) (now cuts) (now out) ⌝ }
-    ensures { λ r. ⌜ PartsLaid (now (m .entry)) (now (cuts .entry)) (now (out .exit)) r ⌝ }
+// At place i, whose codes begin at index at of the output: a cut there is passed, and counted if it is live.
+fn pass_cut(m: &[u8], cuts: &[usize], i: usize, out: &[u8], at: usize, p: Passing) -> Passing
+    requires { ⌜ CutReady (now m) (now cuts) i (now out) at p ⌝ }
+    ensures { λ q. ⌜ CutsPassed (now (m .entry)) (now (cuts .entry)) i q ⌝ }
 {
-    let mut a = 0;
-    let mut at = 0;
-    let mut live = 0;
-    let mut k = 0;
-    while k < cuts.len() {
-        let c = cuts[k];
-        at = put_part(m, a, c, at, out) + 1;
-        if is_live(m, c, code_at(out, at)) {
-            live += 1;
-        }
-        a = c + 1;
-        k += 1;
+    let k = p.left;
+    if k == 0 {
+        return p;
     }
-    put_part(m, a, m.len(), at, out);
-    live
+    if cuts[k - 1] != i {
+        return p;
+    }
+    let live = p.live;
+    // The mark of the cut stands at index at, and after it the first sound of the next word.
+    if is_live(m, i, code_at(out, at + 1)) {
+        return Passing {
+            left: k - 1,
+            live: live + 1,
+        };
+    }
+    Passing { left: k - 1, live }
+}
+
+// Writes the whole message's tape, and counts the live cuts on the way, since the code after a cut's mark is at hand when the walk stands at the cut.
+fn write_whole(m: &[u8], cuts: &[usize], out: &mut [u8], t: &[u8; 512], s: &[u8; 192]) -> usize
+    requires { ⌜ (now t ≡ tables) × (now s ≡ soundTable) × TapeDue (now m) (now cuts) (length (now out)) ⌝ }
+    ensures { λ r. ⌜ (now (out .exit) ≡ tape (now (m .entry))) × (r ≡ liveCount (now (m .entry)) (now (cuts .entry))) ⌝ }
+{
+    let mut i = m.len();
+    let mut p = Passing {
+        left: cuts.len(),
+        live: 0,
+    };
+    let mut r = start(m, out.len());
+    while 0 < i {
+        i -= 1;
+        r = step(m, i, r, out, t, s);
+        p = pass_cut(m, cuts, i, out, r.at, p);
+    }
+    p.live
+}
+
+// Writes the tapes of the parts over the whole message's, the last part first: each ends where the one after it begins, but for the cut's mark,
+// which is in place already.
+fn write_parts(m: &[u8], cuts: &[usize], out: &mut [u8], t: &[u8; 512], s: &[u8; 192])
+    requires { ⌜ (now t ≡ tables) × (now s ≡ soundTable) × TapeDue (now m) (now cuts) (length (now out)) × (now out ≡ tape (now m)) ⌝ }
+    ensures { λ _. ⌜ now (out .exit) ≡ joined (now (m .entry)) (now (cuts .entry)) ⌝ }
+{
+    let mut e = m.len();
+    let mut at = out.len();
+    let mut k = cuts.len();
+    while 0 < k {
+        k -= 1;
+        let c = cuts[k];
+        at = write_tape(&m[c + 1..e], out, at, t, s) - 1;
+        e = c;
+    }
+    write_tape(&m[..e], out, at, t, s);
 }
 
 // The joiner (paper 01, 'Joints'): writes the tape of the message's parts at the start of the lent output, or refuses and leaves every byte.
@@ -112,8 +143,9 @@ pub fn join(m: &[u8], cuts: &[usize], out: &mut [u8]) -> Answer
             place: n,
         });
     }
-    // The message is accepted and has room, so its whole tape is written here.
-    transcribe(m, out);
-    let live = write_parts(m, cuts, &mut out[..n]);
+    let t = TABLES;
+    let s = SOUNDS;
+    let live = write_whole(m, cuts, &mut out[..n], &t, &s);
+    write_parts(m, cuts, &mut out[..n], &t, &s);
     Answer::Written { length: n, live }
 }

@@ -35,3 +35,7 @@ pub put-length : (codes out out′ : List ℕ) (at r : ℕ) → at ≤ length ou
 put-length codes out out′ at r h p =
     let e = simp (length-append, length-take, length-drop) at (ap length (p .bytes)) in
     omega (arith, e, p .place)
+
+-- codes put before a place as many as they are stand at the start
+pub put-first : (codes out out′ : List ℕ) (at r : ℕ) → at ≡ length codes → Put codes out out′ at r → out′ ≡ codes ++ drop at out
+put-first codes out out′ at r e p = let z : r ≡ 0 = omega (arith, p .place) in rw z at (p .bytes)

@@ -1,13 +1,13 @@
 -- How the code finds a letter's codes: by the class of the byte before it and one table. These are not the paper's words: `proofs/` shows that they agree with them.
 -- Assumes nothing: these are definitions.
-use Prim.Native.Nat.{ℕ, zero, suc, _+_, _-_, _*_, _/_, _%_}
+use Prim.Native.Nat.{ℕ, zero, suc, _+_, _-_, _*_}
 use mathlib.Core.Path.{_≡_}
-use mathlib.Core.Bool.{Bool, true, false, cond, _&&_, _||_, not}
+use mathlib.Core.Bool.{Bool, false, cond, _&&_, _||_, not}
 use mathlib.Core.List.{List, [], _∷_, _++_}
 use lib.Dec.{eqb}
 use lib.ListN.{getD}
 use Rattle.message.specs.Alphabet.{«б», «в», «г», «д», «з», «к», «л», «м», «н», «п», «р», «с», «т», «ф», «х»}
-use Rattle.message.specs.Tables.{Entry, _gives_, entry}
+use Rattle.message.specs.Tables.{_gives_, entry}
 use Rattle.message.specs.Letters.{between, isHardOnly, isSoftOnly, isObstruent}
 use Rattle.message.specs.Codes.{Б', В', Г', Х1', Д', Ж', З', К', Л', М', Н', П', Р', С', Т', Ф', Х', Ч, Ч1, Щ, isVoicing}
 use Rattle.message.specs.Vowels.{vowelSound, bare, writtenCode}

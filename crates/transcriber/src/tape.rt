@@ -1,15 +1,15 @@
 // The transcriber: one walk over the message from its end, which writes the tape from its end.
 ghost use mathlib.Core.Path.{_≡_};
 ghost use mathlib.Core.Bool.{true, false};
-ghost use mathlib.Core.List.{[], _∷_, _++_};
+ghost use mathlib.Core.List.{[], _∷_};
 ghost use Prim.Native.Nat.{_<_, _≤_};
-ghost use lib.ListN.{length, drop, getD};
+ghost use lib.ListN.{length, getD};
 ghost use Rattle.message.specs.Scan.{tables, classOf, isBreakClass, isConsonantClass, isVowelClass, elidedAt};
 ghost use Rattle.message.specs.Tape.{tape};
 ghost use Rattle.message.specs.Places.{Steady};
 ghost use Rattle.message.specs.Answers.{Answered, afterCheck, tapeAnswer};
 ghost use Rattle.transcriber.specs.Sounds.{soundTable, gapTone};
-ghost use Rattle.transcriber.specs.Walk.{Put, Ready, Stepped};
+ghost use Rattle.transcriber.specs.Walk.{Stands, Put, Ready, Stepped};
 use crate::Right;
 use crate::sounds::after_class;
 use crate::sounds::consonant_code;
@@ -158,7 +158,7 @@ fn put_vowel(m: &[u8], i: usize, c: usize, r: Right, out: &mut [u8], t: &[u8; 51
 }
 
 // The byte at place i.
-fn step(m: &[u8], i: usize, r: Right, out: &mut [u8], t: &[u8; 512], s: &[u8; 192]) -> Right
+pub fn step(m: &[u8], i: usize, r: Right, out: &mut [u8], t: &[u8; 512], s: &[u8; 192]) -> Right
     requires { ⌜ (now t ≡ tables) × (now s ≡ soundTable) × Ready (now m) (now out) i r ⌝ }
     ensures { λ q. ⌜ Stepped (now (m .entry)) (now (out .entry)) (now (out .exit)) i r q ⌝ }
 {
@@ -183,28 +183,36 @@ fn step(m: &[u8], i: usize, r: Right, out: &mut [u8], t: &[u8; 512], s: &[u8; 19
     put_break(m, i, c, r, out, s)
 }
 
-// Writes the tape of an accepted message, n codes, at the start of the output.
-fn fill(m: &[u8], out: &mut [u8], n: usize)
-    requires { ⌜ Steady (now m) × (n ≡ length (tape (now m))) × (n ≤ length (now out)) ⌝ }
-    ensures { λ _. ⌜ now (out .exit) ≡ tape (now (m .entry)) ++ drop n (now (out .entry)) ⌝ }
+// What stands right of the message's end, where place end of the output is the end of its tape.
+pub fn start(m: &[u8], end: usize) -> Right
+    requires { ⌜ Steady (now m) ⌝ }
+    ensures { λ r. ⌜ (r .at ≡ end) × Stands (now (m .entry)) (length (now (m .entry))) r ⌝ }
 {
-    let t = TABLES;
-    let s = SOUNDS;
-    let mut i = m.len();
-    let marked = mark_before(m, i);
-    let mut r = Right {
-        at: n,
+    let marked = mark_before(m, m.len());
+    Right {
+        at: end,
         tone: 2,
         sound: 0,
         soft: false,
         ahead: false,
         mark: false,
         marked,
-    };
+    }
+}
+
+// Puts the tape of an accepted message right before place end of the output, and tells where it begins. The tables are lent, since a copy of them
+// for each part of a message would cost more than the part.
+pub fn write_tape(m: &[u8], out: &mut [u8], end: usize, t: &[u8; 512], s: &[u8; 192]) -> usize
+    requires { ⌜ (now t ≡ tables) × (now s ≡ soundTable) × Steady (now m) × (length (tape (now m)) ≤ end) × (end ≤ length (now out)) ⌝ }
+    ensures { λ r. ⌜ Put (tape (now (m .entry))) (now (out .entry)) (now (out .exit)) end r ⌝ }
+{
+    let mut i = m.len();
+    let mut r = start(m, end);
     while 0 < i {
         i -= 1;
-        r = step(m, i, r, out, &t, &s);
+        r = step(m, i, r, out, t, s);
     }
+    r.at
 }
 
 // The check's refusal as an operation's answer.
@@ -232,6 +240,8 @@ pub fn transcribe(m: &[u8], out: &mut [u8]) -> Answer
             place: n,
         });
     }
-    fill(m, out, n);
+    let t = TABLES;
+    let s = SOUNDS;
+    write_tape(m, out, n, &t, &s);
     Answer::Written { length: n, live: 0 }
 }

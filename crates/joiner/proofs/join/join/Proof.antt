@@ -1,13 +1,16 @@
--- The refusals come in the definition's order, and else the parts' tapes are laid over the whole message's, which is as long.
+-- The refusals come in the definition's order, and else the parts' tapes are written over the whole message's, which is as long.
 -- Assumes nothing.
-use mathlib.Core.Path.{_≡_, sym, _∙_}
-use native.Mathlib.Omega.{arith}
+use mathlib.Core.Path.{_≡_, refl, sym, _∙_}
+use lib.ListN.{drop}
 use lib.Seq.{length-take-le}
 use borrow.Author.Needs.{needs}
 use Rattle.message.specs.Refusals.{checkOf}
 use Rattle.message.specs.Answers.{afterCheck}
 use Rattle.message.specs.declared.Checked.the-variants.{Accepted}
-use Rattle.joiner.proofs.Answering.{join-refused, join-cut, join-short, tape-laid, join-written}
+use Rattle.message.proofs.Accepted.{accepted-counts}
+use Rattle.message.proofs.Computed.{everything}
+use Rattle.transcriber.specs.Sounds.{toneNo, hardCode, letterGroup, soundGroup, soundTable}
+use Rattle.joiner.proofs.Answering.{join-refused, join-cut, join-short, tape-due, tape-again, tape-due-again, join-written}
 use Rattle.joiner.proofs.join.join.Statement.{statement}
 use Rattle.joiner.proofs.join.join.Tie as tie
 
@@ -44,21 +47,48 @@ returns-2 c =
 returns-3 : tie.Need-returns-3
 returns-3 c = let b = c .before .before in join-short _ _ _ (accepted b) (sym (b .bad-cut .ensures) ∙ c .before .if1 .left) (c .if2 .taken)
 
-transcribe-requires : tie.Need-transcribe-requires
-transcribe-requires c κs = search needs
+slice-relend-prefix-write-whole : tie.Need-slice-relend-prefix-write-whole
+slice-relend-prefix-write-whole c = search needs
+
+slice-aggregate-write-whole : tie.Need-slice-aggregate-write-whole
+slice-aggregate-write-whole c = sym (length-take-le _ _ (c .before .if2 .left))
+
+write-whole-requires : tie.Need-write-whole-requires
+unfolding everything toneNo hardCode letterGroup soundGroup soundTable
+write-whole-requires c κs =
+    let f = c .before .before .before in
+    let b = f .before .before in
+    (refl, refl, tape-due _ _ _ (accepted b) (sym (b .bad-cut .ensures) ∙ f .before .if1 .left) (f .if2 .left))
 
 slice-relend-prefix-write-parts : tie.Need-slice-relend-prefix-write-parts
 slice-relend-prefix-write-parts c = search needs
 
 slice-aggregate-write-parts : tie.Need-slice-aggregate-write-parts
-slice-aggregate-write-parts c = let t = c .before .before .before in sym (length-take-le _ _ (omega (arith, t .transcribe .kept .1 .0, t .before .before .if2 .left)))
+slice-aggregate-write-parts c =
+    let v = c .before .before .before in
+    let f = v .before .before .before .before in
+    let b = f .before .before in
+    let n = b .before .before .checked .given .0 .0 .codes in
+    let s = b .before .before .before .before .before .before .before .before in
+    let rest = drop n (s .args .out .now) in
+    accepted-counts _ _ (accepted b) .0 ∙ sym (tape-due-again (s .args .m .now) (s .args .cuts .now) (s .args .out .now) (accepted b) (sym (b .bad-cut .ensures) ∙ f .before .if1 .left) (v .write-whole .last .1 .1 .0) rest (v .write-whole .ensures .0) .fits)
 
 write-parts-requires : tie.Need-write-parts-requires
+unfolding everything toneNo hardCode letterGroup soundGroup soundTable
 write-parts-requires c κs =
-    let t = c .before .before .before in
-    let f = t .before .before in
+    let v = c .before .before .before .before .before in
+    let f = v .before .before .before .before in
     let b = f .before .before in
-    tape-laid _ _ _ (accepted b) (sym (b .bad-cut .ensures) ∙ f .before .if1 .left) (f .if2 .left) (t .transcribe .ensures)
+    let n = b .before .before .checked .given .0 .0 .codes in
+    let s = b .before .before .before .before .before .before .before .before in
+    let rest = drop n (s .args .out .now) in
+    let r = sym (b .bad-cut .ensures) ∙ f .before .if1 .left in
+    let whole = v .write-whole .last .1 .1 .0 in (
+      refl,
+      refl,
+      tape-due-again (s .args .m .now) (s .args .cuts .now) (s .args .out .now) (accepted b) r whole rest (v .write-whole .ensures .0),
+      tape-again (s .args .m .now) (s .args .cuts .now) (s .args .out .now) (accepted b) r whole rest (v .write-whole .ensures .0) .0,
+    )
 
 same-length : tie.Need-same-length
 same-length c = search needs
@@ -66,10 +96,10 @@ same-length c = search needs
 returns-4 : tie.Need-returns-4
 returns-4 c =
     let w = c .before .before in
-    let t = w .before .before .before .before in
-    let f = t .before .before in
+    let v = w .before .before .before .before .before .before in
+    let f = v .before .before .before .before in
     let b = f .before .before in
-    join-written _ _ _ (accepted b) (sym (b .bad-cut .ensures) ∙ f .before .if1 .left) (f .if2 .left) (t .transcribe .ensures) (w .write-parts .ensures)
+    join-written _ _ _ (accepted b) (sym (b .bad-cut .ensures) ∙ f .before .if1 .left) (v .write-whole .last .1 .1 .0) (w .write-parts .last .1 .1 .0) _ (f .if2 .left) (v .write-whole .ensures) (w .write-parts .ensures)
 
 pub join-spec : {M : Type 1} → statement M
 join-spec =
@@ -83,7 +113,9 @@ join-spec =
     bad-cut-requires
     returns-2
     returns-3
-    transcribe-requires
+    slice-relend-prefix-write-whole
+    slice-aggregate-write-whole
+    write-whole-requires
     slice-relend-prefix-write-parts
     slice-aggregate-write-parts
     write-parts-requires

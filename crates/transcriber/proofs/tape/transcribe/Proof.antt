@@ -1,6 +1,6 @@
 -- The check's refusal is answered, then a lent output that is too short; an accepted message is steady and has as many codes as the check counted, so its tape is written.
 -- Assumes nothing.
-use mathlib.Core.Path.{_≡_, sym, _∙_}
+use mathlib.Core.Path.{_≡_, refl, sym, _∙_}
 use native.Mathlib.Omega.{arith}
 use lib.ListN.{length}
 use borrow.Author.Needs.{needs}
@@ -9,6 +9,9 @@ use Rattle.message.specs.Refusals.{checkOf}
 use Rattle.message.specs.Answers.{tapeAnswer}
 use Rattle.message.specs.declared.Checked.the-variants.{Accepted}
 use Rattle.message.proofs.Accepted.{accepted-counts, accepted-steady}
+use Rattle.message.proofs.Computed.{everything}
+use Rattle.transcriber.specs.Sounds.{toneNo, hardCode, letterGroup, soundGroup, soundTable}
+use Rattle.transcriber.proofs.Putting.{put-first}
 use Rattle.transcriber.proofs.Answering.{answered-refused, answered-short, answered-written}
 use Rattle.transcriber.proofs.tape.transcribe.Statement.{statement}
 use Rattle.transcriber.proofs.tape.transcribe.Tie as tie
@@ -48,11 +51,18 @@ returns-2 c =
     let s = k .before .before .before .before .before in
     answered-short (checkOf (s .args .m .now)) (k .checked .given .0 .0) (accepted k) (length (tape (s .args .m .now))) (k .checked .given .0 .0 .codes) 0 (counted k) (tape (s .args .m .now)) (s .args .out .now) (c .if1 .taken)
 
-fill-requires : tie.Need-fill-requires
-fill-requires c κs =
-    let k = c .before .before .before in
+write-tape-requires : tie.Need-write-tape-requires
+unfolding everything toneNo hardCode letterGroup soundGroup soundTable
+write-tape-requires c κs =
+    let k = c .before .before .before .before .before in
     let s = k .before .before .before .before .before in
-    (accepted-steady (s .args .m .now) (k .checked .given .0 .0) (accepted k) (λ j. omega (arith, k .before .before .before .before .shared-slice-known .given j)), counted k, c .before .if1 .left)
+    let n = counted k in (
+      refl,
+      refl,
+      accepted-steady (s .args .m .now) (k .checked .given .0 .0) (accepted k) (λ j. omega (arith, k .before .before .before .before .shared-slice-known .given j)),
+      omega (arith, n),
+      c .before .before .before .if1 .left,
+    )
 
 same-length : tie.Need-same-length
 same-length c = search needs
@@ -61,10 +71,12 @@ returns-3 : tie.Need-returns-3
 unfolding tapeAnswer
 returns-3 c =
     let f = c .before .before in
-    let k = f .before .before .before .before in
+    let k = f .before .before .before .before .before .before in
     let s = k .before .before .before .before .before in
-    answered-written (checkOf (s .args .m .now)) (k .checked .given .0 .0) (accepted k) (length (tape (s .args .m .now))) (k .checked .given .0 .0 .codes) 0 (counted k) (tape (s .args .m .now)) (s .args .out .now)
-    (f .fill .last .1 .0) (f .before .before .if1 .left) (f .fill .ensures)
+    let n = k .checked .given .0 .0 .codes in
+    answered-written (checkOf (s .args .m .now)) (k .checked .given .0 .0) (accepted k) (length (tape (s .args .m .now))) n 0 (counted k) (tape (s .args .m .now)) (s .args .out .now)
+    (f .write-tape .last .1 .0) (f .before .before .before .before .if1 .left)
+    (put-first (tape (s .args .m .now)) (s .args .out .now) (f .write-tape .last .1 .0) n (f .write-tape .result) (counted k) (f .write-tape .ensures))
 
 pub transcribe-spec : {M : Type 1} → statement M
 transcribe-spec =
@@ -76,6 +88,6 @@ transcribe-spec =
     refused-requires
     returns
     returns-2
-    fill-requires
+    write-tape-requires
     same-length
     returns-3)
