@@ -58,6 +58,17 @@ module _ (m cuts : List ℕ) where
     live = rw (drop-length cuts);
   }
 
+  -- the next cut to pass, seen from right after it
+  pub passed-to : {e c : ℕ} {p : Passing} → CutsPassed m cuts e p → getD cuts (p .left - 1) 0 ≡ c → CutsPassed m cuts (suc c) p
+  passed-to {e} {c} {p} s q = record {
+    few = s .few;
+    below = λ j l.
+        let i : j ≡ p .left - 1 = omega (arith, l) in
+        let d : getD cuts j 0 ≡ c = ap (λ (x : ℕ). getD cuts x 0) i ∙ q in
+        omega (arith, d);
+    live = s .live;
+  }
+
   module _ {i : ℕ} {p : Passing} (s : CutsPassed m cuts (suc i) p) where
     -- no cut stands at place i
     pub passed-other : ((j : ℕ) → p .left ≡ suc j → getD cuts j 0 ≡ i → ⊥) → CutsPassed m cuts i p
@@ -81,13 +92,9 @@ module _ (m cuts : List ℕ) where
           live = rw (l, d, e) (count-more (isLive m i) (p .live) (liveCount m (drop (p .left) cuts)) (s .live));
         }
 
-  -- at the message's start all are
-  pub passed-all : {p : Passing} → CutsPassed m cuts 0 p → p .live ≡ liveCount m cuts
-  passed-all {p} s = by (p .left) (s .below) (s .live)
-    where
-      by : (k : ℕ) → ((j : ℕ) → k ≡ suc j → getD cuts j 0 < 0) → p .live ≡ liveCount m (drop k cuts) → p .live ≡ liveCount m cuts
-      by zero b e = e
-      by (suc j) b e = absurd (omega (arith, b j refl))
+  -- when none is left all are counted
+  pub passed-all : {e : ℕ} {p : Passing} → CutsPassed m cuts e p → p .left ≡ 0 → p .live ≡ liveCount m cuts
+  passed-all {e} {p} s z = rw z at (s .live)
 
 -- the code at the start of a tape
 first-at : (t : List ℕ) → getD t 0 0 ≡ firstCode t

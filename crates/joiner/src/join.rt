@@ -17,7 +17,7 @@ use message::tables::TABLES;
 use transcriber::tables::SOUNDS;
 use transcriber::tape::refused;
 use transcriber::tape::start;
-use transcriber::tape::step;
+use transcriber::tape::walk_back;
 use transcriber::tape::write_tape;
 
 // Number 12 at one cut: no break stands there, or it is below the least place that it may have.
@@ -89,17 +89,20 @@ fn write_whole(m: &[u8], cuts: &[usize], out: &mut [u8], t: &[u8; 512], s: &[u8;
     requires { ⌜ (now t ≡ tables) × (now s ≡ soundTable) × TapeDue (now m) (now cuts) (length (now out)) ⌝ }
     ensures { λ r. ⌜ (now (out .exit) ≡ tape (now (m .entry))) × (r ≡ liveCount (now (m .entry)) (now (cuts .entry))) ⌝ }
 {
-    let mut i = m.len();
+    let mut e = m.len();
     let mut p = Passing {
         left: cuts.len(),
         live: 0,
     };
     let mut r = start(m, out.len());
-    while 0 < i {
-        i -= 1;
-        r = step(m, i, r, out, t, s);
-        p = pass_cut(m, cuts, i, out, r.at, p);
+    while 0 < p.left {
+        let k = p.left;
+        let c = cuts[k - 1];
+        r = walk_back(m, out, e, c, r, t, s);
+        p = pass_cut(m, cuts, c, out, r.at, p);
+        e = c;
     }
+    walk_back(m, out, e, 0, r, t, s);
     p.live
 }
 

@@ -1,7 +1,6 @@
 pub mod Answering
 pub mod Filling
 pub mod Namings
-pub mod Output
 pub mod Putting
 pub mod Raw
 pub mod Rows

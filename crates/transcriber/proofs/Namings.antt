@@ -22,7 +22,7 @@ use Rattle.transcriber.specs.declared.Vowels.{Vowels}
 use Rattle.transcriber.specs.Sounds.{classBefore, syllableBy}
 use Rattle.transcriber.specs.Walk.{Put, VowelsStand, namePiece, NameReady, Named}
 use Rattle.transcriber.proofs.Raw.{syllable-raw}
-use Rattle.transcriber.proofs.Output.{Filled, put-none, put-rest, filled-first, filled-more, filled-within, filled-all}
+use Rattle.transcriber.proofs.Putting.{put-none, put-over, put-length, put-rest, put-again, put-first}
 
 module _ (m : List ℕ) (steady : Steady m) (i : ℕ) (h : i < length m) where
   -- the names from a place on are those that its byte settles and the rest's
@@ -160,7 +160,8 @@ pub record Naming (m out₀ out : List ℕ) (n i : ℕ) (v : Vowels) : Type 0 wh
   pub total : n ≡ length (names m)
   pub within : i ≤ length m
   pub stands : VowelsStand m i v
-  pub filled : Filled (namesAt m i) out₀ out n (v .at)
+  pub room : n ≤ length out₀
+  pub put : Put (namesAt m i) out₀ out n (v .at)
 
 module _ {m : List ℕ} (steady : Steady m) where
   -- there is room for an incomplete syllable's name at the end
@@ -182,8 +183,13 @@ module _ {m : List ℕ} (steady : Steady m) where
           mark = rw (drop-length m);
           marked = e ∙ sym (marked-end m steady);
         };
-        filled = rw (names-end m steady) (filled-first room p);
+        room = omega (arith, put-length _ _ _ _ _ room p);
+        put = rw (names-end m steady) (put-again _ _ _ _ _ room p);
       }
+
+-- the output is as long as it was
+pub naming-length : {m out₀ out : List ℕ} {n i : ℕ} {v : Vowels} → Naming m out₀ out n i v → length out ≡ length out₀
+naming-length s = put-length _ _ _ _ _ (s .room) (s .put)
 
 -- a place that is not the first has one before it
 pub naming-before : {m out₀ out : List ℕ} {n i : ℕ} {v : Vowels} → 0 < i → Naming m out₀ out n i v → Naming m out₀ out n (suc (i - 1)) v
@@ -197,8 +203,8 @@ module _ {m out₀ out : List ℕ} {n i : ℕ} {v : Vowels} (at : Naming m out�
         within = omega (arith, at .within);
         steady = at .steady;
         stands = at .stands;
-        room = omega (arith, name-room m (at .steady) i (omega (arith, at .within)), at .filled .place, at .total);
-        place = filled-within (at .filled);
+        room = omega (arith, name-room m (at .steady) i (omega (arith, at .within)), at .put .place, at .total);
+        place = omega (arith, naming-length at, at .put .place, at .room);
       }
 
   -- and after it the walk stands at the place before
@@ -209,10 +215,11 @@ module _ {m out₀ out : List ℕ} {n i : ℕ} {v : Vowels} (at : Naming m out�
         total = at .total;
         within = omega (arith, at .within);
         stands = s .stands;
-        filled = rw (name-step m (at .steady) i (omega (arith, at .within))) (filled-more (at .filled) (s .put));
+        room = at .room;
+        put = rw (name-step m (at .steady) i (omega (arith, at .within))) (put-over _ _ _ _ _ _ _ _ (at .room) (at .put) (s .put));
       }
 
 -- at the first place all names are in the output, whose rest is as it was before the walk's first codes
 pub naming-all : {m codes out out₀ out′ : List ℕ} {n at : ℕ} {v : Vowels} → n ≤ length out → Put codes out out₀ n at → Naming m out₀ out′ n 0 v
     → out′ ≡ names m ++ drop n out
-naming-all {m} room p s = rw (put-rest room p) at (filled-all (s .total) (rw (names-start m (s .steady)) at (s .filled)))
+naming-all {m} room p s = rw (put-rest _ _ _ _ _ room p) at (put-first _ _ _ _ _ (s .total) (rw (names-start m (s .steady)) at (s .put)))

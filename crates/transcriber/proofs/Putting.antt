@@ -5,7 +5,7 @@ use native.Mathlib.Omega.{arith}
 use mathlib.Core.Path.{_≡_, sym, ap, _∙_}
 use mathlib.Core.List.{List, [], _∷_, _++_, append-assoc}
 use lib.ListN.{length, take, drop, set, take-append-drop, length-append, length-take, length-drop}
-use lib.Seq.{length-take-le, take-append-le, take-take, drop-at, set-split}
+use lib.Seq.{length-take-le, take-append-le, take-take, take-at, drop-at, set-split}
 use Rattle.transcriber.specs.Walk.{Put}
 
 -- nothing put leaves the output as it is
@@ -30,11 +30,25 @@ put-over codes more out out₁ out₂ at a b h p q =
       bytes = q .bytes ∙ rw (p .bytes, t, u, d, append-assoc more codes (drop at out));
     }
 
--- the output is as long as it was
-pub put-length : (codes out out′ : List ℕ) (at r : ℕ) → at ≤ length out → Put codes out out′ at r → length out′ ≡ length out
-put-length codes out out′ at r h p =
-    let e = simp (length-append, length-take, length-drop) at (ap length (p .bytes)) in
-    omega (arith, e, p .place)
+module _ (codes out out′ : List ℕ) (at r : ℕ) (h : at ≤ length out) (p : Put codes out out′ at r) where
+  -- the output is as long as it was
+  pub put-length : length out′ ≡ length out
+  put-length =
+      let e = simp (length-append, length-take, length-drop) at (ap length (p .bytes)) in
+      omega (arith, e, p .place)
+
+  -- what stands after the codes is as it was
+  pub put-rest : drop at out′ ≡ drop at out
+  put-rest =
+      let l = length-take-le r out (omega (arith, p .place)) in
+      let e : length (take r out ++ codes) ≡ at = simp (length-append, l) (p .place) in
+      rw (p .bytes, ← append-assoc (take r out) codes (drop at out)) (drop-at (take r out ++ codes) (drop at out) at e)
+
+  -- and so is what stands before them, so putting them again changes nothing
+  pub put-again : Put codes out′ out′ at r
+  put-again =
+      let f : take r out′ ≡ take r out = rw (p .bytes) (take-at (take r out) (codes ++ drop at out) r (length-take-le r out (omega (arith, p .place)))) in
+      record { place = p .place; bytes = p .bytes ∙ rw (f, put-rest) }
 
 -- codes put before a place as many as they are stand at the start
 pub put-first : (codes out out′ : List ℕ) (at r : ℕ) → at ≡ length codes → Put codes out out′ at r → out′ ≡ codes ++ drop at out

@@ -9,8 +9,9 @@ use Rattle.message.specs.Letters.{firstByte, beginsWithMark, isBreak, isMark}
 use Rattle.message.specs.Codes.{markOf}
 use Rattle.message.specs.Syllables.{nextStressed, incomplete, nameOf, syllableOf}
 use Rattle.message.specs.Vowels.{softens}
+use Rattle.message.specs.Tape.{tape}
 use Rattle.message.specs.Refusals.{vowelByte}
-use Rattle.message.specs.Places.{Steady, leftAt, letterOf, wordAt, toneAt, soundAt, markedAt, codesAt}
+use Rattle.message.specs.Places.{Steady, tapeAt, leftAt, letterOf, wordAt, toneAt, soundAt, markedAt, codesAt}
 use Rattle.transcriber.specs.Sounds.{toneNo}
 use Rattle.transcriber.specs.declared.Right.{Right}
 use Rattle.transcriber.specs.declared.Vowels.{Vowels}
@@ -45,6 +46,22 @@ pub record Ready (m out : List ℕ) (i : ℕ) (r : Right) : Type 0 where
 pub record Stepped (m out out′ : List ℕ) (i : ℕ) (r q : Right) : Type 0 where
   pub stands : Stands m i q
   pub put : Put (pieceAt m i) out out′ (r .at) (q .at)
+
+-- From place `from` back to place `to` the walk was taken: q stands there, and whatever tape stood in the output is longer by the bytes between
+pub record Walked (m out out′ : List ℕ) (start to : ℕ) (r q : Right) : Type 0 where
+  pub stands : Stands m to q
+  pub place : q .at + length (tapeAt m to) ≡ r .at + length (tapeAt m start)
+  pub size : length out′ ≡ length out
+  pub put : (out₀ : List ℕ) (n : ℕ) → n ≤ length out₀ → Put (tapeAt m start) out₀ out n (r .at) → Put (tapeAt m to) out₀ out′ n (q .at)
+
+-- such a walk may be taken: r stands at its start, and there is room for the whole message's tape
+pub record MayWalk (m out : List ℕ) (start to : ℕ) (r : Right) : Type 0 where
+  pub steady : Steady m
+  pub order : to ≤ start
+  pub within : start ≤ length m
+  pub stands : Stands m start r
+  pub room : length (tape m) ≤ r .at + length (tapeAt m start)
+  pub place : r .at ≤ length out
 
 -- The same for the naming, which needs to know less: v says what stands right of place i
 pub record VowelsStand (m : List ℕ) (i : ℕ) (v : Vowels) : Type 0 where

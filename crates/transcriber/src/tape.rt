@@ -9,7 +9,7 @@ ghost use Rattle.message.specs.Tape.{tape};
 ghost use Rattle.message.specs.Places.{Steady};
 ghost use Rattle.message.specs.Answers.{Answered, afterCheck, tapeAnswer};
 ghost use Rattle.transcriber.specs.Sounds.{soundTable, gapTone};
-ghost use Rattle.transcriber.specs.Walk.{Stands, Put, Ready, Stepped};
+ghost use Rattle.transcriber.specs.Walk.{Stands, Put, Ready, Stepped, MayWalk, Walked};
 use crate::Right;
 use crate::sounds::after_class;
 use crate::sounds::consonant_code;
@@ -74,7 +74,7 @@ fn put_break(m: &[u8], i: usize, c: usize, r: Right, out: &mut [u8], s: &[u8; 19
         at,
         tone,
         sound: 0,
-        soft: false,
+        soft: false, // no letter of the next word softens across the gap
         ahead: false,
         mark: false,
         marked,
@@ -158,7 +158,7 @@ fn put_vowel(m: &[u8], i: usize, c: usize, r: Right, out: &mut [u8], t: &[u8; 51
 }
 
 // The byte at place i.
-pub fn step(m: &[u8], i: usize, r: Right, out: &mut [u8], t: &[u8; 512], s: &[u8; 192]) -> Right
+fn step(m: &[u8], i: usize, r: Right, out: &mut [u8], t: &[u8; 512], s: &[u8; 192]) -> Right
     requires { ⌜ (now t ≡ tables) × (now s ≡ soundTable) × Ready (now m) (now out) i r ⌝ }
     ensures { λ q. ⌜ Stepped (now (m .entry)) (now (out .entry)) (now (out .exit)) i r q ⌝ }
 {
@@ -200,19 +200,37 @@ pub fn start(m: &[u8], end: usize) -> Right
     }
 }
 
+// The walk from place from back to place to. It is the one caller of the step, so that the state stays in registers.
+pub fn walk_back(
+    m: &[u8],
+    out: &mut [u8],
+    from: usize,
+    to: usize,
+    r: Right,
+    t: &[u8; 512],
+    s: &[u8; 192],
+) -> Right
+    requires { ⌜ (now t ≡ tables) × (now s ≡ soundTable) × MayWalk (now m) (now out) from to r ⌝ }
+    ensures { λ q. ⌜ Walked (now (m .entry)) (now (out .entry)) (now (out .exit)) from to r q ⌝ }
+{
+    let mut i = from;
+    let mut q = r;
+    while to < i {
+        i -= 1;
+        q = step(m, i, q, out, t, s);
+    }
+    q
+}
+
 // Puts the tape of an accepted message right before place end of the output, and tells where it begins. The tables are lent, since a copy of them
 // for each part of a message would cost more than the part.
 pub fn write_tape(m: &[u8], out: &mut [u8], end: usize, t: &[u8; 512], s: &[u8; 192]) -> usize
     requires { ⌜ (now t ≡ tables) × (now s ≡ soundTable) × Steady (now m) × (length (tape (now m)) ≤ end) × (end ≤ length (now out)) ⌝ }
     ensures { λ r. ⌜ Put (tape (now (m .entry))) (now (out .entry)) (now (out .exit)) end r ⌝ }
 {
-    let mut i = m.len();
-    let mut r = start(m, end);
-    while 0 < i {
-        i -= 1;
-        r = step(m, i, r, out, t, s);
-    }
-    r.at
+    let r = start(m, end);
+    let q = walk_back(m, out, m.len(), 0, r, t, s);
+    q.at
 }
 
 // The check's refusal as an operation's answer.

@@ -3,8 +3,8 @@
 use mathlib.Core.Path.{_≡_, refl, _∙_}
 use native.Mathlib.Omega.{arith}
 use Rattle.message.proofs.Computed.{everything}
-use Rattle.transcriber.proofs.Output.{put-length, filled-length}
-use Rattle.transcriber.proofs.Namings.{Naming, end-room, naming-none, naming-before, naming-ready, naming-more, naming-all}
+use Rattle.transcriber.proofs.Putting.{put-length}
+use Rattle.transcriber.proofs.Namings.{Naming, end-room, naming-none, naming-length, naming-before, naming-ready, naming-more, naming-all}
 use Rattle.transcriber.proofs.naming.fill_names.Statement.{statement}
 use Rattle.transcriber.proofs.naming.fill_names.Tie as tie
 
@@ -49,7 +49,7 @@ loop-again c =
 same-length : tie.Need-same-length Inv-loop μ-loop
 same-length c =
     let e = c .before .before .before .before .before in
-    filled-length (c .before .loop .inv .filled) ∙ put-length (e .before .before .before .before .before .pre .2) (e .put-end .ensures)
+    naming-length (c .before .loop .inv) ∙ put-length _ _ _ _ _ (e .before .before .before .before .before .pre .2) (e .put-end .ensures)
 
 returns : tie.Need-returns Inv-loop μ-loop
 returns c =

@@ -9,7 +9,7 @@ use Rattle.message.specs.Tape.{names}
 use Rattle.message.specs.Answers.{nameAnswer}
 use Rattle.message.specs.declared.Checked.the-variants.{Accepted}
 use Rattle.message.proofs.Accepted.{accepted-steady, accepted-counts}
-use Rattle.transcriber.proofs.Output.{answered-refused, answered-short, answered-written}
+use Rattle.transcriber.proofs.Answering.{answered-refused, answered-short, answered-written}
 use Rattle.transcriber.proofs.naming.name.Statement.{statement}
 use Rattle.transcriber.proofs.naming.name.Tie as tie
 
@@ -37,14 +37,13 @@ returns : tie.Need-returns
 unfolding nameAnswer
 returns c =
     let k = c .before .before .before in
-    answered-refused _ _ _ _ (sym (k .check .ensures) ∙ c .before .enum-told .given .1) (rw (k .check .ensures) at (c .refused .ensures))
+    rw (c .refused .ensures, k .check .ensures) (answered-refused _ _ _ _ _ _ (sym (k .check .ensures) ∙ c .before .enum-told .given .1))
 
 returns-2 : tie.Need-returns-2
 unfolding nameAnswer
 returns-2 c =
     let k = c .before .before in
-    let e = counted k in
-    rw e (answered-short _ _ _ _ (accepted k) (rw e at (c .if1 .taken)))
+    answered-short _ _ (accepted k) _ _ _ (counted k) _ _ (c .if1 .taken)
 
 fill-names-requires : tie.Need-fill-names-requires
 fill-names-requires c κs =
@@ -60,8 +59,7 @@ unfolding nameAnswer
 returns-3 c =
     let f = c .before .before in
     let k = f .before .before .before .before in
-    let e = counted k in
-    rw e (answered-written _ _ _ _ (accepted k) (rw e at (f .before .before .if1 .left)) (rw e at (f .fill-names .ensures)))
+    answered-written _ _ (accepted k) _ _ _ (counted k) _ _ _ (f .before .before .if1 .left) (f .fill-names .ensures)
 
 pub name-spec : {M : Type 1} → statement M
 name-spec =

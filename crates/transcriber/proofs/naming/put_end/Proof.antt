@@ -13,7 +13,7 @@ use Rattle.message.specs.Syllables.{incomplete}
 use Rattle.message.specs.Places.{Steady, leftAt}
 use Rattle.transcriber.specs.Sounds.{classBefore}
 use Rattle.transcriber.proofs.Raw.{incomplete-raw}
-use Rattle.transcriber.proofs.Output.{put-none}
+use Rattle.transcriber.proofs.Putting.{put-none}
 use Rattle.transcriber.proofs.naming.put_end.Statement.{statement}
 use Rattle.transcriber.proofs.naming.put_end.Tie as tie
 
