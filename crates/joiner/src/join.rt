@@ -124,6 +124,17 @@ fn write_parts(m: &[u8], cuts: &[usize], out: &mut [u8], t: &[u8; 512], s: &[u8;
     write_tape(&m[..e], out, at, t, s);
 }
 
+// Where no cut is live the whole tape is the answer as it stands.
+fn lay_parts(m: &[u8], cuts: &[usize], live: usize, out: &mut [u8], t: &[u8; 512], s: &[u8; 192])
+    requires { ⌜ ((now t ≡ tables) × (now s ≡ soundTable) × TapeDue (now m) (now cuts) (length (now out)) × (now out ≡ tape (now m))) × (live ≡ liveCount (now m) (now cuts)) ⌝ }
+    ensures { λ _. ⌜ now (out .exit) ≡ joined (now (m .entry)) (now (cuts .entry)) ⌝ }
+{
+    if live == 0 {
+        return;
+    }
+    write_parts(m, cuts, out, t, s);
+}
+
 // The joiner (paper 01, 'Joints'): writes the tape of the message's parts at the start of the lent output, or refuses and leaves every byte.
 pub fn join(m: &[u8], cuts: &[usize], out: &mut [u8]) -> Answer
     ensures { λ r. ⌜ Answered (joinAnswer (now (m .entry)) (now (cuts .entry)) (length (now (out .entry)))) (joined (now (m .entry)) (now (cuts .entry))) (now (out .entry)) (now (out .exit)) r ⌝ }
@@ -149,6 +160,6 @@ pub fn join(m: &[u8], cuts: &[usize], out: &mut [u8]) -> Answer
     let t = TABLES;
     let s = SOUNDS;
     let live = write_whole(m, cuts, &mut out[..n], &t, &s);
-    write_parts(m, cuts, &mut out[..n], &t, &s);
+    lay_parts(m, cuts, live, &mut out[..n], &t, &s);
     Answer::Written { length: n, live }
 }

@@ -60,11 +60,11 @@ write-whole-requires c κs =
     let b = f .before .before in
     (refl, refl, tape-due _ _ _ (accepted b) (sym (b .bad-cut .ensures) ∙ f .before .if1 .left) (f .if2 .left))
 
-slice-relend-prefix-write-parts : tie.Need-slice-relend-prefix-write-parts
-slice-relend-prefix-write-parts c = search needs
+slice-relend-prefix-lay-parts : tie.Need-slice-relend-prefix-lay-parts
+slice-relend-prefix-lay-parts c = search needs
 
-slice-aggregate-write-parts : tie.Need-slice-aggregate-write-parts
-slice-aggregate-write-parts c =
+slice-aggregate-lay-parts : tie.Need-slice-aggregate-lay-parts
+slice-aggregate-lay-parts c =
     let v = c .before .before .before in
     let f = v .before .before .before .before in
     let b = f .before .before in
@@ -73,9 +73,9 @@ slice-aggregate-write-parts c =
     let rest = drop n (s .args .out .now) in
     accepted-counts _ _ (accepted b) .0 ∙ sym (tape-due-again (s .args .m .now) (s .args .cuts .now) (s .args .out .now) (accepted b) (sym (b .bad-cut .ensures) ∙ f .before .if1 .left) (v .write-whole .last .1 .1 .0) rest (v .write-whole .ensures .0) .fits)
 
-write-parts-requires : tie.Need-write-parts-requires
+lay-parts-requires : tie.Need-lay-parts-requires
 unfolding everything toneNo hardCode letterGroup soundGroup soundTable
-write-parts-requires c κs =
+lay-parts-requires c κs =
     let v = c .before .before .before .before .before in
     let f = v .before .before .before .before in
     let b = f .before .before in
@@ -84,10 +84,13 @@ write-parts-requires c κs =
     let rest = drop n (s .args .out .now) in
     let r = sym (b .bad-cut .ensures) ∙ f .before .if1 .left in
     let whole = v .write-whole .last .1 .1 .0 in (
-      refl,
-      refl,
-      tape-due-again (s .args .m .now) (s .args .cuts .now) (s .args .out .now) (accepted b) r whole rest (v .write-whole .ensures .0),
-      tape-again (s .args .m .now) (s .args .cuts .now) (s .args .out .now) (accepted b) r whole rest (v .write-whole .ensures .0) .0,
+      (
+        refl,
+        refl,
+        tape-due-again (s .args .m .now) (s .args .cuts .now) (s .args .out .now) (accepted b) r whole rest (v .write-whole .ensures .0),
+        tape-again (s .args .m .now) (s .args .cuts .now) (s .args .out .now) (accepted b) r whole rest (v .write-whole .ensures .0) .0,
+      ),
+      v .write-whole .ensures .1,
     )
 
 same-length : tie.Need-same-length
@@ -99,7 +102,7 @@ returns-4 c =
     let v = w .before .before .before .before .before .before in
     let f = v .before .before .before .before in
     let b = f .before .before in
-    join-written _ _ _ (accepted b) (sym (b .bad-cut .ensures) ∙ f .before .if1 .left) (v .write-whole .last .1 .1 .0) (w .write-parts .last .1 .1 .0) _ (f .if2 .left) (v .write-whole .ensures) (w .write-parts .ensures)
+    join-written _ _ _ (accepted b) (sym (b .bad-cut .ensures) ∙ f .before .if1 .left) (v .write-whole .last .1 .1 .0) (w .lay-parts .last .1 .1 .1 .0) _ (f .if2 .left) (v .write-whole .ensures) (w .lay-parts .ensures)
 
 pub join-spec : {M : Type 1} → statement M
 join-spec =
@@ -116,8 +119,8 @@ join-spec =
     slice-relend-prefix-write-whole
     slice-aggregate-write-whole
     write-whole-requires
-    slice-relend-prefix-write-parts
-    slice-aggregate-write-parts
-    write-parts-requires
+    slice-relend-prefix-lay-parts
+    slice-aggregate-lay-parts
+    lay-parts-requires
     same-length
     returns-4)
