@@ -79,9 +79,9 @@ fn empty_message_and_every_byte() {
 }
 
 #[test]
-fn every_thirteenth_pair_of_bytes() {
+fn every_pair_of_bytes() {
     let pair = |number: u16| number.to_be_bytes().to_vec();
-    let messages: Vec<Vec<u8>> = (0..=u16::MAX).step_by(13).map(pair).collect();
+    let messages: Vec<Vec<u8>> = (0..=u16::MAX).map(pair).collect();
     compare_all(&messages);
 }
 
