@@ -1,13 +1,12 @@
 -- What is answered in each case: the check's refusal, then number 12, then 11, and else the tape and then the output's own bytes.
 -- Assumes nothing.
 use Prim.Native.Nat.{ℕ, _<_, _≤_}
-use mathlib.Core.Path.{_≡_, refl, sym, ap, _∙_}
+use mathlib.Core.Path.{_≡_, refl, sym, _∙_}
 use mathlib.Core.List.{List, _++_}
 use native.Mathlib.Omega.{arith}
 use borrow.Author.Tests.{eq-eqb, ne-eqb, le-leb, lt-leb}
 use lib.ListN.{length, take, drop}
-use lib.Seq.{length-take-le, take-at, drop-at}
-use Rattle.message.specs.Tape.{tape}
+use lib.Seq.{length-take-le}
 use Rattle.message.specs.Refusals.{refusal, checkOf}
 use Rattle.message.specs.Joints.{joined, liveCount, badCut}
 use Rattle.message.specs.Answers.{Answered, within, afterCheck, outputAfter, joinAnswer}
@@ -28,9 +27,9 @@ module _ (m cuts out : List ℕ) where
 
   module _ {counts : Counts} (accepted : checkOf m ≡ checked.Accepted counts) where
     -- number 12
-    pub join-cut : (badCut m cuts ≡ length cuts → ⊥) → Answered (joinAnswer m cuts (length out)) (joined m cuts) out out (Refused (refusal 12 (badCut m cuts)))
+    pub join-cut : (n : ℕ) → n ≡ badCut m cuts → (n ≡ length cuts → ⊥) → Answered (joinAnswer m cuts (length out)) (joined m cuts) out out (Refused (refusal 12 n))
     unfolding joinAnswer afterCheck outputAfter
-    join-cut h = rw (accepted, ne-eqb _ _ h) (record { answer = refl; output = refl })
+    join-cut n e h = rw (accepted, ← e, ne-eqb n (length cuts) h) (record { answer = refl; output = refl })
 
     module _ (rising : badCut m cuts ≡ length cuts) where
       -- the check has counted the second tape's codes
@@ -51,19 +50,8 @@ module _ (m cuts out : List ℕ) where
       pub tape-due : counts .codes ≤ length out → TapeDue m cuts (length (take (counts .codes) out))
       tape-due h = record { counts = counts; accepted = accepted; rising = rising; fits = length-take-le (counts .codes) out h ∙ accepted-counts m counts accepted .0 }
 
-      -- what is lent again of the output is the tape, and the rest is as it was
-      pub tape-again : (whole rest : List ℕ) → whole ≡ tape m → (take (counts .codes) (whole ++ rest) ≡ tape m) × (drop (counts .codes) (whole ++ rest) ≡ rest)
-      tape-again whole rest e =
-          let n : length whole ≡ counts .codes = ap length e ∙ sym (accepted-counts m counts accepted .0) in
-          (take-at whole rest (counts .codes) n ∙ e, drop-at whole rest (counts .codes) n)
-
-      -- so the parts may be written there
-      pub tape-due-again : (whole rest : List ℕ) → whole ≡ tape m → TapeDue m cuts (length (take (counts .codes) (whole ++ rest)))
-      tape-due-again whole rest e = record { counts = counts; accepted = accepted; rising = rising; fits = ap length (tape-again whole rest e .0) }
-
-      -- with the second tape over the first the joiner has answered
-      pub join-written : (whole last : List ℕ) (live : ℕ) → counts .codes ≤ length out → (whole ≡ tape m) × (live ≡ liveCount m cuts) → last ≡ joined m cuts
-          → Answered (joinAnswer m cuts (length out)) (joined m cuts) out (last ++ drop (counts .codes) (whole ++ drop (counts .codes) out)) (Written (counts .codes) live)
+      -- with the second tape there the joiner has answered
+      pub join-written : (last : List ℕ) (live : ℕ) → counts .codes ≤ length out → (last ≡ joined m cuts) × (live ≡ liveCount m cuts)
+          → Answered (joinAnswer m cuts (length out)) (joined m cuts) out (last ++ drop (counts .codes) out) (Written (counts .codes) live)
       unfolding outputAfter
-      join-written whole last live h w e =
-          rw (join-due (omega (arith, size)), w .1, e, tape-again whole (drop (counts .codes) out) (w .0) .1, size) (record { answer = refl; output = refl })
+      join-written last live h w = rw (join-due (omega (arith, size)), w .0, w .1, size) (record { answer = refl; output = refl })

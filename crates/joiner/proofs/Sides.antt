@@ -11,7 +11,7 @@ use lib.ListN.{length, getD, take, drop}
 use lib.Seq.{take-suc, getD-drop}
 use Rattle.message.specs.Alphabet.{mark, «ж», «и», «ц», «ш», «э»}
 use Rattle.message.specs.Tables.{among}
-use Rattle.message.specs.Letters.{Letter, Message, last, more, putLetter, read, firstWord, lastWord, beginsWithMark, small, plainVowels, softeningVowels, signs, isMark, isBreak, isVowel, isSign, isConsonant, isHardOnly, isObstruent}
+use Rattle.message.specs.Letters.{Letter, Message, last, more, putLetter, read, firstWord, lastWord, beginsWithMark, small, plainVowels, softeningVowels, signs, isMark, isBreak, isVowel, isSign, isConsonant, isHardOnly, isPaired, isObstruent}
 use Rattle.message.specs.Vowels.{hardEnd, endsHardFrom, endsHard}
 use Rattle.message.specs.Scan.{letterAt, letterBefore}
 use Rattle.message.specs.Places.{leftAt, letterOf, Steady}
@@ -21,7 +21,6 @@ use Rattle.message.proofs.Before.{vowel-before}
 use Rattle.message.proofs.Classes.{among-same}
 use Rattle.message.proofs.Left.{word-put, begins-at, left-letter, left-mark, left-break, unmarked-after}
 use Rattle.message.proofs.Silent.{alike-before}
-use Rattle.message.proofs.Computed.{everything}
 
 -- A walk from the left that carries a state and starts anew at each break.
 module _ {A : Type 0} (start : A) (step : ℕ → A → A) where
@@ -114,7 +113,7 @@ noiseBefore m (suc i) = cond (among passed (letterAt m i)) (noiseBefore m i) (is
 
 -- a break is no obstruent, so it needs no test of its own
 noise-next : (t : Bool) (b : ℕ) → b < 256 → next false noise b t ≡ cond (among passed (small b)) t (isObstruent (small b))
-unfolding everything next
+unfolding isBreak isMark small among isSign isObstruent next
 noise-next t b = below-same (λ x. next false noise x t) (λ x. cond (among passed (small x)) t (isObstruent (small x))) 256 b refl
 
 -- so the walk is the look back
@@ -165,17 +164,17 @@ hard-left m i h = rw (hard-word 0 0 (wordBefore m i), over-before (0, 0) two m i
 
 -- no word ends hard in a vowel
 vowel-end : (q p : ℕ) → isVowel p ≡ true → hardEnd q p ≡ false
-unfolding everything
+unfolding among isVowel isHardOnly isPaired hardEnd
 vowel-end q p = among-same (hardEnd q) (λ _. false) (plainVowels ++ softeningVowels) p refl
 
 -- a break is no letter that a word ends hard in
 break-end : (q b : ℕ) → b < 256 → isBreak b ≡ true → hardEnd q (small b) ≡ false
-unfolding everything
+unfolding isBreak small among isHardOnly isPaired hardEnd
 break-end q b = not-both isBreak (λ x. hardEnd q (small x)) b refl
 
 -- nor is a mark
 mark-end : (q b : ℕ) → b < 256 → isMark b ≡ true → hardEnd q (small b) ≡ false
-unfolding everything
+unfolding isMark small among isHardOnly isPaired hardEnd
 mark-end q b = not-both isMark (λ x. hardEnd q (small x)) b refl
 
 -- of the letter before the last one only its class counts
@@ -185,7 +184,7 @@ hard-same q r p e = rw e
 
 -- nothing ends hard
 none-end : hardEnd 0 0 ≡ false
-unfolding everything
+unfolding among isHardOnly isPaired hardEnd
 none-end = refl
 
 module _ (m : List ℕ) (steady : Steady m) where
@@ -220,7 +219,7 @@ beginsSo b x = eqb (small b) «и» || (eqb (small b) «э» && not (isMark x))
 
 -- no break does
 break-begins : (b x : ℕ) → b < 256 → isBreak b ≡ true → beginsSo b x ≡ false
-unfolding everything beginsSo
+unfolding isBreak isMark small beginsSo
 break-begins b x = not-both isBreak (λ y. beginsSo y x) b refl
 
 -- the first letter of a message that does not begin with a mark, told by its first two bytes
@@ -239,7 +238,7 @@ first-told (b ∷ m) h k = by (isBreak b) refl (isMark b) k
 
 -- a mark is told by its small letter, which it is itself
 mark-small : (b : ℕ) → b < 256 → isMark b ≡ eqb (small b) mark
-unfolding everything
+unfolding isMark small
 mark-small b = below-same isMark (λ x. eqb (small x) mark) 256 b refl
 
 -- the first letter of the word after a break, told by the two bytes after it

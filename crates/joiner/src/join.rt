@@ -1,20 +1,21 @@
-// The joiner: the whole message's tape first, then its parts' over it, all from right to left.
+// The joiner: one walk from right to left over the whole message, and over it the parts whose tape a cut changes.
 ghost use mathlib.Core.Path.{_≡_};
+ghost use Prim.Native.Nat.{_-_};
 ghost use lib.ListN.{length, getD};
-ghost use Rattle.message.specs.Scan.{tables};
+ghost use Rattle.message.specs.Scan.{classes};
 ghost use Rattle.message.specs.Tape.{tape};
 ghost use Rattle.message.specs.Joints.{badCut, row12, joined, liveCount};
 ghost use Rattle.message.specs.Answers.{Answered, joinAnswer};
 ghost use Rattle.transcriber.specs.Sounds.{soundTable};
-ghost use Rattle.joiner.specs.Writing.{TapeDue, CutsPassed, CutReady};
-use crate::Passing;
-use crate::joints::is_live;
+ghost use Rattle.transcriber.specs.Walk.{Put};
+ghost use Rattle.joiner.specs.Writing.{TapeDue, PartDue};
+use crate::joints::changes_at;
 use message::Answer;
 use message::Checked;
 use message::Refusal;
 use message::check::check;
-use message::tables::TABLES;
-use transcriber::tables::SOUNDS;
+use message::tables::class_table;
+use transcriber::tables::sound_table;
 use transcriber::tape::refused;
 use transcriber::tape::start;
 use transcriber::tape::walk_back;
@@ -61,78 +62,44 @@ fn code_at(t: &[u8], i: usize) -> u8
     if i < t.len() { t[i] } else { 0 }
 }
 
-// At place i, whose codes begin at index at of the output: a cut there is passed, and counted if it is live.
-fn pass_cut(m: &[u8], cuts: &[usize], i: usize, out: &[u8], at: usize, p: Passing) -> Passing
-    requires { ⌜ CutReady (now m) (now cuts) i (now out) at p ⌝ }
-    ensures { λ q. ⌜ CutsPassed (now (m .entry)) (now (cuts .entry)) i q ⌝ }
+// Of a part the whole message's codes stand right before place end of the output; where a cut changes them the part's own tape is written over them.
+fn write_part(p: &[u8], changed: bool, out: &mut [u8], end: usize, t: &[u8; 256], s: &[u8; 496])
+    requires { ⌜ (now t ≡ classes) × (now s ≡ soundTable) × PartDue (now p) (now out) end changed ⌝ }
+    ensures { λ _. ⌜ Put (tape (now (p .entry))) (now (out .entry)) (now (out .exit)) end (end - length (tape (now (p .entry)))) ⌝ }
 {
-    let k = p.left;
-    if k == 0 {
-        return p;
+    if changed {
+        write_tape(p, out, end, t, s);
     }
-    if cuts[k - 1] != i {
-        return p;
-    }
-    let live = p.live;
-    // The mark of the cut stands at index at, and after it the first sound of the next word.
-    if is_live(m, i, code_at(out, at + 1)) {
-        return Passing {
-            left: k - 1,
-            live: live + 1,
-        };
-    }
-    Passing { left: k - 1, live }
 }
 
-// Writes the whole message's tape, and counts the live cuts on the way, since the code after a cut's mark is at hand when the walk stands at the cut.
-fn write_whole(m: &[u8], cuts: &[usize], out: &mut [u8], t: &[u8; 512], s: &[u8; 192]) -> usize
-    requires { ⌜ (now t ≡ tables) × (now s ≡ soundTable) × TapeDue (now m) (now cuts) (length (now out)) ⌝ }
-    ensures { λ r. ⌜ (now (out .exit) ≡ tape (now (m .entry))) × (r ≡ liveCount (now (m .entry)) (now (cuts .entry))) ⌝ }
+// Writes the second tape and counts the live cuts. The walk is the whole message's, so at each cut the code that stands after its mark there is at hand,
+// by which the cut is judged, and only the parts that a cut changes are written again.
+fn write_joined(m: &[u8], cuts: &[usize], out: &mut [u8], t: &[u8; 256], s: &[u8; 496]) -> usize
+    requires { ⌜ (now t ≡ classes) × (now s ≡ soundTable) × TapeDue (now m) (now cuts) (length (now out)) ⌝ }
+    ensures { λ r. ⌜ (now (out .exit) ≡ joined (now (m .entry)) (now (cuts .entry))) × (r ≡ liveCount (now (m .entry)) (now (cuts .entry))) ⌝ }
 {
     let mut e = m.len();
-    let mut p = Passing {
-        left: cuts.len(),
-        live: 0,
-    };
-    let mut r = start(m, out.len());
-    while 0 < p.left {
-        let k = p.left;
-        let c = cuts[k - 1];
-        r = walk_back(m, out, e, c, r, t, s);
-        p = pass_cut(m, cuts, c, out, r.at, p);
-        e = c;
-    }
-    walk_back(m, out, e, 0, r, t, s);
-    p.live
-}
-
-// Writes the tapes of the parts over the whole message's, the last part first: each ends where the one after it begins, but for the cut's mark,
-// which is in place already.
-fn write_parts(m: &[u8], cuts: &[usize], out: &mut [u8], t: &[u8; 512], s: &[u8; 192])
-    requires { ⌜ (now t ≡ tables) × (now s ≡ soundTable) × TapeDue (now m) (now cuts) (length (now out)) × (now out ≡ tape (now m)) ⌝ }
-    ensures { λ _. ⌜ now (out .exit) ≡ joined (now (m .entry)) (now (cuts .entry)) ⌝ }
-{
-    let mut e = m.len();
-    let mut at = out.len();
     let mut k = cuts.len();
+    let mut live = 0;
+    // Does the cut at place e change the last code before it?
+    let mut changed = false;
+    let mut r = start(m, out.len());
     while 0 < k {
         k -= 1;
         let c = cuts[k];
-        at = write_tape(&m[c + 1..e], out, at, t, s) - 1;
+        let end = r.at;
+        r = walk_back(m, out, e, c, r, t, s);
+        // The cut's mark stands at index r.at, and after it the first code of the rest.
+        let w = changes_at(m, c, code_at(out, r.at + 1));
+        write_part(&m[c + 1..e], changed | w.after, out, end, t, s);
+        live += (w.before | w.after) as usize;
+        changed = w.before;
         e = c;
     }
-    write_tape(&m[..e], out, at, t, s);
-}
-
-// Where no cut is live the whole tape is the answer as it stands.
-fn lay_parts(m: &[u8], cuts: &[usize], live: usize, out: &mut [u8], t: &[u8; 512], s: &[u8; 192])
-    requires { ⌜ ((now t ≡ tables) × (now s ≡ soundTable) × TapeDue (now m) (now cuts) (length (now out)) × (now out ≡ tape (now m))) × (live ≡ liveCount (now m) (now cuts)) ⌝ }
-    ensures { λ _. ⌜ now (out .exit) ≡ joined (now (m .entry)) (now (cuts .entry)) ⌝ }
-{
-    if live == 0 {
-        return;
-    }
-    write_parts(m, cuts, out, t, s);
+    let end = r.at;
+    walk_back(m, out, e, 0, r, t, s);
+    write_part(&m[..e], changed, out, end, t, s);
+    live
 }
 
 // The joiner (paper 01, 'Joints'): writes the tape of the message's parts at the start of the lent output, or refuses and leaves every byte.
@@ -157,9 +124,8 @@ pub fn join(m: &[u8], cuts: &[usize], out: &mut [u8]) -> Answer
             place: n,
         });
     }
-    let t = TABLES;
-    let s = SOUNDS;
-    let live = write_whole(m, cuts, &mut out[..n], &t, &s);
-    lay_parts(m, cuts, live, &mut out[..n], &t, &s);
+    let t = class_table();
+    let s = sound_table();
+    let live = write_joined(m, cuts, &mut out[..n], &t, &s);
     Answer::Written { length: n, live }
 }

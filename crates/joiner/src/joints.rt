@@ -8,7 +8,9 @@ ghost use Rattle.message.specs.Codes.{isVoicing};
 ghost use Rattle.message.specs.Vowels.{endsHard};
 ghost use Rattle.message.specs.Tape.{tape};
 ghost use Rattle.message.specs.Places.{Steady};
-ghost use Rattle.message.specs.Joints.{wordBefore, wordAfter, endsInObstruent, beginsWithIOrE, liveByVoice, liveByHardness, isLive, markIndex};
+ghost use Rattle.message.specs.Joints.{wordBefore, wordAfter, endsInObstruent, beginsWithIOrE, liveByVoice, liveByHardness, markIndex};
+ghost use Rattle.joiner.specs.Writing.{Changing};
+use crate::Changes;
 use message::letters::letter_at;
 use message::letters::letter_before;
 
@@ -121,16 +123,19 @@ fn is_live_by_hardness(m: &[u8], c: usize) -> bool
     false
 }
 
-// Is the cut at place c live? code is what stands after its mark on the whole message's tape.
-pub fn is_live(m: &[u8], c: usize, code: u8) -> bool
+// What the cut at place c changes: at a gap (a) changes the code before its mark and (b) the code after it, at a pause there is nothing to change. code is
+// what stands after the mark on the whole message's tape.
+pub fn changes_at(m: &[u8], c: usize, code: u8) -> Changes
     requires { ⌜ Steady (now m) × (isBreak (getD (now m) c 0) ≡ true) × (code ≡ getD (tape (now m)) (suc (markIndex (now m) c)) 0) ⌝ }
-    ensures { λ r. ⌜ r ≡ isLive (now (m .entry)) c ⌝ }
+    ensures { λ r. ⌜ Changing (now (m .entry)) c r ⌝ }
 {
     if m[c] != 0x20 {
-        return false;
+        return Changes {
+            before: false,
+            after: false,
+        };
     }
-    if is_live_by_voice(m, c, code) {
-        return true;
-    }
-    is_live_by_hardness(m, c)
+    let before = is_live_by_voice(m, c, code);
+    let after = is_live_by_hardness(m, c);
+    Changes { before, after }
 }

@@ -112,7 +112,7 @@ names-bound : (m : List ℕ) → Steady m → length (names m) ≤ suc (length m
 names-bound m s = omega (arith, names-all m s, names-to m (length m), tail-one (kindAt m (length m)))
 
 -- no more cuts are live than there are
-live-bound : (m cuts : List ℕ) → liveCount m cuts ≤ length cuts
+pub live-bound : (m cuts : List ℕ) → liveCount m cuts ≤ length cuts
 unfolding liveCount
 live-bound m [] = omega arith
 live-bound m (c ∷ cuts) = by (isLive m c) (live-bound m cuts)

@@ -80,10 +80,6 @@ module _ (m : List ℕ) where
   cut-break c least [] r i = absurd i
   cut-break c least (d ∷ cuts) r i = ⊎-elim (λ e. rw e (r .1)) (λ j. cut-break c (suc d) cuts (r .2) j) i
 
-  -- so it stands within the message
-  pub cut-within : (c least : ℕ) (cuts : List ℕ) → RisingFrom m least cuts → CutOf c cuts → c < length m
-  cut-within c least cuts r i = break-within m c (cut-break c least cuts r i)
-
 -- A list of cuts that number 12 does not fit is a rising list of breaks.
 pub rising-of : (m cuts : List ℕ) → badCut m cuts ≡ length cuts → Rising m cuts
 unfolding badCut

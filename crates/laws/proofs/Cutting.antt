@@ -13,7 +13,7 @@ use Rattle.message.specs.Tape.{tape, segment}
 use Rattle.message.specs.Joints.{joined, isLive, liveCount, markIndex, wordBefore, endsInObstruent}
 use Rattle.laws.proofs.Word.{lastCode}
 use Rattle.laws.proofs.Cuts.{Rising, CutOf, cut-break}
-use Rattle.laws.proofs.Parts.{hardAt, voicedAt, changedBefore, changedAfter, CutAt, part-first, before-mark, after-mark, tape-cut, mark-index, code-after, live-here, onward-first, joined-length, joined-dead, cut-at}
+use Rattle.laws.proofs.Parts.{voicedAt, changedBefore, changedAfter, CutAt, part-first, before-mark, after-mark, tape-cut, mark-index, code-after, live-here, onward-first, first-own, joined-length, joined-dead, cut-at}
 
 -- the code just before or just after the mark at index k differs, at the same index in both tapes
 abbrev pub DiffersAt : List ℕ → List ℕ → ℕ → Type 0
@@ -87,10 +87,10 @@ module _ (m cuts : List ℕ) (rising : Rising m cuts) (c : ℕ) (cut : CutOf c c
 
 -- Demand 3, whatever the message and the list.
 pub cutting : (m cuts : List ℕ) → Rising m cuts → Cutting m cuts
-unfolding joined changedAfter hardAt
+unfolding joined
 cutting m cuts r = record {
   lengths = joined-length m 0 cuts tt r ∙ ap length (onward-first m);
-  dead = λ n. joined-dead m 0 cuts tt r refl n ∙ onward-first m;
+  dead = λ n. joined-dead m 0 cuts tt r (first-own m) n ∙ onward-first m;
   alive = λ e. none-live m cuts (λ c i l. differ-nowhere (tape m) (joined m cuts) (markIndex m c) e (differs m cuts r c i l));
   marks = λ c i. (mark-whole m cuts r c i, mark-parts m cuts r c i);
   live = differs m cuts r;

@@ -2,7 +2,7 @@
 -- Assumes nothing.
 use Prim.Native.Nat.{ℕ, zero, suc, _+_, _-_, _<_, _≤_}
 use mathlib.Core.Path.{_≡_, refl, sym, ap, _∙_}
-use mathlib.Core.Bool.{Bool, true, false, cond, _&&_, _||_, and-comm, or-true, and-eq-true-iff, true≢false}
+use mathlib.Core.Bool.{Bool, true, false, cond, _&&_, _||_, and-comm, and-eq-true-iff, true≢false}
 use mathlib.Core.Logic.{⊎-elim, _≢_}
 use mathlib.Core.List.{List, [], _∷_, _++_, append-assoc}
 use native.Mathlib.Omega.{arith}
@@ -74,7 +74,7 @@ after-mark [] x (c ∷ t) k e = rw (← e)
 after-mark (y ∷ s) x t k e = rw (← e) (after-mark s x t (length s) refl)
 
 -- an or that fails fails twice
-or-false : (s t : Bool) → (s || t) ≡ false → (s ≡ false) × (t ≡ false)
+pub or-false : (s t : Bool) → (s || t) ≡ false → (s ≡ false) × (t ≡ false)
 or-false true t e = absurd (true≢false e)
 or-false false t e = (refl, e)
 
@@ -84,9 +84,14 @@ none-counted true k e = absurd (omega arith)
 none-counted false k e = (refl, e)
 
 -- 'a gap, and this or that' is 'a gap and this, or a gap and that'
-and-or : (g o v i h : Bool) → (g && (o && v || i && h)) ≡ ((g && v && o) || (g && h && i))
-and-or true o v i h = rw (and-comm o v, and-comm i h)
-and-or false o v i h = refl
+and-or : (g s t : Bool) → (g && (s || t)) ≡ ((g && s) || (g && t))
+and-or true s t = refl
+and-or false s t = refl
+
+-- 'a gap, and this and that' is 'a gap and that, and this'
+and-swap : (g s t : Bool) → (g && (s && t)) ≡ (g && t && s)
+and-swap true s t = and-comm s t
+and-swap false s t = refl
 
 -- a stretch that nothing on its left changes is transcribed as if nothing stood there
 own-left : (h n : Bool) (a : Message) → (h && beginsWithIOrE (firstWord a)) ≡ false → segment false n a ≡ segment h n a
@@ -97,11 +102,6 @@ own-left false n a e = refl
 own-right : (h n : Bool) (a : Message) → (n && endsInObstruent (lastWord a)) ≡ false → segment h false a ≡ segment h n a
 own-right h true a e = segment-quiet h false true a e
 own-right h false a e = refl
-
--- in an or, only where the other one fails must two conditions agree
-or-when : (t x y : Bool) → (t ≡ false → x ≡ y) → (x || t) ≡ (y || t)
-or-when true x y f = or-true x ∙ sym (or-true y)
-or-when false x y f = ap (λ (s : Bool). s || false) (f refl)
 
 module _ (m : List ℕ) where
   -- a break splits the bytes from place a on
@@ -145,12 +145,21 @@ module _ (m : List ℕ) where
         ∙ rw (read-join (part m a c) (drop (suc c) m) (getD m c 0) break) (first-meet (read (part m a c)) (getD m c 0) (read (drop (suc c) m)))
 
     -- The whole message's tape at a break: the part before it with the bits from its neighbours, the mark, and the rest.
-    onward-cut : onward m a ≡ segment (hardAt m a) (voicedAt m c) (read (part m a c)) ++ (markOf (getD m c 0) ∷ onward m (suc c))
+    pub onward-cut : onward m a ≡ segment (hardAt m a) (voicedAt m c) (read (part m a c)) ++ (markOf (getD m c 0) ∷ onward m (suc c))
     unfolding onward voicedAt hardAt
     onward-cut =
         let lt = break-within m c break in
         ap (λ (t : List ℕ). segment (hardAt m a) false (read t)) (rest-split a c le lt)
         ∙ rw (read-join (part m a c) (drop (suc c) m) (getD m c 0) break, segment-join, word-before a c begins le lt)
+
+    -- a part whose first and last codes nothing changes has its own tape in the whole
+    pub part-own : changedAfter m a ≡ false → changedBefore m c ≡ false → tape (part m a c) ≡ segment (hardAt m a) (voicedAt m c) (read (part m a c))
+    unfolding tape changedAfter changedBefore
+    part-own q o =
+        let p = read (part m a c) in
+        let left : (hardAt m a && beginsWithIOrE (firstWord p)) ≡ false = rw first-word at q in
+        let right : (voicedAt m c && endsInObstruent (lastWord p)) ≡ false = rw (word-before a c begins le (break-within m c break)) o in
+        own-left (hardAt m a) false p left ∙ own-right (hardAt m a) (voicedAt m c) p right
 
   module _ (c : ℕ) (break : isBreak (getD m c 0) ≡ true) where
     -- the same from the message's start on
@@ -167,10 +176,20 @@ module _ (m : List ℕ) where
     pub code-after : getD (tape m) (suc (markIndex m c)) 0 ≡ firstCode (onward m (suc c))
     code-after = rw tape-cut (after-mark (segment false (voicedAt m c) (read (take c m))) (markOf (getD m c 0)) (onward m (suc c)) (markIndex m c) mark-index)
 
+    -- (a) changes the code before the mark
+    pub before-here : (isGap (getD m c 0) && liveByVoice m c) ≡ changedBefore m c
+    unfolding liveByVoice changedBefore voicedAt
+    before-here = rw (code-after, and-swap)
+
+    -- (b) changes the code after it
+    pub after-here : (isGap (getD m c 0) && liveByHardness m c) ≡ changedAfter m (suc c)
+    unfolding liveByHardness changedAfter hardAt wordAfter
+    after-here = rw and-swap
+
     -- a cut is live just when one of its two neighbours is changed from over the cut
     pub live-here : isLive m c ≡ (changedBefore m c || changedAfter m (suc c))
-    unfolding isLive liveByVoice liveByHardness changedBefore changedAfter voicedAt hardAt wordAfter
-    live-here = rw (code-after, and-or)
+    unfolding isLive
+    live-here = rw (and-or, before-here, after-here)
 
   -- what the tape from place a on is made of
   onward-open : (a : ℕ) → onward m a ≡ segment (hardAt m a) false (read (drop a m))
@@ -182,24 +201,15 @@ module _ (m : List ℕ) where
   unfolding onward hardAt tape
   onward-first = refl
 
+  -- and nothing changes what stands there
+  pub first-own : changedAfter m 0 ≡ false
+  unfolding changedAfter hardAt
+  first-own = refl
+
   -- where nothing changes what stands at place a, the bytes from there on may be transcribed alone
-  onward-alone : (a : ℕ) → changedAfter m a ≡ false → tape (drop a m) ≡ onward m a
+  pub onward-alone : (a : ℕ) → changedAfter m a ≡ false → tape (drop a m) ≡ onward m a
   unfolding tape changedAfter
   onward-alone a q = rw (onward-open a) (own-left (hardAt m a) false (read (drop a m)) q)
-
-  -- Whether a cut is live can be told from the tape of what stands after it, transcribed alone: where that differs from the whole tape, the cut is live by (b).
-  pub live-alone : (c : ℕ) → isBreak (getD m c 0) ≡ true
-      → isLive m c
-      ≡ (isGap (getD m c 0)
-      && (endsInObstruent (wordBefore m c) && isVoicing (firstCode (tape (drop (suc c) m))) || beginsWithIOrE (wordAfter m c) && endsHard (wordBefore m c)))
-  unfolding changedBefore changedAfter voicedAt hardAt wordAfter
-  live-alone c break =
-      let g = isGap (getD m c 0) in
-      let o = endsInObstruent (wordBefore m c) in
-      let v = isVoicing (firstCode (tape (drop (suc c) m))) in
-      live-here c break
-      ∙ or-when (changedAfter m (suc c)) (changedBefore m c) (g && v && o) (λ q. rw (onward-alone (suc c) q))
-      ∙ sym (and-or g o v (beginsWithIOrE (wordAfter m c)) (endsHard (wordBefore m c)))
 
   -- The two tapes from place a on have equal length.
   pub joined-length : (a : ℕ) (cuts : List ℕ) → Begins m a → RisingFrom m a cuts → length (joinedFrom m a cuts) ≡ length (onward m a)
@@ -213,15 +223,12 @@ module _ (m : List ℕ) where
   -- Without a live cut they are equal, if nothing changes what stands at place a.
   pub joined-dead : (a : ℕ) (cuts : List ℕ) → Begins m a → RisingFrom m a cuts → changedAfter m a ≡ false → liveCount m cuts ≡ 0
       → joinedFrom m a cuts ≡ onward m a
-  unfolding joinedFrom tape changedAfter changedBefore liveCount
+  unfolding joinedFrom liveCount
   joined-dead a [] b r q n = onward-alone a q
   joined-dead a (c ∷ cuts) b r q n =
-      let p = read (part m a c) in
       let l = none-counted (isLive m c) (liveCount m cuts) n in
       let o = or-false (changedBefore m c) (changedAfter m (suc c)) (sym (live-here c (r .1)) ∙ l .0) in
-      let left : (hardAt m a && beginsWithIOrE (firstWord p)) ≡ false = rw (first-word a c b (r .0) (r .1)) at q in
-      let right : (voicedAt m c && endsInObstruent (lastWord p)) ≡ false = rw (word-before a c b (r .0) (break-within m c (r .1))) (o .0) in
-      rw (onward-cut a c b (r .0) (r .1), own-left (hardAt m a) false p left, own-right (hardAt m a) (voicedAt m c) p right, joined-dead (suc c) cuts (r .1) (r .2) (o .1) (l .1))
+      rw (onward-cut a c b (r .0) (r .1), part-own a c b (r .0) (r .1) q (o .0), joined-dead (suc c) cuts (r .1) (r .2) (o .1) (l .1))
 
   -- At place a the first codes differ if something changes what stands there, whatever the cuts.
   joined-starts : (a : ℕ) (cuts : List ℕ) → Begins m a → RisingFrom m a cuts → changedAfter m a ≡ true

@@ -101,10 +101,6 @@ module _ (m : List ℕ) (steady : Steady m) where
       by false s true e = rw (left-mark m i h e) (kind-mark v b (steady .bytes i) e (leftAt m i .p) (vowel-before i h e))
       by false s false e = rw (left-letter m i h s e) (kind-letter v b (steady .bytes i) (letter-class b (steady .bytes i) s e (steady .named i h)))
 
-  -- is it the start of a word?
-  pub kind-start : (i : ℕ) → i ≤ length m → eqb (leftAt m i .p) 0 ≡ isBreakClass (kindAt m i)
-  kind-start i h = kind-at i h .start
-
   -- is it a consonant?
   pub kind-consonant : (i : ℕ) → i ≤ length m → isConsonant (leftAt m i .p) ≡ isConsonantClass (kindAt m i)
   kind-consonant i h = kind-at i h .consonant
@@ -112,7 +108,3 @@ module _ (m : List ℕ) (steady : Steady m) where
   -- is it a sign?
   pub kind-sign : (i : ℕ) → i ≤ length m → isSign (leftAt m i .p) ≡ isSignKind (kindAt m i)
   kind-sign i h = kind-at i h .sign
-
-  -- is it a vowel?
-  pub kind-vowel : (i : ℕ) → i ≤ length m → isVowel (leftAt m i .p) ≡ isVowelKind (kindAt m i)
-  kind-vowel i h = kind-at i h .vowel

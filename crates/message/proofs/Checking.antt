@@ -1,24 +1,23 @@
 -- The walk of the message check is the paper's scan: a kind tells all that the rows ask of the bytes before, so a fault goes by kind and class.
 -- Assumes nothing.
-use Prim.Native.Nat.{ℕ, zero, suc, _+_, _-_, _<_, _≤_}
+use Prim.Native.Nat.{ℕ, zero, suc, _+_, _-_, _*_, _/_, _%_, _<_, _≤_}
 use mathlib.Core.Path.{_≡_, refl, sym, ap, _∙_}
 use mathlib.Core.Bool.{Bool, true, false, cond, _&&_, _||_, not, and-false, false≢true}
 use mathlib.Core.List.{List, [], _∷_}
 use native.Mathlib.Omega.{arith}
-use lib.Dec.{eqb}
+use lib.Dec.{eqb, leb}
 use lib.ListN.{length, getD, drop}
 use lib.Seq.{drop-cons, drop-length}
-use borrow.Author.Tests.{eqb-true, eqb-false, eq-eqb, ne-eqb}
+use borrow.Author.Tests.{eqb-true, eqb-false, leb-true, le-leb, lt-leb, ne-eqb}
 use Rattle.message.specs.Letters.{isMark, isBreak}
 use Rattle.message.specs.Refusals.{vowelByte, signByte, hardSignByte, first, none, adjacent, vowelSign, lettersBefore, row3, row4, row5, row6, row7, row8, row9, row10, faultAt, refusal, scan, checkOf}
-use Rattle.message.specs.Scan.{classOf, isBreakClass, isSignClass, isConsonantClass, isVowelClass, isLetterClass, isVowelKind, isHardSignKind, isVowelSignKind, isSignKind, nextKind, faultIn, namesIn, tailNames, kindAt, widthAt, codesTo, namesTo, limitNext, passOf, stepOf, finishOf, Fits}
+use Rattle.message.specs.Scan.{classOf, isBreakClass, isSignClass, isConsonantClass, isVowelClass, isLetterClass, isVowelKind, isHardSignKind, isVowelSignKind, isSignKind, nextKind, faultIn, widthIn, namesIn, tailNames, settled, packed, elidedAt, kindAt, widthAt, codesTo, namesTo, lettersAt, faultHere, Sees, limitAt, Here, finishOf}
 use Rattle.message.specs.declared.Checked.{Checked}
 use Rattle.message.specs.declared.Checked.the-variants.{Accepted, Refused}
 use Rattle.message.specs.declared.Seen.{Seen}
-use Rattle.message.specs.declared.Step.the-variants.{Fault, Next}
 use Rattle.message.proofs.Accepted.{beforeAt, countsOf, scan-next, check-scans, accepted-steady}
 use Rattle.message.proofs.Bytes.{below-same, pairs-same, ByClass, by-class}
-use Rattle.message.proofs.ScanTable.{entry-holds, width-up}
+use Rattle.message.proofs.ScanTable.{Entry, entry-holds, packed-settled, settled-faultless, settled-heard, width-up}
 use Rattle.message.proofs.Computed.{everything}
 use Rattle.message.proofs.Lengths.{codes-all, names-all}
 
@@ -193,140 +192,101 @@ rest-more a before k b [] h c t f l = by (isBreakClass (classOf b)) refl
     by false d = rw (c .break, d) (scan-next a before b [] (at ∙ rw d))
 rest-more a before k b (x ∷ after) h c t f l = scan-next a before b (x ∷ after) (fault-told before k b (x ∷ after) h c t ∙ rw (f, l, and-false (isBreakClass (classOf b))))
 
--- the letters of a word by class, where the byte has one
-letters-tests : (n c : ℕ) → c < 13 → cond (eqb c 0) 0 (cond (isLetterClass c) (suc n) (cond (eqb c 1) n 0)) ≡ cond (eqb c 0) 0 (cond (isBreakClass c) 0 (cond (isLetterClass c) (suc n) n))
-letters-tests n c h =
-    below-same (λ c. cond (eqb c 0) 0 (cond (isLetterClass c) (suc n) (cond (eqb c 1) n 0))) (λ c. cond (eqb c 0) 0 (cond (isBreakClass c) 0 (cond (isLetterClass c) (suc n) n))) 13 c refl h
-
--- the letters of the word and the limit still come to 64 more than the place, one byte on
-limit-more : (before : List ℕ) (k b i l : ℕ) → ByClass b → faultIn k (classOf b) ≡ 0 → lettersBefore before + l ≡ i + 64 → lettersBefore (b ∷ before) + limitNext (classOf b) i l ≡ suc i + 64
-unfolding limitNext lettersBefore faultIn
-limit-more before k b i l c f h =
-    let n = lettersBefore before in
-    let z : eqb (classOf b) 0 ≡ false = ne-eqb (classOf b) 0 (λ e. let g : 3 ≡ 0 = rw e at f in omega arith) in
-    let e : cond (isLetterClass (classOf b)) (suc n) (cond (eqb (classOf b) 1) n 0) ≡ cond (isBreakClass (classOf b)) 0 (cond (isLetterClass (classOf b)) (suc n) n) =
-    rw z at (letters-tests n (classOf b) (c .class)) in
-    rw (c .break, c .letter, ← e) (by (isLetterClass (classOf b)) (eqb (classOf b) 1))
-  where
-    by : (t u : Bool) → cond t (suc (lettersBefore before)) (cond u (lettersBefore before) 0) + cond t l (cond u (l + 1) (i + 65)) ≡ suc i + 64
-    by true u = omega (arith, h)
-    by false true = omega (arith, h)
-    by false false = omega arith
-
--- a letter at the limit is the 65th
-limit-full : (n l i : ℕ) → n + l ≡ i + 64 → eqb i l ≡ eqb n 64
-limit-full n l i h = by (eqb n 64) refl
-  where
-    by : (t : Bool) → eqb n 64 ≡ t → eqb i l ≡ t
-    by true d = eq-eqb i l (omega (arith, h, eqb-true n 64 d))
-    by false d = ne-eqb i l (λ e. eqb-false n 64 d (omega (arith, h, e)))
-
 -- there are i bytes before place i
 before-length : (m : List ℕ) (i : ℕ) → length (beforeAt m i) ≡ i
 unfolding beforeAt
 before-length m zero = refl
 before-length m (suc i) = ap suc (before-length m i)
 
--- the walk has come to place i: what it has seen, and what is left of the scan
-pub record Walked (m : List ℕ) (i : ℕ) (s : Seen) : Type 0 where
-  pub within : i ≤ length m
-  pub fits : Fits i s
-  pub kind : s .kind ≡ kindAt m i
-  pub limit : lettersBefore (beforeAt m i) + s .limit ≡ i + 64
-  pub codes : s .codes ≡ codesTo m i
-  pub names : s .names ≡ namesTo m i
-  pub told : Told (beforeAt m i) (s .kind)
+-- a byte without a fault here has no number of the table of steps, and is no 65th letter
+here-clear : (m : List ℕ) (i : ℕ) → faultHere m i ≡ 0
+    → (faultIn (kindAt m i) (classOf (getD m i 0)) ≡ 0) × ((isLetterClass (classOf (getD m i 0)) && eqb (lettersAt m i) 64) ≡ false)
+unfolding faultHere
+here-clear m i e = by (eqb (faultIn (kindAt m i) (classOf (getD m i 0))) 0) refl (isLetterClass (classOf (getD m i 0)) && eqb (lettersAt m i) 64) refl e
+  where
+    by : (t : Bool) → eqb (faultIn (kindAt m i) (classOf (getD m i 0))) 0 ≡ t → (u : Bool) → (isLetterClass (classOf (getD m i 0)) && eqb (lettersAt m i) 64) ≡ u
+        → cond t (cond u 10 0) (faultIn (kindAt m i) (classOf (getD m i 0))) ≡ 0
+        → (faultIn (kindAt m i) (classOf (getD m i 0)) ≡ 0) × ((isLetterClass (classOf (getD m i 0)) && eqb (lettersAt m i) 64) ≡ false)
+    by true d true q z = absurd (omega arith)
+    by true d false q z = (eqb-true _ _ d, q)
+    by false d u q z = absurd (eqb-false _ _ d z)
+
+-- and the other way round
+pub clear-here : (m : List ℕ) (i : ℕ) → faultIn (kindAt m i) (classOf (getD m i 0)) ≡ 0 → (isLetterClass (classOf (getD m i 0)) && eqb (lettersAt m i) 64) ≡ false → faultHere m i ≡ 0
+unfolding faultHere
+clear-here m i f l = rw (f, l)
+
+-- where no byte before place i has a fault, the kind there tells what the rows ask, and the scan comes there
+record Reached (m : List ℕ) (i : ℕ) : Type 0 where
+  pub told : Told (beforeAt m i) (kindAt m i)
   pub scanned : (a : Checked) → scan a [] m ≡ rest a (beforeAt m i) (drop i m)
 
--- the walk starts
-pub walked-none : (m : List ℕ) → Walked m 0 (record { kind = 2; limit = 64; codes = 0; names = 0 })
-unfolding kindAt codesTo namesTo beforeAt lettersBefore
-walked-none m =
-    record {
-      within = omega arith;
-      fits = record { kind = omega arith; limit = omega arith; codes = omega arith; names = omega arith };
-      kind = refl;
-      limit = refl;
-      codes = refl;
-      names = refl;
-      told = told-none;
-      scanned = λ a. rest-none a m;
-    }
+module _ (m : List ℕ) (bytes : (j : ℕ) → getD m j 0 < 256) where
+  -- every kind has its row in the table
+  pub kind-small : (i : ℕ) → kindAt m i < 15
+  unfolding kindAt
+  kind-small zero = omega arith
+  kind-small (suc i) = entry-holds (kindAt m i) (classOf (getD m i 0)) (kind-small i) (by-class (getD m i 0) (bytes i) .class) .next
 
--- what the walk has seen after place i, where there is no fault
-abbrev seenNext : List ℕ → ℕ → Seen → Seen
-seenNext m i s =
-    let c = classOf (getD m i 0) in
-    record { kind = nextKind (s .kind) c; limit = limitNext c i (s .limit); codes = s .codes + widthAt m i (s .kind); names = s .names + namesIn (s .kind) c }
+  -- the entry for the byte at place i
+  pub entry-at : (i : ℕ) → Entry (kindAt m i) (classOf (getD m i 0))
+  entry-at i = entry-holds (kindAt m i) (classOf (getD m i 0)) (kind-small i) (by-class (getD m i 0) (bytes i) .class)
 
-module _ (m : List ℕ) (i : ℕ) (s : Seen) (bytes : (j : ℕ) → getD m j 0 < 256) (h : i < length m) (w : Walked m i s) where
-  -- the limit tells whether the word has 64 letters
-  full-here : eqb i (s .limit) ≡ eqb (lettersBefore (beforeAt m i)) 64
-  full-here = limit-full (lettersBefore (beforeAt m i)) (s .limit) i (w .limit)
+  -- i bytes make at most 2 i codes and i names
+  pub counts-up : (i : ℕ) → (codesTo m i ≤ 2 * i) × (namesTo m i ≤ i)
+  unfolding codesTo namesTo
+  counts-up zero = (omega arith, omega arith)
+  counts-up (suc i) =
+      let c = counts-up i in
+      (omega (arith, c .0, width-up m i (kindAt m i) (entry-at i)), omega (arith, c .1, entry-at i .names))
 
-  -- the fault at place i
-  fault-here : faultAt (beforeAt m i) (getD m i 0) (drop (suc i) m) ≡ faultOf (none (drop (suc i) m)) (eqb i (s .limit)) (s .kind) (classOf (getD m i 0))
-  fault-here =
-      fault-told (beforeAt m i) (s .kind) (getD m i 0) (drop (suc i) m) (w .fits .kind) (by-class (getD m i 0) (bytes i)) (w .told) ∙ rw full-here
+  -- the letters before a place are those that the rows count
+  letters-at : (i : ℕ) → lettersAt m i ≡ lettersBefore (beforeAt m i)
+  unfolding lettersAt lettersBefore beforeAt
+  letters-at zero = refl
+  letters-at (suc i) = let c = by-class (getD m i 0) (bytes i) in rw (c .break, c .letter, letters-at i)
 
-  -- a byte without a fault is passed
-  walked-next : faultIn (s .kind) (classOf (getD m i 0)) ≡ 0 → (isLetterClass (classOf (getD m i 0)) && eqb i (s .limit)) ≡ false → Walked m (suc i) (seenNext m i s)
-  unfolding kindAt codesTo namesTo beforeAt
-  walked-next f l =
+  -- place by place
+  reached : (i : ℕ) → i ≤ length m → ((j : ℕ) → j < i → faultHere m j ≡ 0) → Reached m i
+  unfolding kindAt beforeAt
+  reached zero h c = record { told = told-none; scanned = λ a. rest-none a m }
+  reached (suc i) h c =
+      let r = reached i (omega arith) (λ j l. c j (omega arith)) in
       let b = getD m i 0 in
-      let c = by-class b (bytes i) in
-      let e = entry-holds (s .kind) (classOf b) (w .fits .kind) (c .class) in
-      let n = limit-more (beforeAt m i) (s .kind) b i (s .limit) c f (w .limit) in
+      let k = by-class b (bytes i) in
+      let f = here-clear m i (c i (omega arith)) in
       record {
-        within = h;
-        fits =
-            record {
-              kind = e .next;
-              limit = omega (arith, n);
-              codes = omega (arith, w .fits .codes, width-up m i (s .kind) e);
-              names = omega (arith, w .fits .names, e .one);
-            };
-        kind = rw (w .kind);
-        limit = n;
-        codes = rw (w .codes, w .kind);
-        names = rw (w .names, w .kind);
-        told = told-more (beforeAt m i) (s .kind) b (w .fits .kind) c (w .told) f;
-        scanned = λ a. w .scanned a ∙ rw (drop-cons m i 0 h) (rest-more a (beforeAt m i) (s .kind) b (drop (suc i) m) (w .fits .kind) c (w .told) f (rw full-here at l));
+        told = told-more (beforeAt m i) (kindAt m i) b (kind-small i) k (r .told) (f .0);
+        scanned = λ a. r .scanned a ∙ rw (drop-cons m i 0 h) (rest-more a (beforeAt m i) (kindAt m i) b (drop (suc i) m) (kind-small i) k (r .told) (f .0) (rw (letters-at i) at (f .1)));
       }
 
-  -- the walk goes on
-  pub walked-more : (s′ : Seen) → stepOf m i s ≡ Next s′ → Walked m (suc i) s′
-  unfolding stepOf passOf
-  walked-more s′ e = by (eqb (faultIn (s .kind) (classOf (getD m i 0))) 0) refl (isLetterClass (classOf (getD m i 0)) && eqb i (s .limit)) refl e
+  -- a fault here is the paper's
+  fault-paper : (i n : ℕ) → Told (beforeAt m i) (kindAt m i) → faultHere m i ≡ n → (n ≡ 0 → ⊥) → faultAt (beforeAt m i) (getD m i 0) (drop (suc i) m) ≡ n
+  unfolding faultHere
+  fault-paper i n t e z =
+      fault-told (beforeAt m i) (kindAt m i) (getD m i 0) (drop (suc i) m) (kind-small i) (by-class (getD m i 0) (bytes i)) t
+      ∙ rw (← letters-at i) (by (eqb f 0) refl (isLetterClass c && eqb (lettersAt m i) 64) refl e)
     where
-      by : (t : Bool) → eqb (faultIn (s .kind) (classOf (getD m i 0))) 0 ≡ t → (u : Bool) → (isLetterClass (classOf (getD m i 0)) && eqb i (s .limit)) ≡ u
-          → cond t (cond u (Fault 10) (Next (seenNext m i s))) (Fault (faultIn (s .kind) (classOf (getD m i 0)))) ≡ Next s′ → Walked m (suc i) s′
-      by true d true l q = absurd (let z : _≡_ {A = ℕ} 0 1 = cc in omega arith)
-      by true d false l q = let r : seenNext m i s ≡ s′ = cc in rw (← r) (walked-next (eqb-true _ _ d) l)
-      by false d u l q = absurd (let z : _≡_ {A = ℕ} 0 1 = cc in omega arith)
+      c : ℕ
+      c = classOf (getD m i 0)
 
-  -- the step's fault is the paper's
-  step-fault : (n : ℕ) → stepOf m i s ≡ Fault n → (faultAt (beforeAt m i) (getD m i 0) (drop (suc i) m) ≡ n) × (n ≡ 0 → ⊥)
-  unfolding stepOf passOf
-  step-fault n e = by (eqb (faultIn (s .kind) (classOf (getD m i 0))) 0) refl (isLetterClass (classOf (getD m i 0)) && eqb i (s .limit)) refl e
-    where
-      by : (t : Bool) → eqb (faultIn (s .kind) (classOf (getD m i 0))) 0 ≡ t → (u : Bool) → (isLetterClass (classOf (getD m i 0)) && eqb i (s .limit)) ≡ u
-          → cond t (cond u (Fault 10) (Next (seenNext m i s))) (Fault (faultIn (s .kind) (classOf (getD m i 0)))) ≡ Fault n
-          → (faultAt (beforeAt m i) (getD m i 0) (drop (suc i) m) ≡ n) × (n ≡ 0 → ⊥)
-      by true d true l q = let r : _≡_ {A = ℕ} 10 n = cc in (fault-here ∙ rw (d, l) r, omega arith)
-      by true d false l q = absurd (let z : _≡_ {A = ℕ} 0 1 = cc in omega arith)
-      by false d u l q =
-          let r : faultIn (s .kind) (classOf (getD m i 0)) ≡ n = cc in
-          (fault-here ∙ rw d r, λ z. eqb-false _ _ d (r ∙ z))
+      f : ℕ
+      f = faultIn (kindAt m i) c
 
-  -- the walk's fault is the check's answer
-  pub walked-fault : (n : ℕ) → length m ≤ 4096 → stepOf m i s ≡ Fault n → Refused (refusal n i) ≡ checkOf m
-  walked-fault n l e =
+      by : (t : Bool) → eqb f 0 ≡ t → (u : Bool) → (isLetterClass c && eqb (lettersAt m i) 64) ≡ u → cond t (cond u 10 0) f ≡ n
+          → cond t (cond u 10 (cond (isBreakClass c && none (drop (suc i) m)) 4 0)) f ≡ n
+      by true d true q e = e
+      by true d false q e = absurd (z (sym e))
+      by false d u q e = e
+
+  -- so it is the check's answer, where no byte before has one
+  pub seen-fault : (i n : ℕ) → i < length m → length m ≤ 4096 → ((j : ℕ) → j < i → faultHere m j ≡ 0) → faultHere m i ≡ n → (n ≡ 0 → ⊥) → Refused (refusal n i) ≡ checkOf m
+  seen-fault i n h l c e z =
       let a = Accepted (countsOf m) in
-      let q = step-fault n e in
-      let r : rest a (beforeAt m i) (drop i m) ≡ Refused (refusal n i) =
-      rw (drop-cons m i 0 h) (scan-fault a (beforeAt m i) (getD m i 0) (drop (suc i) m) n (q .0) (q .1) ∙ rw (before-length m i)) in
-      sym (check-scans m (omega arith) l ∙ w .scanned a ∙ r)
+      let r = reached i (omega arith) c in
+      let p : rest a (beforeAt m i) (drop i m) ≡ Refused (refusal n i) =
+      rw (drop-cons m i 0 h) (scan-fault a (beforeAt m i) (getD m i 0) (drop (suc i) m) n (fault-paper i n (r .told) e z) z ∙ rw (before-length m i)) in
+      sym (check-scans m (omega arith) l ∙ r .scanned a ∙ p)
 
 -- at the end a break is refused
 rest-all : (a : Checked) (m : List ℕ) (n k : ℕ) → 0 < n → Told (beforeAt m n) k → rest a (beforeAt m n) [] ≡ cond (isBreakClass k) (Refused (refusal 4 (n - 1))) a
@@ -334,19 +294,167 @@ unfolding beforeAt none first
 rest-all a m zero k z t = absurd (omega arith)
 rest-all a m (suc j) k z t = let e : suc j - 1 ≡ j = omega arith in let d : isBreak (getD m j 0) ≡ isBreakClass k = t .start in rw (d, before-length m j, e)
 
--- the walk's end is the check's answer
-pub walked-all : (m : List ℕ) (s : Seen) → ((j : ℕ) → getD m j 0 < 256) → 0 < length m → length m ≤ 4096 → Walked m (length m) s → finishOf (length m) s ≡ checkOf m
+-- the end of the walk is the check's answer
+pub seen-all : (m : List ℕ) (s : Seen) → ((j : ℕ) → getD m j 0 < 256) → 0 < length m → length m ≤ 4096 → Sees m s → s .at ≡ length m → finishOf (length m) s ≡ checkOf m
 unfolding finishOf
-walked-all m s bytes z l w = by (isBreakClass (s .kind)) refl
+seen-all m s bytes z l w e = rw (row, codes, names) (by (isBreakClass (kindAt m (length m))) refl)
   where
-    answer : checkOf m ≡ cond (isBreakClass (s .kind)) (Refused (refusal 4 (length m - 1))) (Accepted (countsOf m))
-    answer =
-        check-scans m z l ∙ w .scanned (Accepted (countsOf m)) ∙ rw (drop-length m) (rest-all (Accepted (countsOf m)) m (length m) (s .kind) z (w .told))
+    n : ℕ
+    n = length m
 
-    by : (t : Bool) → isBreakClass (s .kind) ≡ t
-        → cond t (Refused (refusal 4 (length m - 1))) (Accepted (record { codes = s .codes; names = s .names + tailNames (s .kind) })) ≡ checkOf m
+    r : Reached m n
+    r = reached m bytes n (omega arith) (rw e at (w .clear))
+
+    up : (codesTo m n ≤ 2 * n) × (namesTo m n ≤ n)
+    up = counts-up m bytes n
+
+    sum : s .sum % 268435456 ≡ codesTo m n + 16384 * namesTo m n
+    sum = rw e at (w .counts)
+
+    row : s .row / 16 ≡ kindAt m n
+    row = let f : s .row ≡ 16 * kindAt m n = rw e at (w .row) in omega (arith, f)
+
+    codes : s .sum % 16384 ≡ codesTo m n
+    codes = omega (arith, sum, up .0, up .1)
+
+    names : s .sum / 16384 % 16384 ≡ namesTo m n
+    names = omega (arith, sum, up .0, up .1)
+
+    answer : checkOf m ≡ cond (isBreakClass (kindAt m n)) (Refused (refusal 4 (n - 1))) (Accepted (countsOf m))
+    answer = check-scans m z l ∙ r .scanned (Accepted (countsOf m)) ∙ rw (drop-length m) (rest-all (Accepted (countsOf m)) m n (kindAt m n) z (r .told))
+
+    by : (t : Bool) → isBreakClass (kindAt m n) ≡ t
+        → cond t (Refused (refusal 4 (n - 1))) (Accepted (record { codes = codesTo m n; names = namesTo m n + tailNames (kindAt m n) })) ≡ checkOf m
     by true d = sym (answer ∙ rw d)
     by false d =
-        let e : checkOf m ≡ Accepted (countsOf m) = answer ∙ rw d in
-        let y = accepted-steady m (countsOf m) e bytes in
-        sym (e ∙ rw (w .codes, w .names, w .kind, codes-all m y, names-all m y))
+        let q : checkOf m ≡ Accepted (countsOf m) = answer ∙ rw d in
+        let y = accepted-steady m (countsOf m) q bytes in
+        sym (q ∙ rw (codes-all m y, names-all m y))
+
+-- a letter more is one more at most, and what is no letter adds none
+letters-more : (m : List ℕ) (i : ℕ) → (lettersAt m (suc i) ≤ suc (lettersAt m i)) × (isLetterClass (classOf (getD m i 0)) ≡ false → lettersAt m (suc i) ≤ lettersAt m i)
+unfolding lettersAt
+letters-more m i = by (isBreakClass (classOf (getD m i 0))) (isLetterClass (classOf (getD m i 0)))
+  where
+    by : (s t : Bool) → (cond s 0 (cond t (suc (lettersAt m i)) (lettersAt m i)) ≤ suc (lettersAt m i)) × (t ≡ false → cond s 0 (cond t (suc (lettersAt m i)) (lettersAt m i)) ≤ lettersAt m i)
+    by true t = (omega arith, λ e. omega arith)
+    by false true = (omega arith, λ e. absurd (false≢true (sym e)))
+    by false false = (omega arith, λ e. omega arith)
+
+-- т or д after a paired consonant has no fault, and makes one code where it is heard
+silent-tests : (faultIn 7 8 ≡ 0) × (128 ≡ 16 * nextKind 7 8) × (widthIn 7 8 ≡ 1) × (namesIn 7 8 ≡ 0)
+unfolding everything
+silent-tests = (refl, refl, refl, refl)
+
+pub silent-faultless : {k c : ℕ} → k ≡ 7 → c ≡ 8 → faultIn k c ≡ 0
+silent-faultless k c = rw (k, c) (silent-tests .0)
+
+-- it makes one code at most
+pub one-code : (silent : Bool) → cond silent 0 1 ≤ 1
+one-code true = omega arith
+one-code false = omega arith
+
+-- at the start nothing is seen
+pub sees-none : (m : List ℕ) → Sees m (record { at = 0; row = 32; limit = 64; sum = 0 })
+unfolding kindAt codesTo namesTo lettersAt
+sees-none m = record {
+  within = omega arith;
+  clear = λ j h. absurd (omega arith);
+  row = refl;
+  counts = refl;
+  sum = omega arith;
+  ahead = omega arith;
+  limit = omega arith;
+}
+
+-- The check sees all up to a byte.
+module _ (m : List ℕ) (bytes : (j : ℕ) → getD m j 0 < 256) (s : Seen) (w : Sees m s) (h : s .at < length m) (short : length m ≤ 4096) where
+  -- the class of the byte
+  abbrev class : ℕ
+  class = classOf (getD m (s .at) 0)
+
+  -- a byte without a fault is seen, with a limit that still holds
+  sees-more : (row limit sum : ℕ) → faultHere m (s .at) ≡ 0 → row ≡ 16 * nextKind (kindAt m (s .at)) class
+      → sum % 268435456 ≡ s .sum % 268435456 + (widthAt m (s .at) (kindAt m (s .at)) + 16384 * namesIn (kindAt m (s .at)) class) → sum ≤ s .sum + 4294967296
+      → suc (s .at) ≤ limit → lettersAt m (suc (s .at)) + limit ≤ suc (s .at) + 64 → Sees m (record { at = suc (s .at); row = row; limit = limit; sum = sum })
+  unfolding kindAt codesTo namesTo
+  sees-more row limit sum f r c u a l = record {
+    within = h;
+    clear = λ j b. by j (eqb j (s .at)) refl b;
+    row = r;
+    counts = omega (arith, c, w .counts);
+    sum = omega (arith, u, w .sum);
+    ahead = a;
+    limit = l;
+  }
+    where
+      by : (j : ℕ) (t : Bool) → eqb j (s .at) ≡ t → j < suc (s .at) → faultHere m j ≡ 0
+      by j true d b = rw (eqb-true j (s .at) d) f
+      by j false d b = w .clear j (omega (arith, eqb-false j (s .at) d))
+
+  -- A byte of which the table says all, with a limit that holds at its place.
+  module _ (limit : ℕ) (ahead : s .at ≤ limit) (l : lettersAt m (s .at) + limit ≤ s .at + 64) (q : settled (kindAt m (s .at)) class ≡ true) where
+    -- the sum with its entry
+    entry-sum : (s .sum + packed (kindAt m (s .at)) class) % 268435456
+        ≡ s .sum % 268435456 + (widthAt m (s .at) (kindAt m (s .at)) + 16384 * namesIn (kindAt m (s .at)) class)
+    unfolding widthAt
+    entry-sum =
+        let k = kindAt m (s .at) in
+        let u = counts-up m bytes (s .at) in
+        let e = entry-at m bytes (s .at) in
+        let p = packed-settled k class q in
+        rw (settled-heard m (s .at) bytes q) (omega (arith, p, u .0, u .1, w .counts, e .width, e .names))
+
+    -- and the row in it
+    entry-row : packed (kindAt m (s .at)) class / 16777216 ≡ 16 * nextKind (kindAt m (s .at)) class
+    entry-row =
+        let e = entry-at m bytes (s .at) in
+        omega (arith, packed-settled (kindAt m (s .at)) class q, e .width, e .names)
+
+    -- it is passed where the word may have a letter more
+    pub sees-letter : s .at < limit
+        → Sees m (record { at = suc (s .at); row = packed (kindAt m (s .at)) class / 16777216; limit = limit; sum = s .sum + packed (kindAt m (s .at)) class })
+    sees-letter a =
+        let z : eqb (lettersAt m (s .at)) 64 ≡ false = ne-eqb (lettersAt m (s .at)) 64 (λ e. omega (arith, l, e)) in
+        sees-more _ limit _ (clear-here m (s .at) (settled-faultless _ _ q) (rw (z, and-false (isLetterClass class)))) entry-row entry-sum
+        (omega (arith, entry-at m bytes (s .at) .small)) a (omega (arith, l, letters-more m (s .at) .0))
+
+    -- and where it is no letter
+    pub sees-other : class < 4
+        → Sees m (record { at = suc (s .at); row = packed (kindAt m (s .at)) class / 16777216; limit = suc limit; sum = s .sum + packed (kindAt m (s .at)) class })
+    sees-other a =
+        let n : isLetterClass class ≡ false = lt-leb 4 class a in
+        sees-more _ (suc limit) _ (clear-here m (s .at) (settled-faultless _ _ q) (rw n)) entry-row entry-sum
+        (omega (arith, entry-at m bytes (s .at) .small)) (omega (arith, ahead)) (omega (arith, l, letters-more m (s .at) .1 n))
+
+  -- т or д after a paired consonant is passed, with one code or none
+  pub sees-silent : (limit n : ℕ) → s .at < limit → lettersAt m (s .at) + limit ≤ s .at + 64 → kindAt m (s .at) ≡ 7 → class ≡ 8 → n ≡ cond (elidedAt m (s .at)) 0 1
+      → Sees m (record { at = suc (s .at); row = 128; limit = limit; sum = s .sum + n })
+  unfolding widthAt
+  sees-silent limit n a l k c e =
+      let u = counts-up m bytes (s .at) in
+      let z : eqb (lettersAt m (s .at)) 64 ≡ false = ne-eqb (lettersAt m (s .at)) 64 (λ e. omega (arith, l, e)) in
+      sees-more 128 limit (s .sum + n) (clear-here m (s .at) (silent-faultless k c) (rw (z, and-false (isLetterClass class)))) (rw (k, c) (silent-tests .1))
+      (rw (k, c, silent-tests .2, silent-tests .3, ← e) (omega (arith, u .0, u .1, w .counts, small-bit))) (omega (arith, small-bit)) a (omega (arith, l, letters-more m (s .at) .0))
+    where
+      small-bit : n ≤ 1
+      small-bit = rw e (one-code (elidedAt m (s .at)))
+
+-- the limit counted anew holds too, and where it is reached the word has 64 letters
+pub limit-here : (m : List ℕ) (s : Seen) (l : ℕ) → Here m s l → (s .at ≤ l) × (lettersAt m (s .at) + l ≤ s .at + 64) × (s .at ≡ l → lettersAt m (s .at) ≡ 64)
+unfolding limitAt
+limit-here m s l h = rw (h .limit) (by (leb (suc (s .at)) (s .limit)) refl)
+  where
+    w : Sees m s
+    w = h .sees
+
+    by : (t : Bool) → leb (suc (s .at)) (s .limit) ≡ t
+        → let n = cond t (s .limit) (s .at + 64 - lettersAt m (s .at)) in
+        (s .at ≤ n) × (lettersAt m (s .at) + n ≤ s .at + 64) × (s .at ≡ n → lettersAt m (s .at) ≡ 64)
+    by true d = (w .ahead, w .limit, λ e. absurd (omega (arith, leb-true (suc (s .at)) (s .limit) d, e)))
+    by false d = (omega (arith, w .ahead, w .limit), omega (arith, w .ahead, w .limit), λ e. omega (arith, w .ahead, w .limit, e))
+
+-- there a letter is the 65th
+pub limit-fault : (m : List ℕ) (i : ℕ) → faultIn (kindAt m i) (classOf (getD m i 0)) ≡ 0 → 4 ≤ classOf (getD m i 0) → lettersAt m i ≡ 64 → faultHere m i ≡ 10
+unfolding faultHere
+limit-fault m i f c e = rw (f, le-leb 4 (classOf (getD m i 0)) c, e)

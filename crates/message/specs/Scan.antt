@@ -1,10 +1,11 @@
--- How the code walks a message: a class for each byte, a kind for what stands before it, and one table for both. These are not the paper's words: `proofs/` shows that they agree with them.
+-- How the code walks a message: a class for each byte, a kind for what stands before it, and a table for each of the two. These are not the paper's words: `proofs/` shows that they agree with them.
 -- Assumes nothing: these are definitions.
 use Prim.Native.Nat.{ℕ, zero, suc, _+_, _-_, _*_, _/_, _%_, _≤_, _<_}
-use mathlib.Core.Bool.{Bool, cond, _&&_, _||_}
-use mathlib.Core.List.{List, [], _∷_, _++_}
+use mathlib.Core.Path.{_≡_}
+use mathlib.Core.Bool.{Bool, cond, _&&_, _||_, not}
+use mathlib.Core.List.{List, [], _∷_}
 use lib.Dec.{eqb, leb}
-use lib.ListN.{getD}
+use lib.ListN.{length, getD}
 use Rattle.message.specs.Alphabet.{gap, pause, «д», «е», «ё», «и», «т», «ъ», «ь», «ю», «я»}
 use Rattle.message.specs.Tables.{among}
 use Rattle.message.specs.Letters.{between, small, isMark, isHardOnly, isPaired, isSoftOnly, isVowel}
@@ -89,18 +90,26 @@ tailNames k = cond (isConsonantClass k || isSignKind k) 1 0
 unfoldable pub namesIn : ℕ → ℕ → ℕ
 namesIn k c = cond (isVowelClass c) 1 (cond (isBreakClass c) (tailNames k) 0)
 
--- the three in one byte
-unfoldable pub packed : ℕ → ℕ → ℕ
-packed k c = faultIn k c + 16 * widthIn k c + 64 * namesIn k c
-
 -- f at i, i + 1, .., n places
 unfoldable pub tabulate : (ℕ → ℕ) → ℕ → ℕ → List ℕ
 tabulate f i zero = []
 tabulate f i (suc n) = f i ∷ tabulate f (suc i) n
 
--- the code's one table: the class of each byte, then for each kind a row of 16 classes
-unfoldable pub tables : List ℕ
-tables = tabulate classOf 0 256 ++ tabulate (λ j. packed (j / 16) (j % 16)) 0 256
+-- the code's table of classes
+unfoldable pub classes : List ℕ
+classes = tabulate classOf 0 256
+
+-- Is all said of a byte of class c after kind k? It has no fault, and is not т or д after a paired consonant, which may be silent.
+unfoldable pub settled : ℕ → ℕ → Bool
+settled k c = eqb (faultIn k c) 0 && not (eqb k 7 && eqb c 8)
+
+-- what the table has for it: the codes, 2^14 times the names and 2^28 times the next kind; where not all is said, 15 in the place of the kind, and the fault
+unfoldable pub packed : ℕ → ℕ → ℕ
+packed k c = cond (settled k c) (widthIn k c + 16384 * namesIn k c + 268435456 * nextKind k c) (4026531840 + faultIn k c)
+
+-- the code's table of steps: for each kind a row of 16 classes
+unfoldable pub steps : List ℕ
+steps = tabulate (λ j. packed (j / 16) (j % 16)) 0 240
 
 -- the small letter of the byte at place i; 0 past the end
 unfoldable pub letterAt : List ℕ → ℕ → ℕ
@@ -133,30 +142,48 @@ unfoldable pub namesTo : List ℕ → ℕ → ℕ
 namesTo m zero = 0
 namesTo m (suc i) = namesTo m i + namesIn (kindAt m i) (classOf (getD m i 0))
 
--- the place at which a letter would be the 65th of its word, after a byte of class c at place i, where it was l before it
-unfoldable pub limitNext : ℕ → ℕ → ℕ → ℕ
-limitNext c i l = cond (isLetterClass c) l (cond (eqb c 1) (l + 1) (i + 65))
-
--- a byte of class c at place i that makes w codes and n names and has no fault, unless it is a 65th letter
-unfoldable pub passOf : ℕ → ℕ → ℕ → ℕ → Seen → Step
-passOf i c w n s =
-    cond (isLetterClass c && eqb i (s .limit)) (Fault 10)
-    (Next (record { kind = nextKind (s .kind) c; limit = limitNext c i (s .limit); codes = s .codes + w; names = s .names + n }))
-
--- one step of the check's walk, and its end
-unfoldable pub stepOf : List ℕ → ℕ → Seen → Step
-stepOf m i s =
+-- how many letters of its word stand before place i
+unfoldable pub lettersAt : List ℕ → ℕ → ℕ
+lettersAt m zero = 0
+lettersAt m (suc i) =
     let c = classOf (getD m i 0) in
-    cond (eqb (faultIn (s .kind) c) 0) (passOf i c (widthAt m i (s .kind)) (namesIn (s .kind) c) s) (Fault (faultIn (s .kind) c))
+    cond (isBreakClass c) 0 (cond (isLetterClass c) (suc (lettersAt m i)) (lettersAt m i))
 
+-- numbers 3 to 10 at place i, but for a break last, which the end of the walk finds
+unfoldable pub faultHere : List ℕ → ℕ → ℕ
+faultHere m i =
+    let c = classOf (getD m i 0) in
+    let f = faultIn (kindAt m i) c in
+    cond (eqb f 0) (cond (isLetterClass c && eqb (lettersAt m i) 64) 10 0) f
+
+-- What the check has seen is true: no byte before its place has a fault, its row is that of the kind there, its sum has the codes and the names of the bytes before, and before its limit no letter is a 65th.
+pub record Sees (m : List ℕ) (s : Seen) : Type 0 where
+  pub within : s .at ≤ length m
+  pub clear : (j : ℕ) → j < s .at → faultHere m j ≡ 0
+  pub row : s .row ≡ 16 * kindAt m (s .at)
+  pub counts : s .sum % 268435456 ≡ codesTo m (s .at) + 16384 * namesTo m (s .at)
+  pub sum : s .sum ≤ 4294967296 * s .at
+  pub ahead : s .at ≤ s .limit
+  pub limit : lettersAt m (s .at) + s .limit ≤ s .at + 64
+
+-- the limit, counted anew where it is reached
+unfoldable pub limitAt : List ℕ → ℕ → ℕ → ℕ
+limitAt m i l = cond (leb (suc i) l) l (i + 64 - lettersAt m i)
+
+-- The check stands at a byte, with its limit counted anew.
+pub record Here (m : List ℕ) (s : Seen) (l : ℕ) : Type 0 where
+  pub sees : Sees m s
+  pub byte : s .at < length m
+  pub short : length m ≤ 4096
+  pub limit : l ≡ limitAt m (s .at) (s .limit)
+
+-- What a step gives is true: its byte's fault, or what is seen further on.
+abbrev pub Judged : List ℕ → Seen → Step → Type 0
+Judged m s (Fault n) = (faultHere m (s .at) ≡ n) × (n ≡ 0 → ⊥)
+Judged m s (Next r) = Sees m r × (s .at < r .at)
+
+-- the end of a message of n bytes: a break last is a fault, and a word's last syllable may be incomplete
 unfoldable pub finishOf : ℕ → Seen → Checked
 finishOf n s =
-    cond (isBreakClass (s .kind)) (Refused (refusal 4 (n - 1)))
-    (Accepted (record { codes = s .codes; names = s .names + tailNames (s .kind) }))
-
--- what keeps the walk's numbers small: a byte makes at most two codes and one name
-pub record Fits (i : ℕ) (s : Seen) : Type 0 where
-  pub kind : s .kind < 15
-  pub limit : s .limit ≤ i + 64
-  pub codes : s .codes ≤ 2 * i
-  pub names : s .names ≤ i
+    cond (isBreakClass (s .row / 16)) (Refused (refusal 4 (n - 1)))
+    (Accepted (record { codes = s .sum % 16384; names = s .sum / 16384 % 16384 + tailNames (s .row / 16) }))

@@ -1,204 +1,237 @@
 // The message check: one walk from left to right.
 ghost use mathlib.Core.Path.{_≡_};
-ghost use Prim.Native.Nat.{_+_, _*_, _<_, _≤_};
+ghost use mathlib.Core.Bool.{cond};
+ghost use Prim.Native.Nat.{ℕ, _*_, _<_, _≤_};
 ghost use lib.ListN.{length, getD};
 ghost use Rattle.message.specs.Refusals.{checkOf};
-ghost use Rattle.message.specs.Scan.{tables, classOf, packed, nextKind, kindAt, widthAt, widthIn, limitNext, passOf, stepOf, finishOf, Fits};
+ghost use Rattle.message.specs.Scan.{classes, steps, classOf, packed, elidedAt, kindAt, lettersAt, limitAt, Sees, Here, Judged, finishOf};
 use crate::Checked;
 use crate::Counts;
 use crate::Refusal;
 use crate::Seen;
 use crate::Step;
 use crate::letters::is_elided;
-use crate::tables::TABLES;
+use crate::tables::class_table;
+use crate::tables::step_table;
 
 // The class of a byte.
-pub fn class_of(b: u8, t: &[u8; 512]) -> usize
-    requires { ⌜ now t ≡ tables ⌝ }
+pub fn class_of(b: u8, t: &[u8; 256]) -> usize
+    requires { ⌜ now t ≡ classes ⌝ }
     ensures { λ r. ⌜ r ≡ classOf b ⌝ }
 {
     t[b as usize] as usize
 }
 
-// The fault, the width and the names at class c after kind k, in one byte.
-fn look_up(k: usize, c: usize, t: &[u8; 512]) -> usize
-    requires { ⌜ (now t ≡ tables) × (k < 16) × (c < 16) ⌝ }
-    ensures { λ r. ⌜ r ≡ packed k c ⌝ }
+// What the table has for the byte at the place: the sum to add, and the next row in its highest byte.
+fn look_up(m: &[u8], at: usize, row: usize, t: &[u8; 256], s: &[u32; 240]) -> usize
+    requires { ⌜ (now t ≡ classes) × (now s ≡ steps) × (at < length (now m)) × (row ≡ 16 * kindAt (now m) at) ⌝ }
+    ensures { λ r. ⌜ r ≡ packed (kindAt (now (m .entry)) at) (classOf (getD (now (m .entry)) at 0)) ⌝ }
 {
-    t[256 + k * 16 + c] as usize
+    let c = class_of(m[at], t);
+    s[row + c] as usize
 }
 
-// The kind after a sign, which tells whether it stands after a vowel; after any other byte it is the class.
-fn next_kind(k: usize, c: usize) -> usize
-    requires { ⌜ (4 ≤ c) × (c < 6) ⌝ }
-    ensures { λ r. ⌜ r ≡ nextKind k c ⌝ }
+// Passes bytes of which the table says all, up to place to. This loop has nearly all bytes, so it does nothing else.
+fn pass(m: &[u8], to: usize, seen: Seen, t: &[u8; 256], s: &[u32; 240]) -> Seen
+    requires { ⌜ (now t ≡ classes) × (now s ≡ steps) × Sees (now m) seen × (seen .at ≤ to) × (to ≤ seen .limit) × (to ≤ length (now m)) × (length (now m) ≤ 4096) ⌝ }
+    ensures { λ r. ⌜ Sees (now (m .entry)) r × (seen .at ≤ r .at) ⌝ }
 {
-    if k == 1 {
-        return c + 9;
+    let limit = seen.limit;
+    let mut at = seen.at;
+    let mut row = seen.row;
+    let mut sum = seen.sum;
+    while at < to {
+        let e = look_up(m, at, row, t, s);
+        if 0xF0000000 <= e {
+            return Seen {
+                at,
+                row,
+                limit,
+                sum,
+            };
+        }
+        row = e / 0x1000000;
+        sum += e;
+        at += 1;
     }
-    if k < 10 {
-        return c;
+    Seen {
+        at,
+        row,
+        limit,
+        sum,
     }
-    if 12 < k {
-        return c;
-    }
-    c + 9
 }
 
-// The place at which a letter would be the 65th of its word, after a mark or a break at place i: a mark moves it on, a break sets it anew.
-fn limit_next(c: usize, i: usize, l: usize) -> usize
-    requires { ⌜ (c < 4) × (i < 4096) × (l ≤ i + 64) ⌝ }
-    ensures { λ r. ⌜ r ≡ limitNext c i l ⌝ }
+// How many letters of its word stand before place i.
+fn letters_before(m: &[u8], i: usize, t: &[u8; 256]) -> usize
+    requires { ⌜ (now t ≡ classes) × (i ≤ length (now m)) ⌝ }
+    ensures { λ r. ⌜ r ≡ lettersAt (now (m .entry)) i ⌝ }
 {
-    if c == 1 {
-        return l + 1;
-    }
-    i + 65
-}
-
-// How many codes the byte at place i makes after kind k: w, unless it is a silent letter. Only т and д are silent (class 8), and only after с н р з, which are paired (class 7), so that the letters beside others are not looked at.
-fn width_at(m: &[u8], i: usize, k: usize, c: usize, w: usize) -> usize
-    requires { ⌜ (i < length (now m)) × (k ≡ kindAt (now m) i) × (c ≡ classOf (getD (now m) i 0)) × (w ≡ widthIn k c) ⌝ }
-    ensures { λ r. ⌜ r ≡ widthAt (now (m .entry)) i k ⌝ }
-{
-    if c == 8 {
-        if k == 7 {
-            if is_elided(m, i) {
-                return 0;
-            }
+    let mut j = i;
+    let mut n = 0;
+    while 0 < j {
+        j -= 1;
+        let c = class_of(m[j], t);
+        if 4 <= c {
+            n += 1;
+        } else if 2 <= c {
+            return n;
         }
     }
-    w
+    n
 }
 
-// A letter that is no sign, the commonest byte: its kind is its class, and the limit stays. The limit is asked before the width, since the loop comes out shorter so.
-fn pass_letter(m: &[u8], i: usize, c: usize, w: usize, n: usize, s: Seen) -> Step
-    requires { ⌜ (i < length (now m)) × (i < 4096) × (6 ≤ c) × (c ≡ classOf (getD (now m) i 0)) × (w ≡ widthIn (s .kind) c) × (n ≤ 1) × (s .kind ≡ kindAt (now m) i) × Fits i s ⌝ }
-    ensures { λ r. ⌜ r ≡ passOf i c (widthAt (now (m .entry)) i (s .kind)) n s ⌝ }
+// The limit, counted anew where it is reached: only a word of more than 64 bytes comes near it with its letters.
+fn limit_at(m: &[u8], i: usize, limit: usize, t: &[u8; 256]) -> usize
+    requires { ⌜ (now t ≡ classes) × (i ≤ length (now m)) × (i ≤ 4096) × (lettersAt (now m) i ≤ 64) ⌝ }
+    ensures { λ r. ⌜ r ≡ limitAt (now (m .entry)) i limit ⌝ }
 {
-    let limit = s.limit;
-    if i == limit {
+    if i < limit {
+        return limit;
+    }
+    i + 64 - letters_before(m, i, t)
+}
+
+// The lesser of two numbers.
+fn lesser(a: usize, b: usize) -> usize
+    ensures { λ r. ⌜ (r ≤ a) × (r ≤ b) × ((x : ℕ) → x ≤ a → x ≤ b → x ≤ r) ⌝ }
+{
+    if a < b {
+        return a;
+    }
+    b
+}
+
+// How many codes the т or д at place i makes: none where it is silent.
+fn codes_of(m: &[u8], i: usize) -> usize
+    requires { ⌜ i < length (now m) ⌝ }
+    ensures { λ r. ⌜ r ≡ cond (elidedAt (now (m .entry)) i) 0 1 ⌝ }
+{
+    if is_elided(m, i) {
+        return 0;
+    }
+    1
+}
+
+// т or д after a paired consonant, kind 7 and class 8, so that the next row is 8 times 16.
+fn pass_silent(m: &[u8], seen: Seen, limit: usize) -> Step
+    requires { ⌜ Here (now m) seen limit × (kindAt (now m) (seen .at) ≡ 7) × (classOf (getD (now m) (seen .at) 0) ≡ 8) ⌝ }
+    ensures { λ r. ⌜ Judged (now (m .entry)) seen r ⌝ }
+{
+    let at = seen.at;
+    if at == limit {
         return Step::Fault(10);
     }
-    let codes = s.codes + width_at(m, i, s.kind, c, w);
+    let sum = seen.sum + codes_of(m, at);
     Step::Next(Seen {
-        kind: c,
+        at: at + 1,
+        row: 128,
         limit,
-        codes,
-        names: s.names + n,
+        sum,
     })
 }
 
-// A sign: a letter whose kind goes by the kind before.
-fn pass_sign(i: usize, c: usize, w: usize, n: usize, s: Seen) -> Step
-    requires { ⌜ (i < 4096) × (4 ≤ c) × (c < 6) × (w ≤ 2) × (n ≤ 1) × Fits i s ⌝ }
-    ensures { λ r. ⌜ r ≡ passOf i c w n s ⌝ }
+// A byte of which the table says all, with its entry e: at the limit a letter is the 65th of its word, and what is no letter moves the limit on.
+fn pass_one(m: &[u8], seen: Seen, e: usize, limit: usize, t: &[u8; 256]) -> Step
+    requires { ⌜ (now t ≡ classes) × Here (now m) seen limit × (e ≡ packed (kindAt (now m) (seen .at)) (classOf (getD (now m) (seen .at) 0))) × (e < 4026531840) ⌝ }
+    ensures { λ r. ⌜ Judged (now (m .entry)) seen r ⌝ }
 {
-    let limit = s.limit;
-    if i == limit {
+    let at = seen.at;
+    let row = e / 0x1000000;
+    let sum = seen.sum + e;
+    if class_of(m[at], t) < 4 {
+        return Step::Next(Seen {
+            at: at + 1,
+            row,
+            limit: limit + 1,
+            sum,
+        });
+    }
+    if at == limit {
         return Step::Fault(10);
     }
-    let kind = next_kind(s.kind, c);
     Step::Next(Seen {
-        kind,
+        at: at + 1,
+        row,
         limit,
-        codes: s.codes + w,
-        names: s.names + n,
+        sum,
     })
 }
 
-// A mark, a break or a sign.
-fn pass_other(i: usize, c: usize, w: usize, n: usize, s: Seen) -> Step
-    requires { ⌜ (i < 4096) × (c < 6) × (w ≤ 2) × (n ≤ 1) × Fits i s ⌝ }
-    ensures { λ r. ⌜ r ≡ passOf i c w n s ⌝ }
+// The byte at the place, whatever it is.
+fn step(m: &[u8], seen: Seen, t: &[u8; 256], s: &[u32; 240]) -> Step
+    requires { ⌜ (now t ≡ classes) × (now s ≡ steps) × Sees (now m) seen × (seen .at < length (now m)) × (length (now m) ≤ 4096) ⌝ }
+    ensures { λ r. ⌜ Judged (now (m .entry)) seen r ⌝ }
 {
-    if 4 <= c {
-        return pass_sign(i, c, w, n, s);
+    let at = seen.at;
+    let e = look_up(m, at, seen.row, t, s);
+    let limit = limit_at(m, at, seen.limit, t);
+    if e < 0xF0000000 {
+        return pass_one(m, seen, e, limit, t);
     }
-    let limit = limit_next(c, i, s.limit);
-    Step::Next(Seen {
-        kind: c,
-        limit,
-        codes: s.codes + w,
-        names: s.names + n,
-    })
-}
-
-// The byte at place i, after what has been seen.
-fn step(m: &[u8], i: usize, s: Seen, t: &[u8; 512]) -> Step
-    requires { ⌜ (now t ≡ tables) × (i < length (now m)) × (i < 4096) × (s .kind ≡ kindAt (now m) i) × Fits i s ⌝ }
-    ensures { λ r. ⌜ r ≡ stepOf (now (m .entry)) i s ⌝ }
-{
-    let c = class_of(m[i], t);
-    let e = look_up(s.kind, c, t);
     let fault = (e % 16) as u8;
     if fault != 0 {
         return Step::Fault(fault);
     }
-    let w = e / 16 % 4;
-    let n = e / 64;
-    if 6 <= c {
-        return pass_letter(m, i, c, w, n, s);
-    }
-    pass_other(i, c, w, n, s)
+    pass_silent(m, seen, limit)
 }
 
 // A message of n bytes, when all have been seen: a break last is a fault, a word's last syllable may be incomplete.
-fn finish(n: usize, s: Seen) -> Checked
-    requires { ⌜ (0 < n) × Fits n s × (n ≤ 4096) ⌝ }
-    ensures { λ r. ⌜ r ≡ finishOf n s ⌝ }
+fn finish(n: usize, seen: Seen) -> Checked
+    requires { ⌜ (0 < n) × (seen .row < 240) ⌝ }
+    ensures { λ r. ⌜ r ≡ finishOf n seen ⌝ }
 {
-    let kind = s.kind;
-    if kind < 4 {
-        if 2 <= kind {
+    let row = seen.row;
+    let codes = seen.sum % 0x4000;
+    let names = seen.sum / 0x4000 % 0x4000;
+    if row < 64 {
+        if 32 <= row {
             return Checked::Refused(Refusal {
                 number: 4,
                 place: n - 1,
             });
         }
-        return Checked::Accepted(Counts {
-            codes: s.codes,
-            names: s.names,
-        });
+        return Checked::Accepted(Counts { codes, names });
     }
-    if 10 <= kind {
-        if kind < 13 {
-            return Checked::Accepted(Counts {
-                codes: s.codes,
-                names: s.names,
-            });
+    if 160 <= row {
+        if row < 208 {
+            return Checked::Accepted(Counts { codes, names });
         }
     }
     Checked::Accepted(Counts {
-        codes: s.codes,
-        names: s.names + 1,
+        codes,
+        names: names + 1,
     })
 }
 
 // All bytes from the left, until the first fault.
-fn walk(m: &[u8], t: &[u8; 512]) -> Checked
-    requires { ⌜ (now t ≡ tables) × (0 < length (now m)) × (length (now m) ≤ 4096) ⌝ }
+fn walk(m: &[u8], t: &[u8; 256], s: &[u32; 240]) -> Checked
+    requires { ⌜ (now t ≡ classes) × (now s ≡ steps) × (0 < length (now m)) × (length (now m) ≤ 4096) ⌝ }
     ensures { λ r. ⌜ r ≡ checkOf (now (m .entry)) ⌝ }
 {
-    let mut s = Seen {
-        kind: 2,
+    let mut seen = Seen {
+        at: 0,
+        row: 32,
         limit: 64,
-        codes: 0,
-        names: 0,
+        sum: 0,
     };
-    let mut i = 0;
-    while i < m.len() {
-        match step(m, i, s, t) {
-            Step::Fault(number) => {
-                return Checked::Refused(Refusal { number, place: i });
-            }
-            Step::Next(next) => {
-                s = next;
+    while seen.at < m.len() {
+        seen = pass(m, lesser(m.len(), seen.limit), seen, t, s);
+        if seen.at < m.len() {
+            match step(m, seen, t, s) {
+                Step::Fault(number) => {
+                    return Checked::Refused(Refusal {
+                        number,
+                        place: seen.at,
+                    });
+                }
+                Step::Next(next) => {
+                    seen = next;
+                }
             }
         }
-        i += 1;
     }
-    finish(i, s)
+    finish(m.len(), seen)
 }
 
 // The message check (paper 01, 'Turned-away messages'), for any bytes at all.
@@ -218,6 +251,7 @@ pub fn check(m: &[u8]) -> Checked
             place: 0,
         });
     }
-    let t = TABLES;
-    walk(m, &t)
+    let t = class_table();
+    let s = step_table();
+    walk(m, &t, &s)
 }

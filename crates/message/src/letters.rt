@@ -1,6 +1,7 @@
 // Letters of a message by their bytes, and which of them are elided.
 ghost use mathlib.Core.Path.{_≡_};
-ghost use Prim.Native.Nat.{_<_};
+ghost use Prim.Native.Nat.{_<_, _≤_};
+ghost use lib.Dec.{eqb};
 ghost use lib.ListN.{length};
 ghost use Rattle.message.specs.Letters.{small};
 ghost use Rattle.message.specs.Elision.{elidesT, elidesD, elidesAmong};
@@ -34,72 +35,91 @@ pub fn letter_before(m: &[u8], i: usize) -> u8
     letter_at(m, i - 1)
 }
 
-// т after p and before c and d: after с before ск or н; after н before ск.
-fn elides_t(p: u8, c: u8, d: u8) -> bool
-    ensures { λ r. ⌜ r ≡ elidesT p c d ⌝ }
+// Is the byte this letter, small or capital? x is the small letter, and its capital is 32 below it.
+fn is_letter(b: u8, x: u8) -> bool
+    requires { ⌜ 0xE0 ≤ x ⌝ }
+    ensures { λ r. ⌜ r ≡ eqb (small b) x ⌝ }
 {
-    if c == 0xED {
-        return p == 0xF1;
-    }
-    if c != 0xF1 {
-        return false;
-    }
-    if d != 0xEA {
-        return false;
-    }
-    if p == 0xF1 {
+    if b == x {
         return true;
     }
-    p == 0xED
+    b == x - 32
+}
+
+// т after p and before c and d: after с before ск or н; after н before ск.
+fn elides_t(p: u8, c: u8, d: u8) -> bool
+    ensures { λ r. ⌜ r ≡ elidesT (small p) (small c) (small d) ⌝ }
+{
+    if is_letter(c, 0xED) {
+        return is_letter(p, 0xF1);
+    }
+    if is_letter(c, 0xF1) {
+        if is_letter(d, 0xEA) {
+            if is_letter(p, 0xF1) {
+                return true;
+            }
+            return is_letter(p, 0xED);
+        }
+        return false;
+    }
+    false
 }
 
 // д after p and before c and d: after р before ч or ц; after з before н or ц; after н before ц, с or шт.
 fn elides_d(p: u8, c: u8, d: u8) -> bool
-    ensures { λ r. ⌜ r ≡ elidesD p c d ⌝ }
+    ensures { λ r. ⌜ r ≡ elidesD (small p) (small c) (small d) ⌝ }
 {
-    if p == 0xF0 {
-        if c == 0xF7 {
+    if is_letter(p, 0xF0) {
+        if is_letter(c, 0xF7) {
             return true;
         }
-        return c == 0xF6;
+        return is_letter(c, 0xF6);
     }
-    if p == 0xE7 {
-        if c == 0xED {
+    if is_letter(p, 0xE7) {
+        if is_letter(c, 0xED) {
             return true;
         }
-        return c == 0xF6;
+        return is_letter(c, 0xF6);
     }
-    if p != 0xED {
-        return false;
+    if is_letter(p, 0xED) {
+        if is_letter(c, 0xF8) {
+            return is_letter(d, 0xF2);
+        }
+        if is_letter(c, 0xF6) {
+            return true;
+        }
+        return is_letter(c, 0xF1);
     }
-    if c == 0xF8 {
-        return d == 0xF2;
-    }
-    if c == 0xF6 {
-        return true;
-    }
-    c == 0xF1
+    false
 }
 
-// Is the letter at place i silent? Only т and д are, so the letters beside others are not looked at.
+// Is the letter of byte b silent between these bytes, small letters or capitals, 0 for none? Only т and д are, so the letters beside others are not looked at.
+fn elides(p: u8, b: u8, c: u8, d: u8) -> bool
+    ensures { λ r. ⌜ r ≡ elidesAmong (small p) (small b) (small c) (small d) ⌝ }
+{
+    if is_letter(b, 0xF2) {
+        return elides_t(p, c, d);
+    }
+    if is_letter(b, 0xE4) {
+        return elides_d(p, c, d);
+    }
+    false
+}
+
+// Is the letter at place i silent? A silent letter stands between two others. It asks of four bytes and lends no slice, so that a caller's loop keeps
+// the message in registers; and it asks at two places, so that the compiler does not copy the whole question into that loop.
 pub fn is_elided(m: &[u8], i: usize) -> bool
     requires { ⌜ i < length (now m) ⌝ }
     ensures { λ r. ⌜ r ≡ elidedAt (now (m .entry)) i ⌝ }
 {
-    let b = letter_at(m, i);
-    if b == 0xF2 {
-        return elides_t(
-            letter_before(m, i),
-            letter_at(m, i + 1),
-            letter_at(m, i + 2),
-        );
+    if i == 0 {
+        return false;
     }
-    if b == 0xE4 {
-        return elides_d(
-            letter_before(m, i),
-            letter_at(m, i + 1),
-            letter_at(m, i + 2),
-        );
+    if m.len() <= i + 1 {
+        return false;
     }
-    false
+    if m.len() == i + 2 {
+        return elides(m[i - 1], m[i], m[i + 1], 0);
+    }
+    elides(m[i - 1], m[i], m[i + 1], m[i + 2])
 }

@@ -44,15 +44,16 @@ pub enum Answer {
     Refused(Refusal),
 }
 
-// What the check has seen of a message: the kind of what stands before, the place at which a letter would be the 65th of its word, and the counts so far.
+// What the check has seen of a message when it stands at a place: 16 times the kind of what stands before it, a place before which no letter of the word is its 65th,
+// and the codes and names so far, summed as the table has them.
 pub struct Seen {
-    pub kind: usize,
+    pub at: usize,
+    pub row: usize,
     pub limit: usize,
-    pub codes: usize,
-    pub names: usize,
+    pub sum: usize,
 }
 
-// What one byte more comes to: a fault's number, or what is seen now.
+// What one byte more comes to: a fault's number, or what is seen after it.
 pub enum Step {
     Fault(u8),
     Next(Seen),

@@ -1,27 +1,28 @@
 -- The naming's walk from the right: each byte settles the names that the definition gives it, and what stands right of it is told by what stood right of the next one.
 -- Assumes nothing.
 use Prim.Native.Nat.{ℕ, suc, _+_, _-_, _<_, _≤_}
-use mathlib.Core.Path.{_≡_, refl, sym, ap, _∙_}
+use mathlib.Core.Path.{_≡_, refl, ap, _∙_}
 use mathlib.Core.Bool.{Bool, true, false}
 use mathlib.Core.List.{List, [], _∷_, _++_}
 use native.Mathlib.Omega.{arith}
 use borrow.Author.Tests.{eq-eqb, ne-eqb, le-leb, lt-leb}
 use lib.ListN.{length, getD, drop, length-append}
-use lib.Seq.{drop-length}
-use Rattle.message.specs.Letters.{isBreak, isMark, beginsWithMark}
+use Rattle.message.specs.Letters.{isBreak, isMark}
 use Rattle.message.specs.Refusals.{vowelByte}
 use Rattle.message.specs.Scan.{classOf, isVowelClass}
-use Rattle.message.specs.Syllables.{nextStressed, incomplete, nameOf}
+use Rattle.message.specs.Syllables.{incomplete, nameOf}
 use Rattle.message.specs.Tape.{names}
-use Rattle.message.specs.Places.{Steady, leftAt, letterOf, wordAt, markBefore, markedAt, namesAt}
-use Rattle.message.proofs.Bytes.{by-class, vowel-break, vowel-mark}
-use Rattle.message.proofs.Left.{begins-at, mark-within}
-use Rattle.message.proofs.Tail.{names-start, names-end, names-vowel, names-other, names-break, word-letter, word-mark, word-break, word-end, marked-within, marked-break, marked-end}
+use Rattle.message.specs.Places.{Steady, leftAt, markBefore, namesAt}
+use Rattle.message.proofs.Bytes.{by-class, vowel-break}
+use Rattle.message.proofs.Left.{mark-within}
+use Rattle.message.proofs.Tail.{names-start, names-end, names-vowel, names-other, names-break}
 use Rattle.message.proofs.Lengths.{names-from}
 use Rattle.transcriber.specs.declared.Vowels.{Vowels}
-use Rattle.transcriber.specs.Sounds.{classBefore, syllableBy}
-use Rattle.transcriber.specs.Walk.{Put, VowelsStand, namePiece, NameReady, Named}
-use Rattle.transcriber.proofs.Raw.{syllable-raw}
+use Rattle.message.specs.declared.Level.{Level}
+use Rattle.message.specs.declared.Level.the-variants.{Stressed}
+use Rattle.transcriber.specs.Sounds.{classBefore, farLevel, levelBefore, syllableBy}
+use Rattle.transcriber.specs.Walk.{Levels, Put, namePiece, NameReady, Named}
+use Rattle.transcriber.proofs.Levels.{levels-syllable, levels-vowel, levels-letter, levels-mark, levels-break, levels-end}
 use Rattle.transcriber.proofs.Putting.{put-none, put-over, put-length, put-rest, put-again, put-first}
 
 module _ (m : List ℕ) (steady : Steady m) (i : ℕ) (h : i < length m) where
@@ -41,9 +42,9 @@ module _ (m : List ℕ) (steady : Steady m) (i : ℕ) (h : i < length m) where
 
   -- a vowel settles its syllable's
   pub piece-vowel : vowelByte (getD m i 0) ≡ true
-      → namePiece m i ≡ nameOf (syllableBy (classBefore m i) (isMark (getD m (suc i) 0)) (nextStressed (wordAt m (suc i))) (markedAt m i)) ∷ []
+      → {n f : Level} → Levels m (suc i) n f → namePiece m i ≡ nameOf (syllableBy (classBefore m i) n) ∷ []
   unfolding namePiece
-  piece-vowel v = rw (vowel-break (getD m i 0) (steady .bytes i) v, v, syllable-raw m steady i h)
+  piece-vowel v l = rw (vowel-break (getD m i 0) (steady .bytes i) v, v, levels-syllable m steady i h v l)
 
   -- a break the incomplete one's of the word before it
   pub piece-break : isBreak (getD m i 0) ≡ true → namePiece m i ≡ incomplete (leftAt m i .p)
@@ -68,31 +69,21 @@ module _ {m out : List ℕ} {i : ℕ} {v : Vowels} (ready : NameReady m out i v)
 
   -- its name finds room
   pub vowel-room : isVowelClass (classOf (getD m i 0)) ≡ true → 0 < v .at
-  vowel-room c = omega (arith, ready .room, ap length (piece-vowel m (ready .steady) i (ready .within) (vowel-byte c)))
+  vowel-room c = omega (arith, ready .room, ap length (piece-vowel m (ready .steady) i (ready .within) (vowel-byte c) (ready .levels)))
 
   -- it puts one name, and the vowel before it looks at its mark
   pub named-vowel : {out′ : List ℕ} {r : ℕ} → isVowelClass (classOf (getD m i 0)) ≡ true
-      → Put (nameOf (syllableBy (classBefore m i) (v .mark) (v .ahead) (v .marked)) ∷ []) out out′ (v .at) r
-      → Named m out out′ i v (record { at = r; ahead = v .mark; mark = false; marked = v .marked })
-  unfolding nextStressed letterOf vowelByte
+      → Put (nameOf (syllableBy (classBefore m i) (v .near)) ∷ []) out out′ (v .at) r
+      → Named m out out′ i v (record { at = r; near = levelBefore (v .near) (v .far); far = v .far })
   named-vowel c p =
-      let b = getD m i 0 in
       let e = vowel-byte c in
-      let s = vowel-break b (ready .steady .bytes i) e in
-      let k = vowel-mark b (ready .steady .bytes i) e in
-      let w = marked-within m (ready .steady) i (ready .within) s in
       record {
-        stands = record {
-          ahead = rw (word-letter m (ready .steady) i (ready .within) s k, e) (ready .stands .mark);
-          mark = sym (begins-at m i ∙ k);
-          marked = ready .stands .marked ∙ sym w;
-        };
-        put = rw (piece-vowel m (ready .steady) i (ready .within) e, w, ← ready .stands .marked, ← ready .stands .ahead, ← begins-at m (suc i), ← ready .stands .mark) p;
+        levels = levels-vowel m (ready .steady) i (ready .within) e (ready .levels);
+        put = rw (piece-vowel m (ready .steady) i (ready .within) e (ready .levels)) p;
       }
 
   -- another letter puts none, and the vowel before it looks past it
-  pub named-letter : 4 ≤ classOf (getD m i 0) → classOf (getD m i 0) < 10 → Named m out out i v (record { at = v .at; ahead = v .ahead; mark = false; marked = v .marked })
-  unfolding nextStressed letterOf vowelByte
+  pub named-letter : 4 ≤ classOf (getD m i 0) → classOf (getD m i 0) < 10 → Named m out out i v v
   named-letter low high =
       let b = getD m i 0 in
       let t = by-class b (ready .steady .bytes i) in
@@ -100,16 +91,12 @@ module _ {m out : List ℕ} {i : ℕ} {v : Vowels} (ready : NameReady m out i v)
       let k : isMark b ≡ false = t .mark ∙ ne-eqb (classOf b) 1 (λ e. omega arith) in
       let n : vowelByte b ≡ false = t .vowel ∙ rw (lt-leb 10 (classOf b) high) in
       record {
-        stands = record {
-          ahead = rw (word-letter m (ready .steady) i (ready .within) s k, n) (ready .stands .ahead);
-          mark = sym (begins-at m i ∙ k);
-          marked = ready .stands .marked ∙ sym (marked-within m (ready .steady) i (ready .within) s);
-        };
+        levels = levels-letter m (ready .steady) i (ready .within) s k n (ready .levels);
         put = rw (piece-other m (ready .steady) i (ready .within) s n) (put-none out (v .at));
       }
 
   -- a mark puts none and is seen by the vowel before it
-  pub named-mark : classOf (getD m i 0) ≡ 1 → Named m out out i v (record { at = v .at; ahead = v .ahead; mark = true; marked = v .marked })
+  pub named-mark : classOf (getD m i 0) ≡ 1 → Named m out out i v (record { at = v .at; near = Stressed; far = v .far })
   named-mark c =
       let b = getD m i 0 in
       let t = by-class b (ready .steady .bytes i) in
@@ -117,11 +104,7 @@ module _ {m out : List ℕ} {i : ℕ} {v : Vowels} (ready : NameReady m out i v)
       let s = mark-within b k in
       let n : vowelByte b ≡ false = t .vowel ∙ rw c in
       record {
-        stands = record {
-          ahead = rw (word-mark m (ready .steady) i (ready .within) k) (ready .stands .ahead);
-          mark = sym (begins-at m i ∙ k);
-          marked = ready .stands .marked ∙ sym (marked-within m (ready .steady) i (ready .within) s);
-        };
+        levels = levels-mark m (ready .steady) i (ready .within) k (ready .levels);
         put = rw (piece-other m (ready .steady) i (ready .within) s n) (put-none out (v .at));
       }
 
@@ -138,19 +121,13 @@ module _ {m out : List ℕ} {i : ℕ} {v : Vowels} (ready : NameReady m out i v)
   break-room low n = rw (piece-break m (ready .steady) i (ready .within) (break-byte low n)) at (ready .room)
 
   -- it puts that name, and before it another word ends
-  pub named-break : {out′ : List ℕ} {r : ℕ} {marked : Bool} → classOf (getD m i 0) < 4 → (classOf (getD m i 0) ≡ 1 → ⊥)
-      → Put (incomplete (leftAt m i .p)) out out′ (v .at) r → marked ≡ markBefore m i
-      → Named m out out′ i v (record { at = r; ahead = false; mark = false; marked = marked })
-  unfolding nextStressed
+  pub named-break : {out′ : List ℕ} {r : ℕ} {far : Level} → classOf (getD m i 0) < 4 → (classOf (getD m i 0) ≡ 1 → ⊥)
+      → Put (incomplete (leftAt m i .p)) out out′ (v .at) r → far ≡ farLevel (markBefore m i)
+      → Named m out out′ i v (record { at = r; near = far; far = far })
   named-break low n p e =
       let s = break-byte low n in
-      let k = by-class (getD m i 0) (ready .steady .bytes i) .mark ∙ ne-eqb (classOf (getD m i 0)) 1 n in
       record {
-        stands = record {
-          ahead = rw (word-break m (ready .steady) i (ready .within) s);
-          mark = sym (begins-at m i ∙ k);
-          marked = e ∙ sym (marked-break m (ready .steady) i (ready .within) s);
-        };
+        levels = rw e (levels-break m (ready .steady) i (ready .within) s);
         put = rw (piece-break m (ready .steady) i (ready .within) s) p;
       }
 
@@ -159,7 +136,7 @@ pub record Naming (m out₀ out : List ℕ) (n i : ℕ) (v : Vowels) : Type 0 wh
   pub steady : Steady m
   pub total : n ≡ length (names m)
   pub within : i ≤ length m
-  pub stands : VowelsStand m i v
+  pub levels : Levels m i (v .near) (v .far)
   pub room : n ≤ length out₀
   pub put : Put (namesAt m i) out₀ out n (v .at)
 
@@ -169,20 +146,15 @@ module _ {m : List ℕ} (steady : Steady m) where
   end-room total = omega (arith, names-from m steady (length m) (omega arith), ap length (names-end m steady))
 
   -- where the walk begins
-  pub naming-none : {out₀ out : List ℕ} {n at : ℕ} {marked : Bool} → n ≡ length (names m) → n ≤ length out₀
-      → Put (incomplete (leftAt m (length m) .p)) out₀ out n at → marked ≡ markBefore m (length m)
-      → Naming m out out n (length m) (record { at = at; ahead = false; mark = false; marked = marked })
-  unfolding nextStressed beginsWithMark
+  pub naming-none : {out₀ out : List ℕ} {n at : ℕ} {far : Level} → n ≡ length (names m) → n ≤ length out₀
+      → Put (incomplete (leftAt m (length m) .p)) out₀ out n at → far ≡ farLevel (markBefore m (length m))
+      → Naming m out out n (length m) (record { at = at; near = far; far = far })
   naming-none total room p e =
       record {
         steady = steady;
         total = total;
         within = omega arith;
-        stands = record {
-          ahead = rw (word-end m steady);
-          mark = rw (drop-length m);
-          marked = e ∙ sym (marked-end m steady);
-        };
+        levels = rw e (levels-end m steady);
         room = omega (arith, put-length _ _ _ _ _ room p);
         put = rw (names-end m steady) (put-again _ _ _ _ _ room p);
       }
@@ -202,7 +174,7 @@ module _ {m out₀ out : List ℕ} {n i : ℕ} {v : Vowels} (at : Naming m out�
       record {
         within = omega (arith, at .within);
         steady = at .steady;
-        stands = at .stands;
+        levels = at .levels;
         room = omega (arith, name-room m (at .steady) i (omega (arith, at .within)), at .put .place, at .total);
         place = omega (arith, naming-length at, at .put .place, at .room);
       }
@@ -214,7 +186,7 @@ module _ {m out₀ out : List ℕ} {n i : ℕ} {v : Vowels} (at : Naming m out�
         steady = at .steady;
         total = at .total;
         within = omega (arith, at .within);
-        stands = s .stands;
+        levels = s .levels;
         room = at .room;
         put = rw (name-step m (at .steady) i (omega (arith, at .within))) (put-over _ _ _ _ _ _ _ _ (at .room) (at .put) (s .put));
       }

@@ -6,11 +6,11 @@ use mathlib.Core.Bool.{Bool, true, false, cond, _&&_, _||_, not, or-assoc, false
 use mathlib.Core.List.{List, [], _∷_, _++_, map}
 use native.Mathlib.Omega.{arith}
 use lib.Dec.{eqb, leb}
-use lib.ListN.{length, getD}
+use lib.ListN.{length, getD, drop}
 use borrow.Author.Tests.{eqb-true, leb-true, le-leb}
 use Rattle.message.specs.Alphabet.{«ь», «е», «ё», «и», «ю», «я»}
 use Rattle.message.specs.Tables.{among, Entry, _gives_, entry}
-use Rattle.message.specs.Letters.{Letter, between, small, plainVowels, softeningVowels, isBreak, isGap, isHardOnly, isPaired, isSoftOnly, isConsonant, isSign, isVowel, isMark, firstByte}
+use Rattle.message.specs.Letters.{Letter, between, small, plainVowels, softeningVowels, isBreak, isGap, isHardOnly, isPaired, isSoftOnly, isConsonant, isSign, isVowel, isMark, firstByte, beginsWithMark}
 use Rattle.message.specs.Refusals.{vowelByte}
 use Rattle.message.specs.Scan.{classOf, isBreakClass, isSignClass, isLetterClass}
 use Rattle.message.specs.Codes.{J}
@@ -28,7 +28,7 @@ use Rattle.message.specs.declared.Syllable.{Syllable}
 use Rattle.message.proofs.Bytes.{below, below-same, by-class, letter-class, not-both, vowel-break, vowel-mark}
 use Rattle.message.proofs.Classes.{among-same}
 use Rattle.message.proofs.Before.{vowel-before}
-use Rattle.message.proofs.Left.{begins-at, left-letter, left-mark, left-break}
+use Rattle.message.proofs.Left.{left-letter, left-mark, left-break}
 use Rattle.message.proofs.Computed.{everything}
 use Rattle.transcriber.specs.Sounds.{classBefore, afterOf, afterClass, coverClass, levelBy, syllableBy, glideBy, hardBefore, hardCode, toneNo}
 
@@ -202,9 +202,9 @@ module _ (m : List ℕ) (steady : Steady m) where
   -- the syllable of the letter at place i
   pub syllable-raw : (i : ℕ) → i < length m
       → syllableOf (markedAt m i) (leftAt m i .p) (letterOf m i) (wordAt m (suc i))
-      ≡ syllableBy (classBefore m i) (isMark (getD m (suc i) 0)) (nextStressed (wordAt m (suc i))) (markedAt m i)
+      ≡ syllableBy (classBefore m i) (levelBy (beginsWithMark (drop (suc i) m)) (nextStressed (wordAt m (suc i))) (markedAt m i))
   unfolding syllableOf levelOf letterOf syllableBy levelBy
-  syllable-raw i h = rw (begins-at m (suc i), cover-raw i (omega arith))
+  syllable-raw i h = rw (cover-raw i (omega arith))
 
   -- whether the vowel there has a glide
   pub glide-raw : (i : ℕ) → i < length m → vowelByte (getD m i 0) ≡ true → (cover : Cover)
@@ -308,8 +308,8 @@ sound-small m i = fused-small _ _ _ _ _
 pub vowel-tone : (hard : Bool) (p : ℕ) (level : Level) (b : ℕ) → toneBefore (vowelSound hard p level b) ≡ asWritten
 vowel-tone hard p level b = low-tone (vowelSound hard p level b) (omega (arith, vowel-low hard p level b))
 
--- a tone's number is below 3
-pub tone-small : (t : Tone) → toneNo t < 3
+-- a tone's number is at most 64
+pub tone-small : (t : Tone) → toneNo t ≤ 64
 unfolding toneNo
 tone-small voiced = omega arith
 tone-small voiceless = omega arith

@@ -1,17 +1,17 @@
 -- The walk from the right, one byte at a time: what a break, a mark and a letter put on the tape, and what then stands right of their place.
 -- Assumes nothing.
-use Prim.Native.Nat.{ℕ, suc, _<_, _≤_}
+use Prim.Native.Nat.{ℕ, suc, _+_, _%_, _<_, _≤_}
 use native.Mathlib.Omega.{arith}
 use mathlib.Core.Path.{_≡_, refl, sym, ap, _∙_}
 use mathlib.Core.Bool.{Bool, true, false, cond, _&&_, not, true≢false, false≢true}
 use mathlib.Core.List.{List, [], _∷_, _++_, map}
-use lib.Dec.{eqb}
+use lib.Dec.{eqb, leb}
 use lib.ListN.{length, getD}
-use borrow.Author.Tests.{eqb-true, le-leb}
+use borrow.Author.Tests.{eqb-true, le-leb, lt-leb}
 use Rattle.message.specs.Letters.{between, small, firstByte, isBreak, isGap, isMark}
 use Rattle.message.specs.Codes.{J, markOf, isVoicing, isDevoicing}
 use Rattle.message.specs.Elision.{elides}
-use Rattle.message.specs.Syllables.{nextStressed, syllableOf}
+use Rattle.message.specs.Syllables.{syllableOf}
 use Rattle.message.specs.Vowels.{vowelSound, softens}
 use Rattle.message.specs.Voicing.{Tone, voiced, voiceless, asWritten, toneBefore}
 use Rattle.message.specs.Refusals.{vowelByte, signByte, consonantByte}
@@ -19,18 +19,21 @@ use Rattle.message.specs.Scan.{classOf, isVowelClass, elidedAt}
 use Rattle.message.specs.Fused.{vowelCodes, consonantCode, letterCodes}
 use Rattle.message.specs.Places.{Steady, leftAt, letterOf, markBefore, markedAt, tapeAt, wordAt, toneAt, soundAt, codesAt, toneAfter, soundAfter}
 use Rattle.message.specs.declared.Cover.{Cover}
+use Rattle.message.specs.declared.Level.{Level}
+use Rattle.message.specs.declared.Level.the-variants.{Stressed}
 use Rattle.message.specs.declared.Syllable.{Syllable}
 use Rattle.message.proofs.Bytes.{below, below-same, by-class, not-both}
 use Rattle.message.proofs.Computed.{everything}
-use Rattle.message.proofs.Left.{begins-at, mark-within}
+use Rattle.message.proofs.Left.{mark-within}
 use Rattle.message.proofs.ScanTable.{class-spoken}
 use Rattle.message.proofs.Silent.{elided-at}
-use Rattle.message.proofs.Tail.{tape-letter, tape-mark, tape-break, word-letter, word-mark, word-break, marked-within, marked-break, tone-letter, sound-letter, tone-mark, sound-mark, tone-break, sound-break}
-use Rattle.transcriber.specs.Sounds.{classBefore, Sounds, afterClass, syllableBy, glideBy, hardBefore, toneNo, toneBy, gapTone}
-use Rattle.transcriber.specs.Walk.{Put, pieceAt, Ready, Stepped}
+use Rattle.message.proofs.Tail.{tape-letter, tape-mark, tape-break, word-letter, word-mark, word-break, tone-letter, sound-letter, tone-mark, sound-mark, tone-break, sound-break}
+use Rattle.transcriber.specs.Sounds.{classBefore, Sounds, afterClass, farLevel, syllableBy, glideBy, hardBefore, toneNo, toneBy, gapTone}
+use Rattle.transcriber.specs.Walk.{Levels, Put, pieceAt, Ready, Stepped}
 use Rattle.transcriber.specs.declared.Right.{Right}
 use Rattle.transcriber.proofs.Putting.{put-none}
-use Rattle.transcriber.proofs.Raw.{after-raw, hard-raw, syllable-raw, glide-raw, vowel-tone}
+use Rattle.transcriber.proofs.Levels.{levels-syllable, levels-letter, levels-mark, levels-break}
+use Rattle.transcriber.proofs.Raw.{after-raw, hard-raw, glide-raw, vowel-tone, vowel-small, sound-small}
 
 -- a tone is told by its number
 pub tone-by : (t : Tone) → toneBy (toneNo t) ≡ t
@@ -39,16 +42,25 @@ tone-by voiced = refl
 tone-by voiceless = refl
 tone-by asWritten = refl
 
+-- a tone's number is its own
+pub tone-no : (t : Tone) → toneNo (toneBy (toneNo t)) ≡ toneNo t
+tone-no t = ap toneNo (tone-by t)
+
+-- 64 more can be told from less
+sound-split : (n : ℕ) (t : Bool) → n < 64 → (leb 64 (n + cond t 64 0) ≡ t) × ((n + cond t 64 0) % 64 ≡ n) × (n + cond t 64 0 < 128)
+sound-split n true h = (le-leb 64 (n + 64) (omega arith), omega arith, omega arith)
+sound-split n false h = (lt-leb 64 (n + 0) (omega arith), omega arith, omega arith)
+
 -- a number between two others
 pub between-true : (lo hi c : ℕ) → lo ≤ c → c ≤ hi → between lo hi c ≡ true
 between-true lo hi c h l = rw (le-leb lo c h, le-leb c hi l)
 
 -- before a gap a word's last obstruent is voiced by a sound of tone 1, and else voiceless
-pub gap-tone : (c : ℕ) → gapTone c ≡ cond (eqb (toneNo (toneBefore c)) 1) 1 2
+pub gap-tone : (c : ℕ) → gapTone c ≡ cond (eqb (toneNo (toneBefore c)) 32) 32 64
 unfolding gapTone toneNo toneBefore
 gap-tone c = by (isVoicing c) (isDevoicing c)
   where
-    by : (v d : Bool) → toneNo (cond v voiced voiceless) ≡ cond (eqb (toneNo (cond v voiced (cond d voiceless asWritten))) 1) 1 2
+    by : (v d : Bool) → toneNo (cond v voiced voiceless) ≡ cond (eqb (toneNo (cond v voiced (cond d voiceless asWritten))) 32) 32 64
     by true d = refl
     by false true = refl
     by false false = refl
@@ -78,11 +90,6 @@ pub none-softens : softens (firstByte []) ≡ false
 unfolding everything
 none-softens = refl
 
--- a break is no mark
-break-mark : (b : ℕ) → b < 256 → isBreak b ≡ true → isMark b ≡ false
-unfolding everything
-break-mark b = not-both isBreak isMark b refl
-
 -- a break's mark is told by its class
 break-code : (b : ℕ) → b < 256 → isBreak b ≡ true → markOf b ≡ cond (eqb (classOf b) 3) 63 0
 unfolding everything
@@ -94,7 +101,7 @@ unfolding everything
 break-gap b = where-same isBreak isGap (λ x. not (eqb (classOf x) 3)) true b refl
 
 -- how an obstruent sounds before it
-break-tone : (pause : Bool) (c : ℕ) → toneNo (cond (not pause && isVoicing c) voiced voiceless) ≡ cond pause 2 (gapTone c)
+break-tone : (pause : Bool) (c : ℕ) → toneNo (cond (not pause && isVoicing c) voiced voiceless) ≡ cond pause 64 (gapTone c)
 unfolding toneNo gapTone
 break-tone true c = refl
 break-tone false c = refl
@@ -177,36 +184,41 @@ module _ (m out : List ℕ) (i : ℕ) (r : Right) (a : Ready m out i r) where
   unfolding pieceAt
   break-room b = rw b at (a .room)
 
+  -- the sound right of it, and whether its letter palatalizes
+  pub right-sound : (leb 64 (r .sound) ≡ softens (firstByte (wordAt m (suc i)))) × (r .sound % 64 ≡ soundAt m (suc i)) × (r .sound < 128)
+  right-sound = rw (a .stands .sound) (sound-split (soundAt m (suc i)) (softens (firstByte (wordAt m (suc i)))) (sound-small m (suc i)))
+
+  -- a letter that is no vowel leaves the levels as they are
+  pub plain-levels : {s : Bool} → Spelt (getD m i 0) s false → Levels m i (r .near) (r .far)
+  plain-levels p = levels-letter m (a .steady) i (a .within) (p .break) (p .mark) (p .sings) (a .stands .levels)
+
   -- a letter has put its codes, and left of it stands the same word with these sounds and this letter first
-  pub letter-steps : {s v : Bool} (out′ codes : List ℕ) (at tone sound : ℕ) (soft ahead : Bool) → Spelt (getD m i 0) s v → codesAt m i ≡ codes
-      → tone ≡ toneNo (toneAfter codes (toneAt m (suc i))) → sound ≡ soundAfter codes (soundAt m (suc i)) → soft ≡ softens (small (getD m i 0)) → ahead ≡ cond v (r .mark) (r .ahead)
-      → Put codes out out′ (r .at) at
-      → Stepped m out out′ i r (record { at = at; tone = tone; sound = sound; soft = soft; ahead = ahead; mark = false; marked = r .marked })
-  unfolding pieceAt firstByte nextStressed letterOf vowelByte
-  letter-steps out′ codes at tone sound soft ahead p e t c s x q =
+  pub letter-steps : {s v : Bool} {near : Level} (out′ codes : List ℕ) (at tone sound seen : ℕ) (soft : Bool) → Spelt (getD m i 0) s v → codesAt m i ≡ codes
+      → tone ≡ toneNo (toneAfter codes (toneAt m (suc i))) → sound ≡ soundAfter codes (soundAt m (suc i)) → soft ≡ softens (small (getD m i 0))
+      → seen ≡ sound + cond soft 64 0 → Levels m i near (r .far) → Put codes out out′ (r .at) at
+      → Stepped m out out′ i r (record { at = at; tone = tone; sound = seen; near = near; far = r .far })
+  unfolding pieceAt firstByte letterOf
+  letter-steps out′ codes at tone sound seen soft p e t c s n x q =
       let y = a .steady in
       let h = a .within in
       let w = word-letter m y i h (p .break) (p .mark) in
       record {
         stands = record {
           tone = rw (tone-letter m y i h (p .break) (p .mark), e) t;
-          sound = rw (sound-letter m y i h (p .break) (p .mark), e) c;
-          soft = rw w s;
-          ahead = rw (w, p .sings, ← a .stands .mark, ← a .stands .ahead) x;
-          mark = rw (begins-at m i, p .mark);
-          marked = a .stands .marked ∙ sym (marked-within m y i h (p .break));
+          sound = n ∙ rw (sound-letter m y i h (p .break) (p .mark), e, w, c, s);
+          levels = x;
         };
         put = rw (p .break, p .mark, e) q;
       }
 
   -- a letter that is not heard puts nothing
-  pub silent-steps : {s : Bool} (soft : Bool) → Spelt (getD m i 0) s false → codesAt m i ≡ [] → soft ≡ softens (small (getD m i 0))
-      → Stepped m out out i r (record { at = r .at; tone = r .tone; sound = r .sound; soft = soft; ahead = r .ahead; mark = false; marked = r .marked })
-  silent-steps soft p e s = letter-steps out [] (r .at) (r .tone) (r .sound) soft (r .ahead) p e (a .stands .tone) (a .stands .sound) s refl (put-none out (r .at))
+  pub silent-steps : {s : Bool} {seen : ℕ} (soft : Bool) → Spelt (getD m i 0) s false → codesAt m i ≡ [] → soft ≡ softens (small (getD m i 0)) → seen ≡ r .sound % 64 + cond soft 64 0
+      → Stepped m out out i r (record { at = r .at; tone = r .tone; sound = seen; near = r .near; far = r .far })
+  silent-steps soft p e s n = letter-steps out [] (r .at) (r .tone) (r .sound % 64) _ soft p e (a .stands .tone) (right-sound .1) s n (plain-levels p) (put-none out (r .at))
 
   -- nor does a mark, which is seen by the letter before it
   pub mark-steps : isMark (getD m i 0) ≡ true
-      → Stepped m out out i r (record { at = r .at; tone = r .tone; sound = r .sound; soft = r .soft; ahead = r .ahead; mark = true; marked = r .marked })
+      → Stepped m out out i r (record { at = r .at; tone = r .tone; sound = r .sound; near = Stressed; far = r .far })
   unfolding pieceAt
   mark-steps k =
       let y = a .steady in
@@ -216,48 +228,42 @@ module _ (m out : List ℕ) (i : ℕ) (r : Right) (a : Ready m out i r) where
       record {
         stands = record {
           tone = rw (tone-mark m y i h k) (a .stands .tone);
-          sound = rw (sound-mark m y i h k) (a .stands .sound);
-          soft = rw w (a .stands .soft);
-          ahead = rw w (a .stands .ahead);
-          mark = rw (begins-at m i, k);
-          marked = a .stands .marked ∙ sym (marked-within m y i h b);
+          sound = rw (sound-mark m y i h k, w) (a .stands .sound);
+          levels = levels-mark m y i h k (a .stands .levels);
         };
         put = rw (b, k) (put-none out (r .at));
       }
 
   -- a break has put its mark, and left of it stands another word
-  pub break-steps : (out′ : List ℕ) (at tone : ℕ) (marked pause : Bool) → isBreak (getD m i 0) ≡ true → eqb (classOf (getD m i 0)) 3 ≡ pause
-      → tone ≡ cond pause 2 (gapTone (r .sound)) → marked ≡ markBefore m i → Put (cond pause 63 0 ∷ []) out out′ (r .at) at
-      → Stepped m out out′ i r (record { at = at; tone = tone; sound = 0; soft = false; ahead = false; mark = false; marked = marked })
-  unfolding pieceAt nextStressed
-  break-steps out′ at tone marked pause b k t e q =
+  pub break-steps : (out′ : List ℕ) (at tone : ℕ) (far : Level) (pause : Bool) → isBreak (getD m i 0) ≡ true → eqb (classOf (getD m i 0)) 3 ≡ pause
+      → tone ≡ cond pause 64 (gapTone (r .sound % 64)) → far ≡ farLevel (markBefore m i) → Put (cond pause 63 0 ∷ []) out out′ (r .at) at
+      → Stepped m out out′ i r (record { at = at; tone = tone; sound = 0; near = far; far = far })
+  unfolding pieceAt
+  break-steps out′ at tone far pause b k t e q =
       let y = a .steady in
       let h = a .within in
       let w = word-break m y i h b in
       record {
         stands = record {
-          tone = rw (tone-break m y i h b, break-gap (getD m i 0) (y .bytes i) b, k, break-tone pause (soundAt m (suc i)), ← a .stands .sound) t;
-          sound = sym (sound-break m y i h b);
-          soft = rw (w, none-softens);
-          ahead = rw w;
-          mark = rw (begins-at m i, break-mark (getD m i 0) (y .bytes i) b);
-          marked = e ∙ sym (marked-break m y i h b);
+          tone = rw (tone-break m y i h b, break-gap (getD m i 0) (y .bytes i) b, k, break-tone pause (soundAt m (suc i)), ← right-sound .1) t;
+          sound = rw (sound-break m y i h b, w, none-softens);
+          levels = rw e (levels-break m y i h b);
         };
         put = rw (b, break-code (getD m i 0) (y .bytes i) b, k) q;
       }
 
   -- a consonant that is heard has the code that was found
   pub consonant-codes : (code : ℕ) → consonantByte (getD m i 0) ≡ true → elidedAt m i ≡ false
-      → code ≡ consonantCode (small (getD m i 0)) (r .soft) (toneBy (r .tone)) (r .sound) → codesAt m i ≡ code ∷ []
+      → code ≡ consonantCode (small (getD m i 0)) (leb 64 (r .sound)) (toneBy (r .tone)) (r .sound % 64) → codesAt m i ≡ code ∷ []
   consonant-codes code k e c =
       codes-consonant m (a .steady) i (a .within) (spelt-consonant (getD m i 0) (a .steady .bytes i) k) e
-      ∙ rw (c, a .stands .soft, a .stands .tone, tone-by (toneAt m (suc i)), a .stands .sound)
+      ∙ rw (c, right-sound .0, right-sound .1, a .stands .tone, tone-by (toneAt m (suc i)))
 
 -- what is found of a vowel: its byte's, the class before it, its syllable, the boundary, and its sound
 pub record Sung (m : List ℕ) (i : ℕ) (r : Right) (k vowel : ℕ) (hard : Bool) (s : Syllable) : Type 0 where
   pub letter : vowelByte (getD m i 0) ≡ true
   pub before : k ≡ classBefore m i
-  pub syllable : s ≡ syllableBy k (r .mark) (r .ahead) (r .marked)
+  pub syllable : s ≡ syllableBy k (r .near)
   pub boundary : hard ≡ hardBefore m i
   pub sound : Sounds hard (afterClass k) (s .level) (small (getD m i 0)) vowel
 
@@ -282,10 +288,14 @@ module _ (m out : List ℕ) (i : ℕ) (r : Right) (a : Ready m out i r) (k vowel
       rw (hard-raw m (a .steady) i (omega (arith, a .within)), ← f .boundary)
       (f .sound (leftAt m i .p) (after-raw m (a .steady) i (omega (arith, a .within)) ∙ ap afterClass (sym (f .before))))
 
+  -- it is a small code
+  pub sung-small : vowel < 64
+  sung-small = rw sung-sound (vowel-small (leftAt m i .hard) (leftAt m i .p) (s .level) (small (getD m i 0)))
+
   -- so is the syllable
   sung-syllable : syllableOf (markedAt m i) (leftAt m i .p) (letterOf m i) (wordAt m (suc i)) ≡ s
   sung-syllable =
-      rw (syllable-raw m (a .steady) i (a .within), f .syllable, f .before, a .stands .mark, a .stands .ahead, a .stands .marked, begins-at m (suc i), ← marked-within m (a .steady) i (a .within) (spelt-vowel (getD m i 0) (a .steady .bytes i) (f .letter) .break))
+      rw (f .syllable, f .before) (levels-syllable m (a .steady) i (a .within) (f .letter) (a .stands .levels))
 
   -- it leaves an obstruent before it as written
   pub sung-tone : toneNo (toneBefore vowel) ≡ 0

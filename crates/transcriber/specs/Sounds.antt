@@ -1,10 +1,10 @@
 -- How the code finds a letter's codes: by the class of the byte before it and one table. These are not the paper's words: `proofs/` shows that they agree with them.
 -- Assumes nothing: these are definitions.
-use Prim.Native.Nat.{ℕ, zero, suc, _+_, _-_, _*_}
+use Prim.Native.Nat.{ℕ, zero, suc, _+_, _-_, _*_, _/_, _%_, _^_}
 use mathlib.Core.Path.{_≡_}
 use mathlib.Core.Bool.{Bool, false, cond, _&&_, _||_, not}
 use mathlib.Core.List.{List, [], _∷_, _++_}
-use lib.Dec.{eqb}
+use lib.Dec.{eqb, leb}
 use lib.ListN.{getD}
 use Rattle.message.specs.Alphabet.{«б», «в», «г», «д», «з», «к», «л», «м», «н», «п», «р», «с», «т», «ф», «х»}
 use Rattle.message.specs.Tables.{_gives_, entry}
@@ -41,12 +41,43 @@ coverClass k = cond (between 4 9 k) Covered Bare
 abbrev pub Sounds : Bool → After → Level → ℕ → ℕ → Type 0
 Sounds hard after level b r = (p : ℕ) → afterOf p ≡ after → r ≡ vowelSound hard p level b
 
+-- how many bits stand right of the first digit of a group of a vowel row, for each kind of letter before
+unfoldable pub groupPlace : Bool → After → ℕ
+groupPlace hard Start = cond hard 56 44
+groupPlace hard HardOnly = 32
+groupPlace hard SoftOnly = 20
+groupPlace hard Other = 8
+
+-- and how many fewer right of a level's digit
+unfoldable pub levelPlace : Level → ℕ
+levelPlace Stressed = 0
+levelPlace First = 4
+levelPlace Second = 8
+
+-- the hexadecimal digit of a row with this many bits right of it
+unfoldable pub digitOf : ℕ → ℕ → ℕ
+digitOf row place = row / 2 ^ place % 16
+
+-- the digits of a row are the sounds of the vowel b
+abbrev pub Row : ℕ → ℕ → Type 0
+Row b row = (hard : Bool) (after : After) (level : Level) → Sounds hard after level b (digitOf row (groupPlace hard after - levelPlace level))
+
 -- the level of a vowel that is stressed or not, with the next vowel stressed or not, in a word that has a mark or not
 unfoldable pub levelBy : Bool → Bool → Bool → Level
 levelBy stressed ahead marked = cond stressed Stressed (cond (ahead || not marked) First Second)
 
-unfoldable pub syllableBy : ℕ → Bool → Bool → Bool → Syllable
-syllableBy k stressed ahead marked = record { cover = coverClass k; level = levelBy stressed ahead marked }
+-- the level of a vowel that has no mark near
+unfoldable pub farLevel : Bool → Level
+farLevel marked = cond marked Second First
+
+-- the level of the vowel before one of this level
+unfoldable pub levelBefore : Level → Level → Level
+levelBefore Stressed far = First
+levelBefore First far = far
+levelBefore Second far = far
+
+unfoldable pub syllableBy : ℕ → Level → Syllable
+syllableBy k level = record { cover = coverClass k; level = level }
 
 -- a vowel of class c has a glide after a byte of class k
 unfoldable pub glideBy : ℕ → Cover → ℕ → Bool
@@ -58,14 +89,14 @@ hardBefore m i =
     eqb (classBefore m i) 2
     && (between 6 8 (classBefore m (i - 1)) || (eqb (classBefore m (i - 1)) 5 && eqb (classBefore m (i - 2)) 6))
 
--- tones by number
+-- tones by number: where the tone's codes begin in the table
 unfoldable pub toneNo : Tone → ℕ
 toneNo asWritten = 0
-toneNo voiced = 1
-toneNo voiceless = 2
+toneNo voiced = 32
+toneNo voiceless = 64
 
 unfoldable pub toneBy : ℕ → Tone
-toneBy n = cond (eqb n 1) voiced (cond (eqb n 2) voiceless asWritten)
+toneBy n = cond (eqb n 32) voiced (cond (eqb n 64) voiceless asWritten)
 
 -- the tone of a word's last obstruent before a gap and a word that begins with this sound, 0 for none
 unfoldable pub gapTone : ℕ → ℕ
@@ -92,10 +123,20 @@ unfoldable pub softIn : ℕ → Bool → ℕ → Bool
 softIn own soft group =
     cond (eqb own 0) false (soft || (cond (eqb group 0) false (eqb own group || (eqb own 2 && eqb group 1))))
 
--- the table: hard codes under the three tones for the letters а to я, their groups, then for each code its tone and group
+-- A sound has 64 added where the letter that makes it palatalizes the one before: that is group 10, which all letters with a group go before.
+unfoldable pub groupOf : ℕ → ℕ
+groupOf s = cond (leb 64 s) 10 (soundGroup s)
+
+-- 1 where a letter of this group is palatalized before that group
+unfoldable pub softNo : ℕ → ℕ → ℕ
+softNo group own = cond (softIn own (eqb group 10) group) 1 0
+
+-- the table: hard codes under the three tones for the letters а to я, their groups, for each code its tone, for each sound 16 times its group, then for each group before which letters it palatalizes
 unfoldable pub soundTable : List ℕ
 soundTable =
     tabulate (λ j. hardCode asWritten (224 + j)) 0 32
     ++ (tabulate (λ j. hardCode voiced (224 + j)) 0 32
     ++ (tabulate (λ j. hardCode voiceless (224 + j)) 0 32
-    ++ (tabulate (λ j. letterGroup (224 + j)) 0 32 ++ tabulate (λ c. toneNo (toneBefore c) + 4 * soundGroup c) 0 64)))
+    ++ (tabulate (λ j. letterGroup (224 + j)) 0 32
+    ++ (tabulate (λ c. toneNo (toneBefore c)) 0 64
+    ++ (tabulate (λ s. 16 * groupOf s) 0 128 ++ tabulate (λ j. softNo (j / 16) (j % 16)) 0 176)))))

@@ -12,18 +12,21 @@ use Rattle.message.specs.Vowels.{softens}
 use Rattle.message.specs.Tape.{tape}
 use Rattle.message.specs.Refusals.{vowelByte}
 use Rattle.message.specs.Places.{Steady, tapeAt, leftAt, letterOf, wordAt, toneAt, soundAt, markedAt, codesAt}
-use Rattle.transcriber.specs.Sounds.{toneNo}
+use Rattle.message.specs.declared.Level.{Level}
+use Rattle.transcriber.specs.Sounds.{levelBy, farLevel, toneNo}
 use Rattle.transcriber.specs.declared.Right.{Right}
 use Rattle.transcriber.specs.declared.Vowels.{Vowels}
+
+-- At place i: n is the level of the next vowel of the word to the left, and f that of a vowel of the word that has no mark near.
+pub record Levels (m : List ℕ) (i : ℕ) (n f : Level) : Type 0 where
+  pub near : n ≡ levelBy (beginsWithMark (drop i m)) (nextStressed (wordAt m i)) (markedAt m i)
+  pub far : f ≡ farLevel (markedAt m i)
 
 -- r says what stands right of place i
 pub record Stands (m : List ℕ) (i : ℕ) (r : Right) : Type 0 where
   pub tone : r .tone ≡ toneNo (toneAt m i)
-  pub sound : r .sound ≡ soundAt m i
-  pub soft : r .soft ≡ softens (firstByte (wordAt m i))
-  pub ahead : r .ahead ≡ nextStressed (wordAt m i)
-  pub mark : r .mark ≡ beginsWithMark (drop i m)
-  pub marked : r .marked ≡ markedAt m i
+  pub sound : r .sound ≡ soundAt m i + cond (softens (firstByte (wordAt m i))) 64 0
+  pub levels : Levels m i (r .near) (r .far)
 
 -- these codes were put right before place at, and the rest of the output is as it was
 pub record Put (codes out out′ : List ℕ) (at r : ℕ) : Type 0 where
@@ -47,12 +50,12 @@ pub record Stepped (m out out′ : List ℕ) (i : ℕ) (r q : Right) : Type 0 wh
   pub stands : Stands m i q
   pub put : Put (pieceAt m i) out out′ (r .at) (q .at)
 
--- From place `from` back to place `to` the walk was taken: q stands there, and whatever tape stood in the output is longer by the bytes between
+-- From place `start` back to place `to` the walk was taken: q stands there, and the codes of the bytes between are on the tape
 pub record Walked (m out out′ : List ℕ) (start to : ℕ) (r q : Right) : Type 0 where
   pub stands : Stands m to q
-  pub place : q .at + length (tapeAt m to) ≡ r .at + length (tapeAt m start)
-  pub size : length out′ ≡ length out
-  pub put : (out₀ : List ℕ) (n : ℕ) → n ≤ length out₀ → Put (tapeAt m start) out₀ out n (r .at) → Put (tapeAt m to) out₀ out′ n (q .at)
+  pub codes : List ℕ
+  pub split : tapeAt m to ≡ codes ++ tapeAt m start
+  pub put : Put codes out out′ (r .at) (q .at)
 
 -- such a walk may be taken: r stands at its start, and there is room for the whole message's tape
 pub record MayWalk (m out : List ℕ) (start to : ℕ) (r : Right) : Type 0 where
@@ -63,13 +66,7 @@ pub record MayWalk (m out : List ℕ) (start to : ℕ) (r : Right) : Type 0 wher
   pub room : length (tape m) ≤ r .at + length (tapeAt m start)
   pub place : r .at ≤ length out
 
--- The same for the naming, which needs to know less: v says what stands right of place i
-pub record VowelsStand (m : List ℕ) (i : ℕ) (v : Vowels) : Type 0 where
-  pub ahead : v .ahead ≡ nextStressed (wordAt m i)
-  pub mark : v .mark ≡ beginsWithMark (drop i m)
-  pub marked : v .marked ≡ markedAt m i
-
--- the names that the byte at place i settles: a vowel's, and at a break the incomplete one's of the word before
+-- The same for the naming, which needs to know less. The names that the byte at place i settles: a vowel's, and at a break the incomplete one's of the word before
 unfoldable pub namePiece : List ℕ → ℕ → List ℕ
 namePiece m i =
     cond (isBreak (getD m i 0)) (incomplete (leftAt m i .p))
@@ -78,10 +75,10 @@ namePiece m i =
 pub record NameReady (m out : List ℕ) (i : ℕ) (v : Vowels) : Type 0 where
   pub within : i < length m
   pub steady : Steady m
-  pub stands : VowelsStand m (suc i) v
+  pub levels : Levels m (suc i) (v .near) (v .far)
   pub room : length (namePiece m i) ≤ v .at
   pub place : v .at ≤ length out
 
 pub record Named (m out out′ : List ℕ) (i : ℕ) (v q : Vowels) : Type 0 where
-  pub stands : VowelsStand m i q
+  pub levels : Levels m i (q .near) (q .far)
   pub put : Put (namePiece m i) out out′ (v .at) (q .at)

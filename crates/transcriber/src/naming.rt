@@ -4,13 +4,15 @@ ghost use mathlib.Core.Bool.{true};
 ghost use mathlib.Core.List.{_++_};
 ghost use Prim.Native.Nat.{_<_, _≤_};
 ghost use lib.ListN.{length, drop, getD};
-ghost use Rattle.message.specs.Scan.{tables, classOf, isVowelClass};
+ghost use Rattle.message.specs.Scan.{classes, classOf, isVowelClass};
 ghost use Rattle.message.specs.Syllables.{incomplete};
 ghost use Rattle.message.specs.Tape.{names};
 ghost use Rattle.message.specs.Places.{Steady, leftAt};
 ghost use Rattle.message.specs.Answers.{Answered, nameAnswer};
 ghost use Rattle.transcriber.specs.Walk.{Put, NameReady, Named};
 use crate::Vowels;
+use crate::sounds::far_level;
+use crate::sounds::level_before;
 use crate::sounds::name_of;
 use crate::sounds::syllable_by;
 use crate::tape::put;
@@ -19,14 +21,15 @@ use crate::walk::class_before;
 use crate::walk::mark_before;
 use message::Answer;
 use message::Checked;
+use message::Level;
 use message::Refusal;
 use message::check::check;
 use message::check::class_of;
-use message::tables::TABLES;
+use message::tables::class_table;
 
 // The end of a word, at place i: letters after its last vowel are an incomplete syllable.
-fn put_end(m: &[u8], i: usize, at: usize, out: &mut [u8], t: &[u8; 512]) -> usize
-    requires { ⌜ (now t ≡ tables) × (i ≤ length (now m)) × Steady (now m) × (length (incomplete (leftAt (now m) i .p)) ≤ at) × (at ≤ length (now out)) ⌝ }
+fn put_end(m: &[u8], i: usize, at: usize, out: &mut [u8], t: &[u8; 256]) -> usize
+    requires { ⌜ (now t ≡ classes) × (i ≤ length (now m)) × Steady (now m) × (length (incomplete (leftAt (now m) i .p)) ≤ at) × (at ≤ length (now out)) ⌝ }
     ensures { λ r. ⌜ Put (incomplete (leftAt (now (m .entry)) i .p)) (now (out .entry)) (now (out .exit)) at r ⌝ }
 {
     let k = class_before(m, i, t);
@@ -40,61 +43,45 @@ fn put_end(m: &[u8], i: usize, at: usize, out: &mut [u8], t: &[u8; 512]) -> usiz
 }
 
 // The vowel at place i names its syllable.
-fn put_name(m: &[u8], i: usize, v: Vowels, out: &mut [u8], t: &[u8; 512]) -> Vowels
-    requires { ⌜ (now t ≡ tables) × (isVowelClass (classOf (getD (now m) i 0)) ≡ true) × NameReady (now m) (now out) i v ⌝ }
+fn put_name(m: &[u8], i: usize, v: Vowels, out: &mut [u8], t: &[u8; 256]) -> Vowels
+    requires { ⌜ (now t ≡ classes) × (isVowelClass (classOf (getD (now m) i 0)) ≡ true) × NameReady (now m) (now out) i v ⌝ }
     ensures { λ q. ⌜ Named (now (m .entry)) (now (out .entry)) (now (out .exit)) i v q ⌝ }
 {
     let k = class_before(m, i, t);
-    let at = put(
-        out,
-        v.at,
-        name_of(syllable_by(k, v.mark, v.ahead, v.marked)),
-    );
-    let ahead = v.mark;
-    let marked = v.marked;
-    Vowels {
-        at,
-        ahead,
-        mark: false,
-        marked,
-    }
+    let level = v.near;
+    let far = v.far;
+    let at = put(out, v.at, name_of(syllable_by(k, level)));
+    let near = level_before(level, far);
+    Vowels { at, near, far }
 }
 
 // The byte at place i.
-fn step(m: &[u8], i: usize, v: Vowels, out: &mut [u8], t: &[u8; 512]) -> Vowels
-    requires { ⌜ (now t ≡ tables) × NameReady (now m) (now out) i v ⌝ }
+fn step(m: &[u8], i: usize, v: Vowels, out: &mut [u8], t: &[u8; 256]) -> Vowels
+    requires { ⌜ (now t ≡ classes) × NameReady (now m) (now out) i v ⌝ }
     ensures { λ q. ⌜ Named (now (m .entry)) (now (out .entry)) (now (out .exit)) i v q ⌝ }
 {
     let c = class_of(m[i], t);
     if 10 <= c {
         return put_name(m, i, v, out, t);
     }
-    let at = v.at;
-    let ahead = v.ahead;
-    let marked = v.marked;
     if 4 <= c {
-        return Vowels {
-            at,
-            ahead,
-            mark: false,
-            marked,
-        };
+        return v;
     }
+    let at = v.at;
     if c == 1 {
+        let far = v.far;
         return Vowels {
             at,
-            ahead,
-            mark: true,
-            marked,
+            near: Level::Stressed,
+            far,
         };
     }
     let end = put_end(m, i, at, out, t);
-    let before = mark_before(m, i);
+    let far = far_level(mark_before(m, i));
     Vowels {
         at: end,
-        ahead: false,
-        mark: false,
-        marked: before,
+        near: far,
+        far,
     }
 }
 
@@ -103,16 +90,11 @@ fn fill_names(m: &[u8], out: &mut [u8], n: usize)
     requires { ⌜ Steady (now m) × (n ≡ length (names (now m))) × (n ≤ length (now out)) ⌝ }
     ensures { λ _. ⌜ now (out .exit) ≡ names (now (m .entry)) ++ drop n (now (out .entry)) ⌝ }
 {
-    let t = TABLES;
+    let t = class_table();
     let mut i = m.len();
     let at = put_end(m, i, n, out, &t);
-    let marked = mark_before(m, i);
-    let mut v = Vowels {
-        at,
-        ahead: false,
-        mark: false,
-        marked,
-    };
+    let far = far_level(mark_before(m, i));
+    let mut v = Vowels { at, near: far, far };
     while 0 < i {
         i -= 1;
         v = step(m, i, v, out, &t);

@@ -1,149 +1,91 @@
 // The sounds of one letter (paper 01, passes 3 to 5).
 ghost use mathlib.Core.Path.{_≡_};
-ghost use mathlib.Core.Bool.{Bool, true, false};
-ghost use Prim.Native.Nat.{_<_};
-ghost use Rattle.message.specs.Letters.{small, isVowel};
-ghost use Rattle.message.specs.Refusals.{consonantByte};
-ghost use Rattle.message.specs.Scan.{classOf, isSignClass};
+ghost use mathlib.Core.Bool.{true};
+ghost use Prim.Native.Nat.{_%_, _<_};
+ghost use lib.Dec.{leb};
+ghost use Rattle.message.specs.Letters.{small};
+ghost use Rattle.message.specs.Refusals.{consonantByte, vowelByte};
+ghost use Rattle.message.specs.Scan.{isSignClass};
 ghost use Rattle.message.specs.Syllables.{nameOf};
-ghost use Rattle.message.specs.Vowels.{byStress, byLevel};
 ghost use Rattle.message.specs.Fused.{consonantCode};
 ghost use Rattle.message.specs.Voicing.{toneBefore};
-ghost use Rattle.transcriber.specs.Sounds.{Sounds, afterClass, coverClass, levelBy, syllableBy, glideBy, softIn, soundTable, toneBy, toneNo};
+ghost use Rattle.transcriber.specs.Sounds.{Sounds, Row, groupPlace, levelPlace, afterClass, coverClass, farLevel, levelBefore, syllableBy, glideBy, soundTable, toneBy, toneNo};
 use crate::After;
 use message::Cover;
 use message::Level;
 use message::Syllable;
 
-// A row with one sound for level S and one for levels 1 and 2.
-fn by_stress(level: Level, stressed: u8, other: u8) -> u8
-    ensures { λ r. ⌜ r ≡ byStress level stressed other ⌝ }
+// The vowel rows of pass 3, one arm a vowel, small or capital. A digit of a row is a sound's code, and there are five groups of three:
+// initial at a hard boundary, initial, after ж ш ц, after ч щ й, after another letter; in each group levels S, 1 and 2.
+fn row_of(b: u8) -> u64
+    requires { ⌜ vowelByte b ≡ true ⌝ }
+    ensures { λ r. ⌜ Row (small b) r ⌝ }
+{
+    match b {
+        0xE0 | 0xC0 => 0x177_177_17C_18D_17C,
+        0xEE | 0xCE => 0x277_277_27C_27D_27C,
+        0xF3 | 0xD3 => 0x6BB_6BB_6BB_6BB_6BB,
+        0xFB | 0xDB => 0x499_499_499_499_499,
+        0xFD | 0xDD => 0x399_38D_38D_38D_38D,
+        0xE5 | 0xC5 => 0x388_388_39C_38D_38D,
+        0xB8 | 0xA8 => 0x222_222_222_222_222,
+        0xFE | 0xDE => 0x6BB_6BB_6BB_6BB_6BB,
+        0xFF | 0xDF => 0x188_188_18D_18D_18D,
+        _ => 0x499_5AA_499_5AA_5AA,
+    }
+}
+
+// How many bits stand right of the first digit of a group.
+fn group_place(after: After, hard: bool) -> u64
+    ensures { λ r. ⌜ r ≡ groupPlace hard after ⌝ }
+{
+    match after {
+        After::Start => { if hard { 56 } else { 44 } }
+        After::HardOnly => 32,
+        After::SoftOnly => 20,
+        After::Other => 8,
+    }
+}
+
+// How many bits further right a level's digit stands in its group.
+fn level_place(level: Level) -> u64
+    ensures { λ r. ⌜ r ≡ levelPlace level ⌝ }
 {
     match level {
-        Level::Stressed => stressed,
-        Level::First => other,
-        Level::Second => other,
+        Level::Stressed => 0,
+        Level::First => 4,
+        Level::Second => 8,
     }
 }
 
-// A row with one sound for each level.
-fn by_level(level: Level, stressed: u8, first: u8, second: u8) -> u8
-    ensures { λ r. ⌜ r ≡ byLevel level stressed first second ⌝ }
-{
-    match level {
-        Level::Stressed => stressed,
-        Level::First => first,
-        Level::Second => second,
-    }
-}
-
-fn row_a(level: Level, after: After) -> u8
-    ensures { λ r. ⌜ ((hard : Bool) → Sounds hard after level 0xE0 r) ⌝ }
-{
-    match after {
-        After::Start => by_level(level, 1, 7, 7),
-        After::HardOnly => by_level(level, 1, 7, 12),
-        After::SoftOnly => by_level(level, 1, 8, 13),
-        After::Other => by_level(level, 1, 7, 12),
-    }
-}
-
-fn row_o(level: Level, after: After) -> u8
-    ensures { λ r. ⌜ ((hard : Bool) → Sounds hard after level 0xEE r) ⌝ }
-{
-    match after {
-        After::Start => by_level(level, 2, 7, 7),
-        After::HardOnly => by_level(level, 2, 7, 12),
-        After::SoftOnly => by_level(level, 2, 7, 13),
-        After::Other => by_level(level, 2, 7, 12),
-    }
-}
-
-fn row_e(level: Level, after: After, hard: bool) -> u8
-    ensures { λ r. ⌜ Sounds hard after level 0xFD r ⌝ }
-{
-    if hard {
-        match after {
-            After::Start => by_level(level, 3, 9, 9),
-            After::HardOnly => by_level(level, 3, 8, 13),
-            After::SoftOnly => by_level(level, 3, 8, 13),
-            After::Other => by_level(level, 3, 8, 13),
-        }
-    } else {
-        by_level(level, 3, 8, 13)
-    }
-}
-
-fn row_ye(level: Level, after: After) -> u8
-    ensures { λ r. ⌜ ((hard : Bool) → Sounds hard after level 0xE5 r) ⌝ }
-{
-    match after {
-        After::Start => by_level(level, 3, 8, 8),
-        After::HardOnly => by_level(level, 3, 9, 12),
-        After::SoftOnly => by_level(level, 3, 8, 13),
-        After::Other => by_level(level, 3, 8, 13),
-    }
-}
-
-fn row_ya(level: Level, after: After) -> u8
-    ensures { λ r. ⌜ ((hard : Bool) → Sounds hard after level 0xFF r) ⌝ }
-{
-    match after {
-        After::Start => by_level(level, 1, 8, 8),
-        After::HardOnly => by_level(level, 1, 8, 13),
-        After::SoftOnly => by_level(level, 1, 8, 13),
-        After::Other => by_level(level, 1, 8, 13),
-    }
-}
-
-fn row_i(level: Level, after: After, hard: bool) -> u8
-    ensures { λ r. ⌜ Sounds hard after level 0xE8 r ⌝ }
-{
-    match after {
-        After::Start => {
-            if hard {
-                by_stress(level, 4, 9)
-            } else {
-                by_stress(level, 5, 10)
-            }
-        }
-        After::HardOnly => by_stress(level, 4, 9),
-        After::SoftOnly => by_stress(level, 5, 10),
-        After::Other => by_stress(level, 5, 10),
-    }
-}
-
-// The sound of the small vowel b: one arm a row of pass 3.
+// The sound of the vowel b, a small letter or a capital: a digit of its row.
 pub fn vowel_sound(b: u8, s: Syllable, after: After, hard: bool) -> u8
-    requires { ⌜ isVowel b ≡ true ⌝ }
-    ensures { λ r. ⌜ Sounds hard after (s .level) b r ⌝ }
+    requires { ⌜ vowelByte b ≡ true ⌝ }
+    ensures { λ r. ⌜ Sounds hard after (s .level) (small b) r ⌝ }
 {
     let level = s.level;
-    match b {
-        0xE0 => row_a(level, after),
-        0xEE => row_o(level, after),
-        0xF3 => by_stress(level, 6, 11),
-        0xFB => by_stress(level, 4, 9),
-        0xFD => row_e(level, after, hard),
-        0xE5 => row_ye(level, after),
-        0xB8 => 2,
-        0xFE => by_stress(level, 6, 11),
-        0xFF => row_ya(level, after),
-        _ => row_i(level, after, hard),
-    }
+    let place = group_place(after, hard) - level_place(level);
+    ((row_of(b) >> place) % 16) as u8
 }
 
-// What the vowel rows ask of the letter before, told by the class of the byte before.
+// What the vowel rows ask of the letter before, told by the class of the byte before: a break is class 2 or 3. Most vowels are after a paired consonant, so those
+// classes come first.
 pub fn after_class(k: usize) -> After
     ensures { λ r. ⌜ r ≡ afterClass k ⌝ }
 {
-    match k {
-        2 => After::Start,
-        3 => After::Start,
-        6 => After::HardOnly,
-        9 => After::SoftOnly,
-        _ => After::Other,
+    if 6 < k {
+        if k == 9 {
+            return After::SoftOnly;
+        }
+        return After::Other;
     }
+    if k == 6 {
+        return After::HardOnly;
+    }
+    if k / 2 == 1 {
+        return After::Start;
+    }
+    After::Other
 }
 
 // A syllable is covered where a consonant or a sign stands before its vowel.
@@ -159,27 +101,32 @@ fn cover_class(k: usize) -> Cover
     Cover::Covered
 }
 
-fn level_by(stressed: bool, ahead: bool, marked: bool) -> Level
-    ensures { λ r. ⌜ r ≡ levelBy stressed ahead marked ⌝ }
+// The level of a vowel that has no mark near, in a word that has one or not.
+pub fn far_level(marked: bool) -> Level
+    ensures { λ r. ⌜ r ≡ farLevel marked ⌝ }
 {
-    if stressed {
-        return Level::Stressed;
-    }
-    if ahead {
-        return Level::First;
-    }
     if marked {
         return Level::Second;
     }
     Level::First
 }
 
-// The syllable of a vowel after a byte of class k: is it marked, is the next vowel, is any of the word?
-pub fn syllable_by(k: usize, stressed: bool, ahead: bool, marked: bool) -> Syllable
-    ensures { λ r. ⌜ r ≡ syllableBy k stressed ahead marked ⌝ }
+// The level of the vowel before one of this level, where far is that of a vowel that has no mark near.
+pub fn level_before(level: Level, far: Level) -> Level
+    ensures { λ r. ⌜ r ≡ levelBefore level far ⌝ }
+{
+    match level {
+        Level::Stressed => Level::First,
+        Level::First => far,
+        Level::Second => far,
+    }
+}
+
+// The syllable of a vowel of this level after a byte of class k.
+pub fn syllable_by(k: usize, level: Level) -> Syllable
+    ensures { λ r. ⌜ r ≡ syllableBy k level ⌝ }
 {
     let cover = cover_class(k);
-    let level = level_by(stressed, ahead, marked);
     Syllable { cover, level }
 }
 
@@ -229,47 +176,22 @@ pub fn has_glide(c: usize, s: Syllable, k: usize) -> bool
     }
 }
 
-// Is a letter of this group palatalized, where the next letter softens it or not, before a sound of that group?
-fn is_soft(own: usize, soft: bool, group: usize) -> bool
-    ensures { λ r. ⌜ r ≡ softIn own soft group ⌝ }
-{
-    if own == 0 {
-        return false;
-    }
-    if soft {
-        return true;
-    }
-    if group == 0 {
-        return false;
-    }
-    if own == group {
-        return true;
-    }
-    if own == 2 {
-        return group == 1;
-    }
-    false
-}
-
-// The code of the consonant b, a small letter or a capital, before a tone and a sound.
-pub fn consonant_code(b: u8, soft: bool, tone: usize, sound: usize, t: &[u8; 192]) -> usize
-    requires { ⌜ (now t ≡ soundTable) × (consonantByte b ≡ true) × (tone < 3) × (sound < 64) ⌝ }
-    ensures { λ r. ⌜ r ≡ consonantCode (small b) soft (toneBy tone) sound ⌝ }
+// The code of the consonant b, a small letter or a capital, before a tone and a sound, which is 64 more where its letter palatalizes.
+pub fn consonant_code(b: u8, tone: usize, sound: usize, s: &[u8; 496]) -> usize
+    requires { ⌜ (now s ≡ soundTable) × (consonantByte b ≡ true) × (toneNo (toneBy tone) ≡ tone) × (sound < 128) ⌝ }
+    ensures { λ r. ⌜ r ≡ consonantCode (small b) (leb 64 sound) (toneBy tone) (sound % 64) ⌝ }
 {
     let j = (b % 32) as usize;
-    let code = t[tone * 32 + j] as usize;
-    let own = t[96 + j] as usize;
-    let group = t[128 + sound] as usize / 4;
-    if is_soft(own, soft, group) {
-        return code + 1;
-    }
-    code
+    let code = s[tone + j] as usize;
+    let own = s[96 + j] as usize;
+    let group = s[192 + sound] as usize;
+    code + s[320 + (group + own)] as usize
 }
 
-// How an obstruent sounds before a sound.
-pub fn tone_before(sound: usize, t: &[u8; 192]) -> usize
-    requires { ⌜ (now t ≡ soundTable) × (sound < 64) ⌝ }
-    ensures { λ r. ⌜ r ≡ toneNo (toneBefore sound) ⌝ }
+// How an obstruent sounds before a code.
+pub fn tone_before(code: usize, s: &[u8; 496]) -> usize
+    requires { ⌜ (now s ≡ soundTable) × (code < 64) ⌝ }
+    ensures { λ r. ⌜ r ≡ toneNo (toneBefore code) ⌝ }
 {
-    t[128 + sound] as usize % 4
+    s[128 + code] as usize
 }

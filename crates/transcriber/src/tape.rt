@@ -1,10 +1,10 @@
 // The transcriber: one walk over the message from its end, which writes the tape from its end.
 ghost use mathlib.Core.Path.{_≡_};
-ghost use mathlib.Core.Bool.{true, false};
+ghost use mathlib.Core.Bool.{true, false, cond};
 ghost use mathlib.Core.List.{[], _∷_};
-ghost use Prim.Native.Nat.{_<_, _≤_};
+ghost use Prim.Native.Nat.{_+_, _%_, _<_, _≤_};
 ghost use lib.ListN.{length, getD};
-ghost use Rattle.message.specs.Scan.{tables, classOf, isBreakClass, isConsonantClass, isVowelClass, elidedAt};
+ghost use Rattle.message.specs.Scan.{classes, classOf, isBreakClass, isConsonantClass, isVowelClass, elidedAt};
 ghost use Rattle.message.specs.Tape.{tape};
 ghost use Rattle.message.specs.Places.{Steady};
 ghost use Rattle.message.specs.Answers.{Answered, afterCheck, tapeAnswer};
@@ -13,22 +13,24 @@ ghost use Rattle.transcriber.specs.Walk.{Stands, Put, Ready, Stepped, Ma
 use crate::Right;
 use crate::sounds::after_class;
 use crate::sounds::consonant_code;
+use crate::sounds::far_level;
 use crate::sounds::has_glide;
+use crate::sounds::level_before;
 use crate::sounds::syllable_by;
 use crate::sounds::tone_before;
 use crate::sounds::vowel_sound;
-use crate::tables::SOUNDS;
+use crate::tables::sound_table;
 use crate::walk::class_before;
 use crate::walk::hard_before;
 use crate::walk::mark_before;
 use message::Answer;
 use message::Checked;
+use message::Level;
 use message::Refusal;
 use message::check::check;
 use message::check::class_of;
 use message::letters::is_elided;
-use message::letters::small_letter;
-use message::tables::TABLES;
+use message::tables::class_table;
 
 // Puts a code right before place at.
 pub fn put(out: &mut [u8], at: usize, code: u8) -> usize
@@ -39,33 +41,31 @@ pub fn put(out: &mut [u8], at: usize, code: u8) -> usize
     at - 1
 }
 
-// How an obstruent at the end of a word sounds, where a gap and a word that begins with this sound follow.
-fn tone_at_gap(sound: usize, s: &[u8; 192]) -> usize
-    requires { ⌜ (now s ≡ soundTable) × (sound < 64) ⌝ }
-    ensures { λ r. ⌜ r ≡ gapTone sound ⌝ }
+// How an obstruent at the end of a word sounds, where a gap and a word that begins with this sound follow: 32 is voiced, 64 voiceless.
+fn tone_at_gap(sound: usize, s: &[u8; 496]) -> usize
+    requires { ⌜ now s ≡ soundTable ⌝ }
+    ensures { λ r. ⌜ r ≡ gapTone (sound % 64) ⌝ }
 {
-    if tone_before(sound, s) == 1 {
-        return 1;
+    if tone_before(sound % 64, s) == 32 {
+        return 32;
     }
-    2
+    64
 }
 
 // A break puts its mark, and left of it stands another word.
-fn put_break(m: &[u8], i: usize, c: usize, r: Right, out: &mut [u8], s: &[u8; 192]) -> Right
+fn put_break(m: &[u8], i: usize, c: usize, r: Right, out: &mut [u8], s: &[u8; 496]) -> Right
     requires { ⌜ (now s ≡ soundTable) × (c ≡ classOf (getD (now m) i 0)) × (isBreakClass c ≡ true) × Ready (now m) (now out) i r ⌝ }
     ensures { λ q. ⌜ Stepped (now (m .entry)) (now (out .entry)) (now (out .exit)) i r q ⌝ }
 {
-    let marked = mark_before(m, i);
+    let far = far_level(mark_before(m, i));
     if c == 3 {
         let at = put(out, r.at, 63);
         return Right {
             at,
-            tone: 2,
+            tone: 64, // voiceless
             sound: 0,
-            soft: false,
-            ahead: false,
-            mark: false,
-            marked,
+            near: far,
+            far,
         };
     }
     let tone = tone_at_gap(r.sound, s);
@@ -73,112 +73,116 @@ fn put_break(m: &[u8], i: usize, c: usize, r: Right, out: &mut [u8], s: &[u8; 19
     Right {
         at,
         tone,
-        sound: 0,
-        soft: false, // no letter of the next word softens across the gap
-        ahead: false,
-        mark: false,
-        marked,
+        sound: 0, // no letter of the next word palatalizes across the gap
+        near: far,
+        far,
     }
 }
 
-// A letter or mark that puts nothing leaves the tape as it is. soft: the letter palatalizes the one before it.
-fn pass_over(r: Right, soft: bool, mark: bool) -> Right
-    ensures { λ q. ⌜ q ≡ record { at = r .at; tone = r .tone; sound = r .sound; soft = soft; ahead = r .ahead; mark = mark; marked = r .marked } ⌝ }
+// A letter or mark that puts nothing leaves the tape as it is.
+fn pass_over(r: Right, sound: usize, near: Level) -> Right
+    ensures { λ q. ⌜ q ≡ record { at = r .at; tone = r .tone; sound = sound; near = near; far = r .far } ⌝ }
 {
     let at = r.at;
     let tone = r.tone;
-    let sound = r.sound;
-    let ahead = r.ahead;
-    let marked = r.marked;
+    let far = r.far;
     Right {
         at,
         tone,
         sound,
-        soft,
-        ahead,
-        mark,
-        marked,
+        near,
+        far,
     }
 }
 
+// The sound right of a letter, seen from its left: 64 more where the letter palatalizes.
+fn seen_over(sound: usize, soft: bool) -> usize
+    requires { ⌜ sound < 128 ⌝ }
+    ensures { λ r. ⌜ r ≡ sound % 64 + cond soft 64 0 ⌝ }
+{
+    if soft {
+        return sound % 64 + 64;
+    }
+    sound % 64
+}
+
 // A consonant that is heard puts one code.
-fn put_consonant(m: &[u8], i: usize, r: Right, out: &mut [u8], s: &[u8; 192]) -> Right
+fn put_consonant(m: &[u8], i: usize, r: Right, out: &mut [u8], s: &[u8; 496]) -> Right
     requires { ⌜ (now s ≡ soundTable) × (isConsonantClass (classOf (getD (now m) i 0)) ≡ true) × (elidedAt (now m) i ≡ false) × Ready (now m) (now out) i r ⌝ }
     ensures { λ q. ⌜ Stepped (now (m .entry)) (now (out .entry)) (now (out .exit)) i r q ⌝ }
 {
-    let code = consonant_code(m[i], r.soft, r.tone, r.sound, s);
+    let code = consonant_code(m[i], r.tone, r.sound, s);
     let at = put(out, r.at, code as u8);
     let tone = tone_before(code, s);
-    let ahead = r.ahead;
-    let marked = r.marked;
+    let near = r.near;
+    let far = r.far;
     Right {
         at,
         tone,
         sound: code,
-        soft: false,
-        ahead,
-        mark: false,
-        marked,
+        near,
+        far,
     }
 }
 
 // A vowel puts its sound, and a glide before it where it has one. c is its class.
-fn put_vowel(m: &[u8], i: usize, c: usize, r: Right, out: &mut [u8], t: &[u8; 512]) -> Right
-    requires { ⌜ (now t ≡ tables) × (c ≡ classOf (getD (now m) i 0)) × (isVowelClass c ≡ true) × Ready (now m) (now out) i r ⌝ }
+fn put_vowel(m: &[u8], i: usize, c: usize, r: Right, out: &mut [u8], t: &[u8; 256]) -> Right
+    requires { ⌜ (now t ≡ classes) × (c ≡ classOf (getD (now m) i 0)) × (isVowelClass c ≡ true) × Ready (now m) (now out) i r ⌝ }
     ensures { λ q. ⌜ Stepped (now (m .entry)) (now (out .entry)) (now (out .exit)) i r q ⌝ }
 {
     let k = class_before(m, i, t);
-    let syllable = syllable_by(k, r.mark, r.ahead, r.marked);
+    let level = r.near;
+    let far = r.far;
+    let syllable = syllable_by(k, level);
     let hard = hard_before(m, i, k, t);
-    let vowel = vowel_sound(small_letter(m[i]), syllable, after_class(k), hard);
+    let vowel = vowel_sound(m[i], syllable, after_class(k), hard);
     let at = put(out, r.at, vowel);
-    let ahead = r.mark;
-    let marked = r.marked;
+    let near = level_before(level, far);
     if has_glide(c, syllable, k) {
         let before = put(out, at, 28);
         return Right {
             at: before,
-            tone: 0,
-            sound: 28,
-            soft: true,
-            ahead,
-            mark: false,
-            marked,
+            tone: 0, // as written
+            sound: 92, // the glide, of a vowel that palatalizes
+            near,
+            far,
         };
     }
+    let sound = seen_over(vowel as usize, c != 10);
     Right {
         at,
-        tone: 0,
-        sound: vowel as usize,
-        soft: c != 10,
-        ahead,
-        mark: false,
-        marked,
+        tone: 0, // as written
+        sound,
+        near,
+        far,
     }
 }
 
-// The byte at place i.
-fn step(m: &[u8], i: usize, r: Right, out: &mut [u8], t: &[u8; 512], s: &[u8; 192]) -> Right
-    requires { ⌜ (now t ≡ tables) × (now s ≡ soundTable) × Ready (now m) (now out) i r ⌝ }
+// The byte at place i. т and д are silent only after с н р з, so another class than theirs before them spares the question.
+fn step(m: &[u8], i: usize, r: Right, out: &mut [u8], t: &[u8; 256], s: &[u8; 496]) -> Right
+    requires { ⌜ (now t ≡ classes) × (now s ≡ soundTable) × Ready (now m) (now out) i r ⌝ }
     ensures { λ q. ⌜ Stepped (now (m .entry)) (now (out .entry)) (now (out .exit)) i r q ⌝ }
 {
+    let near = r.near;
     let c = class_of(m[i], t);
     if 10 <= c {
         return put_vowel(m, i, c, r, out, t);
     }
     if c == 8 {
-        if is_elided(m, i) {
-            return pass_over(r, false, false);
+        if class_before(m, i, t) == 7 {
+            if is_elided(m, i) {
+                return pass_over(r, seen_over(r.sound, false), near);
+            }
         }
     }
     if 6 <= c {
         return put_consonant(m, i, r, out, s);
     }
     if 4 <= c {
-        return pass_over(r, c == 5, false);
+        return pass_over(r, seen_over(r.sound, c == 5), near);
     }
     if c == 1 {
-        return pass_over(r, r.soft, true);
+        return pass_over(r, r.sound, Level::Stressed);
     }
     put_break(m, i, c, r, out, s)
 }
@@ -188,15 +192,13 @@ pub fn start(m: &[u8], end: usize) -> Right
     requires { ⌜ Steady (now m) ⌝ }
     ensures { λ r. ⌜ (r .at ≡ end) × Stands (now (m .entry)) (length (now (m .entry))) r ⌝ }
 {
-    let marked = mark_before(m, m.len());
+    let far = far_level(mark_before(m, m.len()));
     Right {
         at: end,
-        tone: 2,
+        tone: 64, // voiceless
         sound: 0,
-        soft: false,
-        ahead: false,
-        mark: false,
-        marked,
+        near: far,
+        far,
     }
 }
 
@@ -207,10 +209,10 @@ pub fn walk_back(
     from: usize,
     to: usize,
     r: Right,
-    t: &[u8; 512],
-    s: &[u8; 192],
+    t: &[u8; 256],
+    s: &[u8; 496],
 ) -> Right
-    requires { ⌜ (now t ≡ tables) × (now s ≡ soundTable) × MayWalk (now m) (now out) from to r ⌝ }
+    requires { ⌜ (now t ≡ classes) × (now s ≡ soundTable) × MayWalk (now m) (now out) from to r ⌝ }
     ensures { λ q. ⌜ Walked (now (m .entry)) (now (out .entry)) (now (out .exit)) from to r q ⌝ }
 {
     let mut i = from;
@@ -224,8 +226,8 @@ pub fn walk_back(
 
 // Puts the tape of an accepted message right before place end of the output, and tells where it begins. The tables are lent, since a copy of them
 // for each part of a message would cost more than the part.
-pub fn write_tape(m: &[u8], out: &mut [u8], end: usize, t: &[u8; 512], s: &[u8; 192]) -> usize
-    requires { ⌜ (now t ≡ tables) × (now s ≡ soundTable) × Steady (now m) × (length (tape (now m)) ≤ end) × (end ≤ length (now out)) ⌝ }
+pub fn write_tape(m: &[u8], out: &mut [u8], end: usize, t: &[u8; 256], s: &[u8; 496]) -> usize
+    requires { ⌜ (now t ≡ classes) × (now s ≡ soundTable) × Steady (now m) × (length (tape (now m)) ≤ end) × (end ≤ length (now out)) ⌝ }
     ensures { λ r. ⌜ Put (tape (now (m .entry))) (now (out .entry)) (now (out .exit)) end r ⌝ }
 {
     let r = start(m, end);
@@ -258,8 +260,8 @@ pub fn transcribe(m: &[u8], out: &mut [u8]) -> Answer
             place: n,
         });
     }
-    let t = TABLES;
-    let s = SOUNDS;
+    let t = class_table();
+    let s = sound_table();
     write_tape(m, out, n, &t, &s);
     Answer::Written { length: n, live: 0 }
 }

@@ -2,13 +2,13 @@
 ghost use mathlib.Core.Path.{_≡_};
 ghost use Prim.Native.Nat.{_≤_};
 ghost use lib.ListN.{length};
-ghost use Rattle.message.specs.Scan.{tables};
-ghost use Rattle.message.specs.Places.{markBefore};
+ghost use Rattle.message.specs.Scan.{classes};
+ghost use Rattle.message.specs.Places.{Steady, markBefore};
 ghost use Rattle.transcriber.specs.Sounds.{classBefore, hardBefore};
 
 // The class of the byte before place i; a pause's at the start of the message.
-pub fn class_before(m: &[u8], i: usize, t: &[u8; 512]) -> usize
-    requires { ⌜ (now t ≡ tables) × (i ≤ length (now m)) ⌝ }
+pub fn class_before(m: &[u8], i: usize, t: &[u8; 256]) -> usize
+    requires { ⌜ (now t ≡ classes) × (i ≤ length (now m)) ⌝ }
     ensures { λ r. ⌜ r ≡ classBefore (now (m .entry)) i ⌝ }
 {
     if i == 0 {
@@ -18,8 +18,8 @@ pub fn class_before(m: &[u8], i: usize, t: &[u8; 512]) -> usize
 }
 
 // Does the word before a gap at place i - 1 end so that a hard boundary stands at i? k is the class of the byte before.
-pub fn hard_before(m: &[u8], i: usize, k: usize, t: &[u8; 512]) -> bool
-    requires { ⌜ (now t ≡ tables) × (i ≤ length (now m)) × (k ≡ classBefore (now m) i) ⌝ }
+pub fn hard_before(m: &[u8], i: usize, k: usize, t: &[u8; 256]) -> bool
+    requires { ⌜ (now t ≡ classes) × (i ≤ length (now m)) × (k ≡ classBefore (now m) i) ⌝ }
     ensures { λ r. ⌜ r ≡ hardBefore (now (m .entry)) i ⌝ }
 {
     if k != 2 {
@@ -35,23 +35,16 @@ pub fn hard_before(m: &[u8], i: usize, k: usize, t: &[u8; 512]) -> bool
     p < 9
 }
 
-// Has the word that ends at place i a stress mark? Looks back to its last one.
+// Has the word that ends at place i a stress mark? Looks back over its letters, which are the bytes from 0x80 on, to a mark or to the break before it.
 pub fn mark_before(m: &[u8], i: usize) -> bool
-    requires { ⌜ i ≤ length (now m) ⌝ }
+    requires { ⌜ Steady (now m) × (i ≤ length (now m)) ⌝ }
     ensures { λ r. ⌜ r ≡ markBefore (now (m .entry)) i ⌝ }
 {
     let mut j = i;
     while 0 < j {
         j -= 1;
-        let b = m[j];
-        if b == 0x2A {
-            return true;
-        }
-        if b == 0x20 {
-            return false;
-        }
-        if b == 0x23 {
-            return false;
+        if m[j] < 0x80 {
+            return m[j] == 0x2A;
         }
     }
     false

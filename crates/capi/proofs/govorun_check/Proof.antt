@@ -29,12 +29,12 @@ enum-known-counts : tie.Need-enum-known-counts
 enum-known-counts c = search needs
 
 cast-t6 : tie.Need-cast-t6
-unfolding checkedCodes
-cast-t6 c = let a = c .before .before in omega (arith, rw (accepted a) at (small (a .before .before) .codes))
+unfolding checkedCodes checkedNames
+cast-t6 c = let a = c .before .before in let f = rw (accepted a) at (small (a .before .before)) in omega (arith, f .codes, f .names)
 
 cast-t7 : tie.Need-cast-t7
-unfolding checkedNames
-cast-t7 c = let a = c .before .before .before in omega (arith, rw (accepted a) at (small (a .before .before) .names))
+unfolding checkedCodes checkedNames
+cast-t7 c = let a = c .before .before .before in let f = rw (accepted a) at (small (a .before .before)) in omega (arith, f .codes, f .names)
 
 enum-known-r : tie.Need-enum-known-r
 enum-known-r c = search needs

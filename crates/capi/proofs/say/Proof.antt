@@ -11,12 +11,12 @@ enum-known-a : tie.Need-enum-known-a
 enum-known-a c = search needs
 
 cast-t6 : tie.Need-cast-t6
-unfolding lengthOf
-cast-t6 c = omega (arith, rw (c .before .a .given .1) at (c .before .before .before .pre .length))
+unfolding lengthOf liveOf
+cast-t6 c = let f = rw (c .before .a .given .1) at (c .before .before .before .pre) in omega (arith, f .length, f .live)
 
 cast-t7 : tie.Need-cast-t7
-unfolding liveOf
-cast-t7 c = omega (arith, rw (c .before .a .given .1) at (c .before .before .before .pre .live))
+unfolding lengthOf liveOf
+cast-t7 c = let f = rw (c .before .a .given .1) at (c .before .before .before .pre) in omega (arith, f .length, f .live)
 
 enum-known-a-2 : tie.Need-enum-known-a-2
 enum-known-a-2 c = search needs

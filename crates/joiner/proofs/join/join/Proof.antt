@@ -1,16 +1,12 @@
--- The refusals come in the definition's order, and else the parts' tapes are written over the whole message's, which is as long.
+-- The refusals come in the definition's order, and else the second tape is written, which is as long as the message's.
 -- Assumes nothing.
-use mathlib.Core.Path.{_≡_, refl, sym, _∙_}
-use lib.ListN.{drop}
+use mathlib.Core.Path.{_≡_, sym, _∙_}
 use lib.Seq.{length-take-le}
 use borrow.Author.Needs.{needs}
 use Rattle.message.specs.Refusals.{checkOf}
 use Rattle.message.specs.Answers.{afterCheck}
 use Rattle.message.specs.declared.Checked.the-variants.{Accepted}
-use Rattle.message.proofs.Accepted.{accepted-counts}
-use Rattle.message.proofs.Computed.{everything}
-use Rattle.transcriber.specs.Sounds.{toneNo, hardCode, letterGroup, soundGroup, soundTable}
-use Rattle.joiner.proofs.Answering.{join-refused, join-cut, join-short, tape-due, tape-again, tape-due-again, join-written}
+use Rattle.joiner.proofs.Answering.{join-refused, join-cut, join-short, tape-due, join-written}
 use Rattle.joiner.proofs.join.join.Statement.{statement}
 use Rattle.joiner.proofs.join.join.Tie as tie
 
@@ -42,56 +38,29 @@ accepted c = let d = c .before .before in sym (d .before .before .check .ensures
 returns-2 : tie.Need-returns-2
 returns-2 c =
     let b = c .before in
-    rw (b .bad-cut .ensures) (join-cut _ _ _ (accepted b) (λ e. c .if1 .taken (b .bad-cut .ensures ∙ e)))
+    join-cut _ _ _ (accepted b) (b .bad-cut .result) (b .bad-cut .ensures) (c .if1 .taken)
 
 returns-3 : tie.Need-returns-3
 returns-3 c = let b = c .before .before in join-short _ _ _ (accepted b) (sym (b .bad-cut .ensures) ∙ c .before .if1 .left) (c .if2 .taken)
 
-slice-relend-prefix-write-whole : tie.Need-slice-relend-prefix-write-whole
-slice-relend-prefix-write-whole c = search needs
+class-table-requires : tie.Need-class-table-requires
+class-table-requires c κs = search needs
 
-slice-aggregate-write-whole : tie.Need-slice-aggregate-write-whole
-slice-aggregate-write-whole c = sym (length-take-le _ _ (c .before .if2 .left))
+sound-table-requires : tie.Need-sound-table-requires
+sound-table-requires c κs = search needs
 
-write-whole-requires : tie.Need-write-whole-requires
-unfolding everything toneNo hardCode letterGroup soundGroup soundTable
-write-whole-requires c κs =
-    let f = c .before .before .before in
+slice-relend-prefix-write-joined : tie.Need-slice-relend-prefix-write-joined
+slice-relend-prefix-write-joined c = search needs
+
+slice-aggregate-write-joined : tie.Need-slice-aggregate-write-joined
+slice-aggregate-write-joined c = sym (length-take-le _ _ (c .before .before .before .if2 .left))
+
+write-joined-requires : tie.Need-write-joined-requires
+write-joined-requires c κs =
+    let a = c .before .before .before in
+    let f = a .before .before in
     let b = f .before .before in
-    (refl, refl, tape-due _ _ _ (accepted b) (sym (b .bad-cut .ensures) ∙ f .before .if1 .left) (f .if2 .left))
-
-slice-relend-prefix-lay-parts : tie.Need-slice-relend-prefix-lay-parts
-slice-relend-prefix-lay-parts c = search needs
-
-slice-aggregate-lay-parts : tie.Need-slice-aggregate-lay-parts
-slice-aggregate-lay-parts c =
-    let v = c .before .before .before in
-    let f = v .before .before .before .before in
-    let b = f .before .before in
-    let n = b .before .before .checked .given .0 .0 .codes in
-    let s = b .before .before .before .before .before .before .before .before in
-    let rest = drop n (s .args .out .now) in
-    accepted-counts _ _ (accepted b) .0 ∙ sym (tape-due-again (s .args .m .now) (s .args .cuts .now) (s .args .out .now) (accepted b) (sym (b .bad-cut .ensures) ∙ f .before .if1 .left) (v .write-whole .last .1 .1 .0) rest (v .write-whole .ensures .0) .fits)
-
-lay-parts-requires : tie.Need-lay-parts-requires
-unfolding everything toneNo hardCode letterGroup soundGroup soundTable
-lay-parts-requires c κs =
-    let v = c .before .before .before .before .before in
-    let f = v .before .before .before .before in
-    let b = f .before .before in
-    let n = b .before .before .checked .given .0 .0 .codes in
-    let s = b .before .before .before .before .before .before .before .before in
-    let rest = drop n (s .args .out .now) in
-    let r = sym (b .bad-cut .ensures) ∙ f .before .if1 .left in
-    let whole = v .write-whole .last .1 .1 .0 in (
-      (
-        refl,
-        refl,
-        tape-due-again (s .args .m .now) (s .args .cuts .now) (s .args .out .now) (accepted b) r whole rest (v .write-whole .ensures .0),
-        tape-again (s .args .m .now) (s .args .cuts .now) (s .args .out .now) (accepted b) r whole rest (v .write-whole .ensures .0) .0,
-      ),
-      v .write-whole .ensures .1,
-    )
+    (a .before .class-table .ensures, a .sound-table .ensures, tape-due _ _ _ (accepted b) (sym (b .bad-cut .ensures) ∙ f .before .if1 .left) (f .if2 .left))
 
 same-length : tie.Need-same-length
 same-length c = search needs
@@ -99,10 +68,9 @@ same-length c = search needs
 returns-4 : tie.Need-returns-4
 returns-4 c =
     let w = c .before .before in
-    let v = w .before .before .before .before .before .before in
-    let f = v .before .before .before .before in
+    let f = w .before .before .before .before .before .before in
     let b = f .before .before in
-    join-written _ _ _ (accepted b) (sym (b .bad-cut .ensures) ∙ f .before .if1 .left) (v .write-whole .last .1 .1 .0) (w .lay-parts .last .1 .1 .1 .0) _ (f .if2 .left) (v .write-whole .ensures) (w .lay-parts .ensures)
+    join-written _ _ _ (accepted b) (sym (b .bad-cut .ensures) ∙ f .before .if1 .left) (w .write-joined .last .1 .1 .0) _ (f .if2 .left) (w .write-joined .ensures)
 
 pub join-spec : {M : Type 1} → statement M
 join-spec =
@@ -116,11 +84,10 @@ join-spec =
     bad-cut-requires
     returns-2
     returns-3
-    slice-relend-prefix-write-whole
-    slice-aggregate-write-whole
-    write-whole-requires
-    slice-relend-prefix-lay-parts
-    slice-aggregate-lay-parts
-    lay-parts-requires
+    class-table-requires
+    sound-table-requires
+    slice-relend-prefix-write-joined
+    slice-aggregate-write-joined
+    write-joined-requires
     same-length
     returns-4)

@@ -1,108 +1,77 @@
--- The step reads the class and the entry from the table, and the definition's tests are the code's.
+-- The entry tells the case: all said, a fault, or т or д after a paired consonant.
 -- Assumes nothing.
-use Prim.Native.Nat.{ℕ, _/_, _%_, _<_}
+use Prim.Native.Nat.{ℕ, _%_}
 use mathlib.Core.Path.{_≡_, sym, _∙_}
 use mathlib.Core.Bool.{false}
+use mathlib.Core.List.{List}
 use native.Mathlib.Omega.{arith}
-use lib.Dec.{eqb}
 use lib.ListN.{getD}
-use borrow.Author.Tests.{eq-eqb, ne-eqb}
+use borrow.Author.Tests.{ne-eqb}
 use borrow.Author.Needs.{needs}
-use Rattle.message.specs.Scan.{classOf, faultIn, widthIn, namesIn, widthAt, stepOf}
-use Rattle.message.proofs.Bytes.{by-class}
-use Rattle.message.proofs.ScanTable.{Entry, class-spoken, entry-holds}
+use Rattle.message.specs.Scan.{classOf, faultIn, settled, kindAt, faultHere}
+use Rattle.message.proofs.ScanTable.{Entry, entry-open, open-silent}
+use Rattle.message.proofs.Checking.{entry-at}
 use Rattle.message.proofs.check.step.Statement.{statement}
 use Rattle.message.proofs.check.step.Tie as tie
 
--- the class of the byte
-abbrev class : tie.Start → ℕ
-class c = classOf (getD (c .args .m .now) (c .args .i) 0)
+-- the entry read
+entry : (c : tie.Else1) → let a = c .before .before .before .before .args in Entry (kindAt (a .m .now) (a .seen .at)) (classOf (getD (a .m .now) (a .seen .at) 0))
+entry c = let k = c .before .before .before in entry-at (k .before .args .m .now) (λ j. omega (arith, k .shared-slice-known .given j)) (k .before .args .seen .at)
 
--- every byte has one below 13
-class-small : (c : tie.After-class-of) → class (c .before .before .before) < 13
-class-small c = let s = c .before .before .before in by-class (getD (s .args .m .now) (s .args .i) 0) (omega (arith, c .before .before .shared-slice-known .given (s .args .i))) .class
+-- it does not say all
+unsaid : (c : tie.Else1) → let a = c .before .before .before .before .args in settled (kindAt (a .m .now) (a .seen .at)) (classOf (getD (a .m .now) (a .seen .at) 0)) ≡ false
+unsaid c = entry-open _ _ (entry c) (omega (arith, c .before .before .look-up .ensures, c .if1 .left))
 
--- the entry that is read
-entry : (c : tie.After-class-of) → Entry (c .before .before .before .args .s .kind) (class (c .before .before .before))
-entry c = let s = c .before .before .before in entry-holds (s .args .s .kind) (class s) (s .pre .4 .kind) (class-small c)
+-- and its last digit is the fault
+fault-read : (c : tie.Else1) → let a = c .before .before .before .before .args in c .before .before .look-up .result % 16 ≡ faultIn (kindAt (a .m .now) (a .seen .at)) (classOf (getD (a .m .now) (a .seen .at) 0))
+fault-read c = rw (c .before .before .look-up .ensures) (entry c .fault ∙ rw (unsaid c))
 
--- its fault
-fault-read : (c : tie.After-look-up) → c .look-up .result % 16 ≡ faultIn (c .before .before .before .before .args .s .kind) (class (c .before .before .before .before))
-fault-read c = rw (c .look-up .ensures, c .before .class-of .ensures) (entry (c .before) .fault)
-
--- its width, elision apart
-width-read : (c : tie.After-look-up) → c .look-up .result / 16 % 4 ≡ widthIn (c .before .before .before .before .args .s .kind) (class (c .before .before .before .before))
-width-read c = rw (c .look-up .ensures, c .before .class-of .ensures) (entry (c .before) .width)
-
--- its names
-names-read : (c : tie.After-look-up) → c .look-up .result / 64 ≡ namesIn (c .before .before .before .before .args .s .kind) (class (c .before .before .before .before))
-names-read c = rw (c .look-up .ensures, c .before .class-of .ensures) (entry (c .before) .names)
-
--- a mark, a break or a sign is not elided
-width-heard : (c : tie.Else2) → let s = c .before .before .before .before .before .before .args in widthAt (s .m .now) (s .i) (s .s .kind) ≡ widthIn (s .s .kind) (class (c .before .before .before .before .before .before))
-unfolding widthAt
-width-heard c =
-    let g = c .before .before .before in
-    let s = g .before .before .before in
-    rw (class-spoken (s .args .m .now) (s .args .i) (omega (arith, g .before .before .shared-slice-known .given (s .args .i))) (λ z. absurd (omega (arith, g .class-of .ensures, c .if2 .left, z))))
-
--- a test that was not met, of an equal number
-differs : (a b n : ℕ) → a ≡ b → (a ≡ n → ⊥) → eqb b n ≡ false
-differs a b n e h = ne-eqb b n (λ z. h (e ∙ z))
-
-shared-slice-read-class-of : tie.Need-shared-slice-read-class-of
-shared-slice-read-class-of c = search needs
-
-class-of-requires : tie.Need-class-of-requires
-class-of-requires c κs = search needs
+-- which is then the byte's
+fault-there : (m : List ℕ) (i : ℕ) → (faultIn (kindAt m i) (classOf (getD m i 0)) ≡ 0 → ⊥) → faultHere m i ≡ faultIn (kindAt m i) (classOf (getD m i 0))
+unfolding faultHere
+fault-there m i z = rw (ne-eqb _ _ z)
 
 look-up-requires : tie.Need-look-up-requires
-look-up-requires c κs = let s = c .before .before .before in (s .pre .0, omega (arith, s .pre .4 .kind), omega (arith, c .class-of .ensures, class-small c))
+look-up-requires c κs = search needs
+
+limit-at-requires : tie.Need-limit-at-requires
+limit-at-requires c κs = search needs
+
+pass-one-requires : tie.Need-pass-one-requires
+pass-one-requires c κs = search needs
+
+returns : tie.Need-returns
+returns c = search needs
 
 cast-fault : tie.Need-cast-fault
 cast-fault c = search needs
 
-returns : tie.Need-returns
-unfolding stepOf
-returns c = let f = fault-read (c .before) in rw (f, differs _ _ _ f (c .if1 .taken))
-
-pass-letter-requires : tie.Need-pass-letter-requires
-pass-letter-requires c κs =
-    let g = c .before .before in
-    let p = g .before .before .before .before .pre in
-    let d = g .before .class-of .ensures in
-    (p .1, p .2, c .if2 .taken, d, rw d (width-read g), rw (names-read g) (entry (g .before) .one), p .3, p .4)
-
 returns-2 : tie.Need-returns-2
-unfolding stepOf
 returns-2 c =
-    let g = c .before .before .before in
-    let f = sym (fault-read g) ∙ c .before .before .if1 .left in
-    rw (eq-eqb _ _ f) (rw (g .before .class-of .ensures, names-read g) at (c .pass-letter .ensures))
+    let e = c .before in
+    let f = fault-read e in
+    (fault-there _ _ (λ z. c .if2 .taken (f ∙ z)) ∙ sym f, c .if2 .taken)
 
-pass-other-requires : tie.Need-pass-other-requires
-pass-other-requires c κs =
-    let g = c .before .before in
-    let s = g .before .before .before .before in
-    (s .pre .2, c .if2 .left, rw (width-read g) (entry (g .before) .wide), rw (names-read g) (entry (g .before) .one), s .pre .4)
+pass-silent-requires : tie.Need-pass-silent-requires
+pass-silent-requires c κs =
+    let e = c .before in
+    let l = e .before in
+    let s = l .before .before .before in
+    let q = open-silent _ _ (unsaid e) (sym (fault-read e) ∙ c .if2 .left) in
+    (record { sees = s .pre .2; byte = s .pre .3; short = s .pre .4; limit = l .limit-at .ensures }, q .0, q .1)
 
 returns-3 : tie.Need-returns-3
-unfolding stepOf
-returns-3 c =
-    let g = c .before .before .before in
-    let f = sym (fault-read g) ∙ c .before .before .if1 .left in
-    rw (eq-eqb _ _ f, width-heard (c .before)) (rw (g .before .class-of .ensures, width-read g, names-read g) at (c .pass-other .ensures))
+returns-3 c = search needs
 
 pub step-spec : {M : Type 1} → statement M
 step-spec =
     tie.close
     (tie.spec
-    shared-slice-read-class-of
-    class-of-requires
     look-up-requires
-    cast-fault
+    limit-at-requires
+    pass-one-requires
     returns
-    pass-letter-requires
+    cast-fault
     returns-2
-    pass-other-requires
+    pass-silent-requires
     returns-3)

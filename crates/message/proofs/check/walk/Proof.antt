@@ -1,60 +1,90 @@
--- Each turn passes one byte of the scan or finds its fault; the measure is what is left of the message.
+-- Each turn passes bytes that have no fault or finds the first that has one; the measure is what is left of the message.
 -- Assumes nothing.
 use Prim.Native.Nat.{_-_}
-use mathlib.Core.Path.{_≡_, sym, _∙_}
-use native.Mathlib.Numerals.{add-one}
+use mathlib.Core.Path.{_∙_}
 use native.Mathlib.Omega.{arith}
 use lib.ListN.{length}
+use Rattle.message.specs.Scan.{Sees}
+use Rattle.message.proofs.Checking.{kind-small, sees-none, seen-fault, seen-all}
 use borrow.Author.Needs.{needs}
-use Rattle.message.proofs.Checking.{Walked, walked-none, walked-more, walked-fault, walked-all}
 use Rattle.message.proofs.check.walk.Statement.{statement}
 use Rattle.message.proofs.check.walk.Tie as tie
 
 abbrev Inv-loop : tie.InvT-loop
-Inv-loop m t s₀ i₀ s i = Walked m i s
+Inv-loop m t s seen₀ seen = Sees m seen
 
 abbrev μ-loop : tie.MeasureT-loop
-μ-loop m t s₀ i₀ s i = length m - i
+μ-loop m t s seen₀ seen = length m - seen .at
 
 loop-holds : tie.Need-loop-holds Inv-loop μ-loop
-loop-holds c = walked-none (c .before .args .m .now)
+loop-holds c = sees-none (c .before .args .m .now)
+
+lesser-requires : tie.Need-lesser-requires Inv-loop μ-loop
+lesser-requires c κs = tt
+
+pass-requires : tie.Need-pass-requires Inv-loop μ-loop
+pass-requires c κs =
+    let l = c .before .before .before in
+    let s = l .before .before in
+    let w = l .loop .inv in
+    let n = c .lesser .ensures in
+    (s .pre .0, s .pre .1, w, n .2 _ (w .within) (w .ahead), n .1, n .0, s .pre .3)
 
 step-requires : tie.Need-step-requires Inv-loop μ-loop
-step-requires c κs = (c .before .before .before .pre .0, c .loop-test .taken, omega arith, c .before .loop .inv .kind, c .before .loop .inv .fits)
+step-requires c κs =
+    let p = c .before .before in
+    let s = p .before .before .before .before .before .before in
+    (s .pre .0, s .pre .1, p .pass .ensures .0, c .if2 .taken, s .pre .3)
 
 enum-known-number : tie.Need-enum-known-number Inv-loop μ-loop
 enum-known-number c = search needs
 
 returns : tie.Need-returns Inv-loop μ-loop
 returns c =
-    let n = c .before .before .before in
-    let l = n .before .before in
-    walked-fault (l .before .before .args .m .now) _ _ (λ j. omega (arith, l .before .shared-slice-known .given j)) (n .before .loop-test .taken) (l .loop .inv) _ (l .before .before .pre .2) (sym (n .step .ensures) ∙ c .before .number .given .1)
+    let n = c .before in
+    let t = n .before .before in
+    let p = t .before .before .before in
+    let l = p .before .before .before .before in
+    let s = l .before .before in
+    let q = rw (n .number .given .1) at (t .step .ensures) in
+    seen-fault (s .args .m .now) (λ j. omega (arith, l .before .shared-slice-known .given j)) _ _ (t .before .if2 .taken) (s .pre .3) (p .pass .ensures .0 .clear) (q .0) (q .1)
 
 enum-known-next : tie.Need-enum-known-next Inv-loop μ-loop
 enum-known-next c = search needs
 
-add-i : tie.Need-add-i Inv-loop μ-loop
-add-i c = search needs
-
 loop-less : tie.Need-loop-less Inv-loop μ-loop
-loop-less c = search needs
+loop-less c =
+    let n = c .before in
+    let t = n .before .before in
+    let p = t .before .before .before in
+    let q = rw (n .next .given .1) at (t .step .ensures) in
+    omega (arith, q .1, p .pass .ensures .1, t .before .if2 .taken)
 
 loop-again : tie.Need-loop-again Inv-loop μ-loop
 loop-again c =
-    let n = c .before .before .before in
-    let l = n .before .before in
-    rw (add-one (l .loop .i)) (walked-more (l .before .before .args .m .now) _ _ (λ j. omega (arith, l .before .shared-slice-known .given j)) (n .before .loop-test .taken) (l .loop .inv) _ (sym (n .step .ensures) ∙ c .before .next .given .1))
+    let n = c .before in
+    let q = rw (n .next .given .1) at (n .before .before .step .ensures) in
+    q .0
+
+loop-less-2 : tie.Need-loop-less-2 Inv-loop μ-loop
+loop-less-2 c = omega (arith, c .if2 .left, c .before .before .before .before .if1 .taken)
+
+loop-again-2 : tie.Need-loop-again-2 Inv-loop μ-loop
+loop-again-2 c = c .before .before .pass .ensures .0
 
 finish-requires : tie.Need-finish-requires Inv-loop μ-loop
-finish-requires c κs = (omega arith, c .before .loop .inv .fits, omega arith)
+finish-requires c κs =
+    let l = c .before .before in
+    let s = l .before .before in
+    (s .pre .2, omega (arith, l .loop .inv .row, kind-small (s .args .m .now) (λ j. omega (arith, l .before .shared-slice-known .given j)) (l .loop .seen .at)))
 
 returns-2 : tie.Need-returns-2 Inv-loop μ-loop
 returns-2 c =
-    let l = c .before .before in
+    let e = c .before in
+    let l = e .before .before in
     let s = l .before .before in
-    let e : l .loop .i ≡ length (s .args .m .now) = omega arith in
-    c .finish .ensures ∙ rw e (walked-all (s .args .m .now) (l .loop .s) (λ j. omega (arith, l .before .shared-slice-known .given j)) (s .pre .1) (s .pre .2) (rw e at (l .loop .inv)))
+    let w = l .loop .inv in
+    c .finish .ensures ∙ seen-all (s .args .m .now) (l .loop .seen) (λ j. omega (arith, l .before .shared-slice-known .given j)) (s .pre .2) (s .pre .3) w (omega (arith, w .within, e .if1 .left))
 
 pub walk-spec : {M : Type 1} → statement M
 walk-spec =
@@ -63,12 +93,15 @@ walk-spec =
     Inv-loop
     μ-loop
     loop-holds
+    lesser-requires
+    pass-requires
     step-requires
     enum-known-number
     returns
     enum-known-next
-    add-i
     loop-less
     loop-again
+    loop-less-2
+    loop-again-2
     finish-requires
     returns-2)

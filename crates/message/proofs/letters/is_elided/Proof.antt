@@ -1,87 +1,106 @@
--- `message::letters::is_elided` meets its contract: the byte settles which of the two rules is asked, and the callees answer it.
+-- `message::letters::is_elided` meets its contract: the bytes are those beside the place, and nothing is silent at the start or end of a message.
 -- Assumes nothing.
-use mathlib.Core.Bool.{or-false}
+use Prim.Native.Nat.{ℕ, _+_, _≤_}
+use mathlib.Core.Bool.{and-false}
+use native.Mathlib.Omega.{arith}
+use lib.ListN.{length, List·getD-eq-default}
+use Rattle.message.specs.Letters.{small}
+use Rattle.message.specs.Elision.{elidesT, elidesD, elidesAmong}
+use Rattle.message.specs.Scan.{letterAt, letterBefore, elidedAt}
+use Rattle.message.proofs.ScanTable.{before-at}
 use borrow.Author.Needs.{needs}
-use borrow.Author.Tests.{ne-eqb}
-use Rattle.message.specs.Elision.{elidesAmong}
-use Rattle.message.specs.Scan.{elidedAt}
 use Rattle.message.proofs.letters.is_elided.Statement.{statement}
 use Rattle.message.proofs.letters.is_elided.Tie as tie
 
-letter-at-requires : tie.Need-letter-at-requires
-letter-at-requires c κs = search needs
-
-letter-before-requires : tie.Need-letter-before-requires
-letter-before-requires c κs = search needs
-
-add-letter-at : tie.Need-add-letter-at
-add-letter-at c = search needs
-
-letter-at-requires-2 : tie.Need-letter-at-requires-2
-letter-at-requires-2 c κs = search needs
-
-add-letter-at-2 : tie.Need-add-letter-at-2
-add-letter-at-2 c = search needs
-
-letter-at-requires-3 : tie.Need-letter-at-requires-3
-letter-at-requires-3 c κs = search needs
-
-elides-t-requires : tie.Need-elides-t-requires
-elides-t-requires c κs = search needs
-
 returns : tie.Need-returns
-unfolding elidedAt elidesAmong
-returns c =
-    let s = c .before .before .before in
-    rw (← s .before .before .letter-at .ensures, s .before .if1 .taken, or-false, ← s .letter-before .ensures, ← c .before .before .letter-at2 .ensures, ← c .before .letter-at3 .ensures)
-    (c .elides-t .ensures)
+unfolding elidedAt elidesAmong elidesT elidesD letterBefore
+returns c = rw (c .if1 .taken) (simp and-false)
 
-letter-before-requires-2 : tie.Need-letter-before-requires-2
-letter-before-requires-2 c κs = search needs
-
-add-letter-at-3 : tie.Need-add-letter-at-3
-add-letter-at-3 c = search needs
-
-letter-at-requires-4 : tie.Need-letter-at-requires-4
-letter-at-requires-4 c κs = search needs
-
-add-letter-at-4 : tie.Need-add-letter-at-4
-add-letter-at-4 c = search needs
-
-letter-at-requires-5 : tie.Need-letter-at-requires-5
-letter-at-requires-5 c κs = search needs
-
-elides-d-requires : tie.Need-elides-d-requires
-elides-d-requires c κs = search needs
+add-if2 : tie.Need-add-if2
+add-if2 c = search needs
 
 returns-2 : tie.Need-returns-2
-unfolding elidedAt elidesAmong
-returns-2 c =
-    let s = c .before .before .before in
-    rw (← s .before .before .before .letter-at .ensures, s .before .if2 .taken, ← s .letter-before2 .ensures, ← c .before .before .letter-at4 .ensures, ← c .before .letter-at5 .ensures)
-    (c .elides-d .ensures)
+unfolding elidedAt elidesAmong elidesT elidesD letterAt small
+returns-2 c = rw (List·getD-eq-default {A = ℕ} _ 0 (c .if2 .taken)) (simp and-false)
+
+add-if3 : tie.Need-add-if3
+add-if3 c = search needs
+
+sub-elides : tie.Need-sub-elides
+sub-elides c = search needs
+
+shared-slice-read-elides : tie.Need-shared-slice-read-elides
+shared-slice-read-elides c = search needs
+
+shared-slice-read-elides-2 : tie.Need-shared-slice-read-elides-2
+shared-slice-read-elides-2 c = search needs
+
+add-elides : tie.Need-add-elides
+add-elides c = search needs
+
+shared-slice-read-elides-3 : tie.Need-shared-slice-read-elides-3
+shared-slice-read-elides-3 c = search needs
+
+elides-requires : tie.Need-elides-requires
+elides-requires c κs = search needs
 
 returns-3 : tie.Need-returns-3
-unfolding elidedAt elidesAmong
-returns-3 c = rw (← c .before .before .letter-at .ensures, ne-eqb _ _ (c .before .if1 .left), ne-eqb _ _ (c .if2 .left))
+unfolding elidedAt letterAt
+returns-3 c =
+    let t = c .before .before .before .before in
+    let s = t .before .before .before .before in
+    let e : length (s .args .m .now) ≤ s .args .i + 2 = omega (arith, t .if3 .taken) in
+    rw (← before-at _ _ (t .before .before .if1 .left), List·getD-eq-default {A = ℕ} _ 0 e) (c .elides .ensures)
+
+sub-elides-2 : tie.Need-sub-elides-2
+sub-elides-2 c = search needs
+
+shared-slice-read-elides-4 : tie.Need-shared-slice-read-elides-4
+shared-slice-read-elides-4 c = search needs
+
+shared-slice-read-elides-5 : tie.Need-shared-slice-read-elides-5
+shared-slice-read-elides-5 c = search needs
+
+add-elides-2 : tie.Need-add-elides-2
+add-elides-2 c = search needs
+
+shared-slice-read-elides-6 : tie.Need-shared-slice-read-elides-6
+shared-slice-read-elides-6 c = search needs
+
+add-elides-3 : tie.Need-add-elides-3
+add-elides-3 c = search needs
+
+shared-slice-read-elides-7 : tie.Need-shared-slice-read-elides-7
+shared-slice-read-elides-7 c = search needs
+
+elides-requires-2 : tie.Need-elides-requires-2
+elides-requires-2 c κs = search needs
+
+returns-4 : tie.Need-returns-4
+unfolding elidedAt letterAt
+returns-4 c = rw (← before-at _ _ (c .before .before .before .before .before .before .before .if1 .left)) (c .elides2 .ensures)
 
 pub is-elided-spec : {M : Type 1} → statement M
 is-elided-spec =
     tie.close
     (tie.spec
-    letter-at-requires
-    letter-before-requires
-    add-letter-at
-    letter-at-requires-2
-    add-letter-at-2
-    letter-at-requires-3
-    elides-t-requires
     returns
-    letter-before-requires-2
-    add-letter-at-3
-    letter-at-requires-4
-    add-letter-at-4
-    letter-at-requires-5
-    elides-d-requires
+    add-if2
     returns-2
-    returns-3)
+    add-if3
+    sub-elides
+    shared-slice-read-elides
+    shared-slice-read-elides-2
+    add-elides
+    shared-slice-read-elides-3
+    elides-requires
+    returns-3
+    sub-elides-2
+    shared-slice-read-elides-4
+    shared-slice-read-elides-5
+    add-elides-2
+    shared-slice-read-elides-6
+    add-elides-3
+    shared-slice-read-elides-7
+    elides-requires-2
+    returns-4)

@@ -1,18 +1,10 @@
 -- `message::letters::letter_before` meets its contract: a place that is not 0 is the successor of the place before it.
 -- Assumes nothing.
-use Prim.Native.Nat.{ℕ, suc, _-_}
-use mathlib.Core.Path.{_≡_, ap}
-use mathlib.Core.List.{List}
-use native.Mathlib.Omega.{arith}
 use borrow.Author.Needs.{needs}
-use Rattle.message.specs.Scan.{letterAt, letterBefore}
+use Rattle.message.specs.Scan.{letterBefore}
+use Rattle.message.proofs.ScanTable.{before-at}
 use Rattle.message.proofs.letters.letter_before.Statement.{statement}
 use Rattle.message.proofs.letters.letter_before.Tie as tie
-
--- past the start, the letter before place i is the one at i - 1
-before-at : (m : List ℕ) (i : ℕ) → (i ≡ 0 → ⊥) → letterAt m (i - 1) ≡ letterBefore m i
-unfolding letterBefore
-before-at m i h = let e : suc (i - 1) ≡ i = omega arith in ap (letterBefore m) e
 
 returns : tie.Need-returns
 unfolding letterBefore

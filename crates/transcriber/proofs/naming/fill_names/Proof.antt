@@ -1,42 +1,48 @@
 -- The invariant says that the names from the place on are in the output; each turn puts those of one byte before them. The measure is the place.
 -- Assumes nothing.
-use mathlib.Core.Path.{_≡_, refl, _∙_}
+use mathlib.Core.Path.{_≡_, ap, _∙_}
 use native.Mathlib.Omega.{arith}
-use Rattle.message.proofs.Computed.{everything}
+use Rattle.transcriber.specs.Sounds.{farLevel}
 use Rattle.transcriber.proofs.Putting.{put-length}
 use Rattle.transcriber.proofs.Namings.{Naming, end-room, naming-none, naming-length, naming-before, naming-ready, naming-more, naming-all}
 use Rattle.transcriber.proofs.naming.fill_names.Statement.{statement}
 use Rattle.transcriber.proofs.naming.fill_names.Tie as tie
 
 abbrev Inv-loop : tie.InvT-loop
-Inv-loop m out₀ n t i₀ at marked v₀ out i v = Naming m out₀ out n i v
+Inv-loop m out₀ n t i₀ at v₀ out i v = Naming m out₀ out n i v
 
 abbrev μ-loop : tie.MeasureT-loop
-μ-loop m out₀ n t i₀ at marked v₀ out i v = i
+μ-loop m out₀ n t i₀ at v₀ out i v = i
+
+class-table-requires : tie.Need-class-table-requires Inv-loop μ-loop
+class-table-requires c κs = tt
 
 put-end-requires : tie.Need-put-end-requires Inv-loop μ-loop
-unfolding everything
 put-end-requires c κs =
-    let s = c .before .before .before .before in
-    (refl, omega arith, s .pre .0, end-room (s .pre .0) (s .pre .1), s .pre .2)
+    let a = c .before .before in
+    let s = a .before .before .before in
+    (a .class-table .ensures, omega arith, s .pre .0, end-room (s .pre .0) (s .pre .1), s .pre .2)
 
 mark-before-requires : tie.Need-mark-before-requires Inv-loop μ-loop
-mark-before-requires c κs = omega arith
+mark-before-requires c κs = (c .before .before .before .before .before .before .before .before .pre .0, omega arith)
+
+far-level-requires : tie.Need-far-level-requires Inv-loop μ-loop
+far-level-requires c κs = tt
 
 loop-holds : tie.Need-loop-holds Inv-loop μ-loop
 loop-holds c =
-    let e = c .before .before .before in
-    let s = e .before .before .before .before .before in
-    naming-none (s .pre .0) (s .pre .1) (s .pre .2) (e .put-end .ensures) (c .mark-before .ensures)
+    let e = c .before .before .before .before in
+    let s = e .before .before .before .before .before .before in
+    naming-none (s .pre .0) (s .pre .1) (s .pre .2) (e .put-end .ensures) (c .far-level .ensures ∙ ap farLevel (c .before .mark-before .ensures))
 
 sub-i : tie.Need-sub-i Inv-loop μ-loop
 sub-i c = omega arith
 
 step-requires : tie.Need-step-requires Inv-loop μ-loop
-unfolding everything
 step-requires c κs =
     let b = c .before .before in
-    (refl, naming-ready (naming-before (b .loop-test .taken) (b .before .loop .inv)))
+    let e = b .before .before .before .before .before .before in
+    (e .before .before .before .class-table .ensures, naming-ready (naming-before (b .loop-test .taken) (b .before .loop .inv)))
 
 loop-less : tie.Need-loop-less Inv-loop μ-loop
 loop-less c = omega arith
@@ -48,15 +54,15 @@ loop-again c =
 
 same-length : tie.Need-same-length Inv-loop μ-loop
 same-length c =
-    let e = c .before .before .before .before .before in
-    naming-length (c .before .loop .inv) ∙ put-length _ _ _ _ _ (e .before .before .before .before .before .pre .2) (e .put-end .ensures)
+    let e = c .before .before .before .before .before .before in
+    naming-length (c .before .loop .inv) ∙ put-length _ _ _ _ _ (e .before .before .before .before .before .before .pre .2) (e .put-end .ensures)
 
 returns : tie.Need-returns Inv-loop μ-loop
 returns c =
     let l = c .before .loop in
     let e : l .i ≡ 0 = omega (arith, c .loop-test .left) in
-    let p = c .before .before .before .before .before in
-    naming-all (p .before .before .before .before .before .pre .2) (p .put-end .ensures) (rw e at (l .inv))
+    let p = c .before .before .before .before .before .before in
+    naming-all (p .before .before .before .before .before .before .pre .2) (p .put-end .ensures) (rw e at (l .inv))
 
 pub fill-names-spec : {M : Type 1} → statement M
 fill-names-spec =
@@ -64,8 +70,10 @@ fill-names-spec =
     (tie.spec
     Inv-loop
     μ-loop
+    class-table-requires
     put-end-requires
     mark-before-requires
+    far-level-requires
     loop-holds
     sub-i
     step-requires

@@ -31,18 +31,18 @@ tail-one c =
     let b = c .before .before in
     let s = b .before .before .before in
     let k = b .class-before .result in
-    tail (s .args .m .now) (s .args .i) k true (s .pre .2) (s .pre .1) (b .class-before .ensures) (rw (le-leb 4 k (c .before .if1 .left), le-leb k 9 (c .if2 .left)))
+    tail (s .args .m .now) (s .args .i) k true (s .pre .2) (s .pre .1) (b .class-before .ensures) (rw (le-leb 4 k (omega (arith, c .before .if1 .left)), le-leb k 9 (omega (arith, c .if2 .left))))
 
 class-before-requires : tie.Need-class-before-requires
 class-before-requires c κs = search needs
 
 returns : tie.Need-returns
-returns c = rw (tail-none (c .before) (rw (lt-leb 4 (c .before .class-before .result) (c .if1 .taken)))) (put-none _ _)
+returns c = rw (tail-none (c .before) (rw (lt-leb 4 (c .before .class-before .result) (omega (arith, c .if1 .taken))))) (put-none _ _)
 
 returns-2 : tie.Need-returns-2
 returns-2 c =
     let k = c .before .before .class-before .result in
-    rw (tail-none (c .before .before) (rw (le-leb 4 k (c .before .if1 .left), lt-leb k 9 (c .if2 .taken)))) (put-none _ _)
+    rw (tail-none (c .before .before) (rw (le-leb 4 k (omega (arith, c .before .if1 .left)), lt-leb k 9 (omega (arith, c .if2 .taken))))) (put-none _ _)
 
 put-requires : tie.Need-put-requires
 put-requires c κs =

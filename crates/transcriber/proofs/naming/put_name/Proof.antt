@@ -19,16 +19,19 @@ put-requires c κs =
     let s = c .before .before .before .before .before .before in
     (vowel-room (s .pre .2) (s .pre .1), s .pre .2 .place)
 
+level-before-requires : tie.Need-level-before-requires
+level-before-requires c κs = search needs
+
 same-length : tie.Need-same-length
 same-length c = search needs
 
 returns : tie.Need-returns
 returns c =
-    let p = c .before .before in
+    let p = c .before .before .before in
     let k = p .before .before .before .before in
     let s = k .before .before .before in
-    named-vowel (s .pre .2) (s .pre .1)
-    (rw (p .before .name-of .ensures, p .before .before .syllable-by .ensures, k .class-before .ensures) at (p .put .ensures))
+    rw (c .level-before .ensures) (named-vowel (s .pre .2) (s .pre .1)
+    (rw (p .before .name-of .ensures, p .before .before .syllable-by .ensures, k .class-before .ensures) at (p .put .ensures)))
 
 pub put-name-spec : {M : Type 1} → statement M
 put-name-spec =
@@ -38,5 +41,6 @@ put-name-spec =
     syllable-by-requires
     name-of-requires
     put-requires
+    level-before-requires
     same-length
     returns)

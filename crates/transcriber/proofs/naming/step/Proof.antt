@@ -1,11 +1,12 @@
 -- The class of the byte tells which of the four ways of a step it is, and each has its law.
 -- Assumes nothing.
 use Prim.Native.Nat.{_<_}
-use mathlib.Core.Path.{_≡_, sym, _∙_}
+use mathlib.Core.Path.{_≡_, sym, ap, _∙_}
 use native.Mathlib.Omega.{arith}
 use lib.ListN.{getD}
 use borrow.Author.Needs.{needs}
 use Rattle.message.specs.Scan.{classOf}
+use Rattle.transcriber.specs.Sounds.{farLevel}
 use Rattle.transcriber.proofs.Namings.{vowel-class, named-letter, named-mark, break-room, named-break}
 use Rattle.transcriber.proofs.naming.step.Statement.{statement}
 use Rattle.transcriber.proofs.naming.step.Tie as tie
@@ -55,15 +56,18 @@ put-end-requires c κs =
 mark-before-requires : tie.Need-mark-before-requires
 mark-before-requires c κs = search needs
 
+far-level-requires : tie.Need-far-level-requires
+far-level-requires c κs = search needs
+
 same-length-2 : tie.Need-same-length-2
 same-length-2 c = search needs
 
 returns-4 : tie.Need-returns-4
 returns-4 c =
-    let e = c .before .before .before in
+    let e = c .before .before .before .before in
     let l = e .before .before in
     let s = l .before .before .before .before .before .before .before in
-    named-break (s .pre .1) (low l) (unmarked l) (e .put-end .ensures) (c .mark-before .ensures)
+    named-break (s .pre .1) (low l) (unmarked l) (e .put-end .ensures) (c .far-level .ensures ∙ ap farLevel (c .before .mark-before .ensures))
 
 pub step-spec : {M : Type 1} → statement M
 step-spec =
@@ -78,5 +82,6 @@ step-spec =
     returns-3
     put-end-requires
     mark-before-requires
+    far-level-requires
     same-length-2
     returns-4)

@@ -1,11 +1,11 @@
--- The arms are the classes that the definition asks for.
+-- Each branch settles the tests of the definition.
 -- Assumes nothing.
 use Prim.Native.Nat.{ℕ}
 use mathlib.Core.Path.{_≡_, refl}
 use mathlib.Core.Bool.{Bool, true, false, _&&_}
 use native.Mathlib.Omega.{arith}
 use lib.Dec.{leb}
-use borrow.Author.Tests.{leb-true, lt-leb, ne-eqb}
+use borrow.Author.Tests.{leb-true, le-leb, lt-leb, ne-eqb}
 use Rattle.message.specs.Scan.{isBreakClass}
 use Rattle.transcriber.specs.Sounds.{afterClass}
 use Rattle.transcriber.proofs.sounds.after_class.Statement.{statement}
@@ -21,23 +21,29 @@ no-break k n m = by (leb 2 k) refl
 
 returns : tie.Need-returns
 unfolding afterClass
-returns c = rw (c .match .keys1)
+returns c = rw (c .if2 .taken)
 
 returns-2 : tie.Need-returns-2
 unfolding afterClass
-returns-2 c = rw (c .match .keys2)
+returns-2 c =
+    let k = c .before .before .args .k in
+    rw (no-break k (λ e. omega arith) (λ e. omega arith), ne-eqb k 6 (λ e. omega arith), ne-eqb k 9 (c .if2 .left))
 
 returns-3 : tie.Need-returns-3
 unfolding afterClass
-returns-3 c = rw (c .match .keys3)
+returns-3 c = rw (c .if3 .taken)
 
 returns-4 : tie.Need-returns-4
 unfolding afterClass
-returns-4 c = rw (c .match .keys4)
+returns-4 c =
+    let k = c .before .before .before .args .k in
+    rw (le-leb 2 k (omega arith), le-leb k 3 (omega arith))
 
 returns-5 : tie.Need-returns-5
 unfolding afterClass
-returns-5 c = let r = c .match .rest in rw (no-break (c .before .args .k) (r .0 .0 .0 .1) (r .0 .0 .1), ne-eqb _ _ (r .0 .1), ne-eqb _ _ (r .1))
+returns-5 c =
+    let k = c .before .before .before .args .k in
+    rw (no-break k (λ e. omega arith) (λ e. omega arith), ne-eqb k 6 (λ e. omega arith), ne-eqb k 9 (λ e. omega arith))
 
 pub after-class-spec : {M : Type 1} → statement M
 after-class-spec = tie.close (tie.spec returns returns-2 returns-3 returns-4 returns-5)

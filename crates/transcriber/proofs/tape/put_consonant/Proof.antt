@@ -1,10 +1,11 @@
 -- The code that the table gives is the consonant's, and it is what stands right of the letter before.
 -- Assumes nothing.
-use Prim.Native.Nat.{suc, _<_}
+use Prim.Native.Nat.{suc, _%_, _<_}
 use mathlib.Core.Path.{_≡_, refl, sym, _∙_}
 use mathlib.Core.Bool.{true, false}
 use mathlib.Core.List.{[], _∷_}
 use native.Mathlib.Omega.{arith}
+use lib.Dec.{leb}
 use lib.ListN.{getD}
 use borrow.Author.Needs.{needs}
 use Rattle.message.specs.Letters.{small}
@@ -12,8 +13,8 @@ use Rattle.message.specs.Refusals.{consonantByte}
 use Rattle.message.specs.Places.{toneAt, codesAt}
 use Rattle.message.proofs.Bytes.{by-class}
 use Rattle.transcriber.specs.Sounds.{toneBy}
-use Rattle.transcriber.proofs.Raw.{consonant-small, sound-small, tone-small}
-use Rattle.transcriber.proofs.Walking.{Spelt, spelt-consonant, consonant-softens, consonant-codes, letter-room, letter-steps}
+use Rattle.transcriber.proofs.Raw.{consonant-small}
+use Rattle.transcriber.proofs.Walking.{Spelt, spelt-consonant, consonant-softens, consonant-codes, letter-room, right-sound, tone-no, plain-levels, letter-steps}
 use Rattle.transcriber.proofs.tape.put_consonant.Statement.{statement}
 use Rattle.transcriber.proofs.tape.put_consonant.Tie as tie
 
@@ -29,7 +30,7 @@ spelt s = spelt-consonant (getD (s .args .m .now) (s .args .i) 0) (s .pre .3 .st
 code-small : (c : tie.After-consonant-code) → c .consonant-code .result < 64
 code-small c =
     let s = c .before .before .before .before in
-    rw (c .consonant-code .ensures) (consonant-small (small (getD (s .args .m .now) (s .args .i) 0)) (s .args .r .soft) (toneBy (s .args .r .tone)) (s .args .r .sound))
+    rw (c .consonant-code .ensures) (consonant-small (small (getD (s .args .m .now) (s .args .i) 0)) (leb 64 (s .args .r .sound)) (toneBy (s .args .r .tone)) (s .args .r .sound % 64))
 
 -- it is what the letter puts on the tape
 code-put : (c : tie.After-consonant-code) → let s = c .before .before .before .before in codesAt (s .args .m .now) (s .args .i) ≡ c .consonant-code .result ∷ []
@@ -44,7 +45,7 @@ consonant-code-requires : tie.Need-consonant-code-requires
 consonant-code-requires c κs =
     let s = c .before .before .before in
     let i = suc (s .args .i) in
-    (s .pre .0, heard s, omega (arith, s .pre .3 .stands .tone, tone-small (toneAt (s .args .m .now) i)), omega (arith, s .pre .3 .stands .sound, sound-small (s .args .m .now) i))
+    (s .pre .0, heard s, rw (s .pre .3 .stands .tone) (tone-no (toneAt (s .args .m .now) i)), right-sound _ _ _ _ (s .pre .3) .2)
 
 cast-put : tie.Need-cast-put
 cast-put c = omega (arith, code-small (c .before))
@@ -68,8 +69,8 @@ returns c =
     let k = p .before .before in
     let s = k .before .before .before .before in
     let b = getD (s .args .m .now) (s .args .i) 0 in
-    letter-steps _ _ _ _ (s .pre .3) (p .put .last .0) (k .consonant-code .result ∷ []) (p .put .result) (c .tone-before .result) (k .consonant-code .result) false (s .args .r .ahead)
-    (spelt s) (code-put k) (c .tone-before .ensures) refl (sym (consonant-softens b (s .pre .3 .steady .bytes (s .args .i)) (heard s))) refl (p .put .ensures)
+    letter-steps _ _ _ _ (s .pre .3) (p .put .last .0) (k .consonant-code .result ∷ []) (p .put .result) (c .tone-before .result) (k .consonant-code .result) _ false
+    (spelt s) (code-put k) (c .tone-before .ensures) refl (sym (consonant-softens b (s .pre .3 .steady .bytes (s .args .i)) (heard s))) (omega arith) (plain-levels _ _ _ _ (s .pre .3) (spelt s)) (p .put .ensures)
 
 pub put-consonant-spec : {M : Type 1} → statement M
 put-consonant-spec =

@@ -13,8 +13,10 @@ use Rattle.message.specs.Scan.{classOf, isVowelClass}
 use Rattle.message.specs.Places.{codesAt}
 use Rattle.message.proofs.Bytes.{by-class}
 use Rattle.transcriber.specs.Sounds.{glideBy}
+use Rattle.transcriber.specs.Walk.{Levels}
+use Rattle.transcriber.proofs.Levels.{levels-vowel}
 use Rattle.transcriber.proofs.Putting.{put-over, put-length}
-use Rattle.transcriber.proofs.Walking.{Spelt, spelt-vowel, vowel-softens, glide-tone, glide-softens, Sung, sung-tone, sung-codes, sung-room, letter-room, letter-steps}
+use Rattle.transcriber.proofs.Walking.{Spelt, spelt-vowel, vowel-softens, glide-tone, glide-softens, Sung, sung-tone, sung-small, sung-codes, sung-room, letter-room, letter-steps}
 use Rattle.transcriber.proofs.tape.put_vowel.Statement.{statement}
 use Rattle.transcriber.proofs.tape.put_vowel.Tie as tie
 
@@ -28,18 +30,18 @@ spelt s = spelt-vowel (getD (s .args .m .now) (s .args .i) 0) (s .pre .3 .steady
 
 -- what was found of it
 sung : (c : tie.After-vowel-sound)
-    → let h = c .before .before .before .before in
+    → let h = c .before .before .before in
     let s = h .before .before .before .before .before in
     Sung (s .args .m .now) (s .args .i) (s .args .r) (h .before .before .class-before .result) (c .vowel-sound .result) (h .hard-before .result) (h .before .syllable-by .result)
 sung c =
-    let h = c .before .before .before .before in
+    let h = c .before .before .before in
     let s = h .before .before .before .before .before in
     record {
       letter = sings s;
       before = h .before .before .class-before .ensures;
       syllable = h .before .syllable-by .ensures;
       boundary = h .hard-before .ensures;
-      sound = rw (c .before .before .small-letter .ensures, c .before .after-class .ensures) at (c .vowel-sound .ensures);
+      sound = rw (c .before .after-class .ensures) at (c .vowel-sound .ensures);
     }
 
 -- whether it has a glide
@@ -51,13 +53,21 @@ glide-by c = rw (← c .before .before .before .before .before .before .before .
 
 -- its codes then
 codes-put : (c : tie.After-has-glide)
-    → let v = c .before .before .before .before .before in
-    let s = v .before .before .before .before .before .before .before .before .before in
+    → let v = c .before .before .before .before .before .before in
+    let s = v .before .before .before .before .before .before .before .before in
     codesAt (s .args .m .now) (s .args .i) ≡ cond (c .has-glide .result) (J ∷ v .vowel-sound .result ∷ []) (v .vowel-sound .result ∷ [])
 codes-put c =
-    let v = c .before .before .before .before .before in
-    let s = v .before .before .before .before .before .before .before .before .before in
+    let v = c .before .before .before .before .before .before in
+    let s = v .before .before .before .before .before .before .before .before in
     rw (← glide-by c) (sung-codes _ _ _ _ (s .pre .3) _ _ _ _ (sung v))
+
+-- the levels left of it
+levels : (c : tie.After-has-glide)
+    → let s = c .before .before .before .before .before .before .before .before .before .before .before .before .before .before in
+    Levels (s .args .m .now) (s .args .i) (c .before .level-before .result) (s .args .r .far)
+levels c =
+    let s = c .before .before .before .before .before .before .before .before .before .before .before .before .before .before in
+    rw (c .before .level-before .ensures) (levels-vowel (s .args .m .now) (s .pre .3 .steady) (s .args .i) (s .pre .3 .within) (sings s) (s .pre .3 .stands .levels))
 
 class-before-requires : tie.Need-class-before-requires
 class-before-requires c κs = search needs
@@ -68,24 +78,23 @@ syllable-by-requires c κs = search needs
 hard-before-requires : tie.Need-hard-before-requires
 hard-before-requires c κs = search needs
 
-shared-slice-read-small-letter : tie.Need-shared-slice-read-small-letter
-shared-slice-read-small-letter c = search needs
-
-small-letter-requires : tie.Need-small-letter-requires
-small-letter-requires c κs = search needs
+shared-slice-read-vowel-sound : tie.Need-shared-slice-read-vowel-sound
+shared-slice-read-vowel-sound c = search needs
 
 after-class-requires : tie.Need-after-class-requires
 after-class-requires c κs = search needs
 
 vowel-sound-requires : tie.Need-vowel-sound-requires
-unfolding vowelByte
-vowel-sound-requires c κs = rw (c .before .small-letter .ensures) (sings (c .before .before .before .before .before .before .before .before))
+vowel-sound-requires c κs = sings (c .before .before .before .before .before .before .before)
 
 put-requires : tie.Need-put-requires
 put-requires c κs =
     let v = c .before in
-    let s = v .before .before .before .before .before .before .before .before .before in
+    let s = v .before .before .before .before .before .before .before .before in
     (sung-room _ _ _ _ (s .pre .3) _ _ _ _ (sung v), s .pre .3 .place)
+
+level-before-requires : tie.Need-level-before-requires
+level-before-requires c κs = search needs
 
 has-glide-requires : tie.Need-has-glide-requires
 has-glide-requires c κs = search needs
@@ -93,9 +102,9 @@ has-glide-requires c κs = search needs
 put-requires-2 : tie.Need-put-requires-2
 put-requires-2 c κs =
     let g = c .before .before in
-    let p = g .before .before .before in
+    let p = g .before .before .before .before in
     let v = p .before .before in
-    let s = v .before .before .before .before .before .before .before .before .before in
+    let s = v .before .before .before .before .before .before .before .before in
     let l = letter-room _ _ _ _ (s .pre .3) (J ∷ v .vowel-sound .result ∷ []) (spelt s) (rw (c .before .if1 .taken) at (codes-put g)) in
     let n = put-length _ _ _ _ _ (s .pre .3 .place) (p .put .ensures) in
     (omega (arith, l, p .put .ensures .place), omega (arith, n, p .put .ensures .place, s .pre .3 .place))
@@ -108,31 +117,38 @@ returns c =
     let q = c .before .before in
     let t = q .before .before in
     let g = t .before in
-    let p = g .before .before .before in
+    let p = g .before .before .before .before in
     let v = p .before .before in
-    let h = v .before .before .before .before in
+    let h = v .before .before .before in
     let s = h .before .before .before .before .before in
     let b = getD (s .args .m .now) (s .args .i) 0 in
     let o = glide-softens (classOf b) (h .before .before .class-before .result) (h .before .syllable-by .result .cover) (glide-by g ∙ t .if1 .taken) in
-    letter-steps _ _ _ _ (s .pre .3) (q .put2 .last .0) (J ∷ v .vowel-sound .result ∷ []) (q .put2 .result) 0 J true (s .args .r .mark) (spelt s) (rw (t .if1 .taken) at (codes-put g))
-    (sym glide-tone) refl (sym (vowel-softens b (s .pre .3 .steady .bytes (s .args .i)) (sings s) ∙ o)) refl
+    letter-steps _ _ _ _ (s .pre .3) (q .put2 .last .0) (J ∷ v .vowel-sound .result ∷ []) (q .put2 .result) 0 J 92 true (spelt s) (rw (t .if1 .taken) at (codes-put g))
+    (sym glide-tone) refl (sym (vowel-softens b (s .pre .3 .steady .bytes (s .args .i)) (sings s) ∙ o)) refl (levels g)
     (put-over (v .vowel-sound .result ∷ []) (J ∷ []) _ _ _ _ _ _ (s .pre .3 .place) (p .put .ensures) (q .put2 .ensures))
 
-cast-t24 : tie.Need-cast-t24
-cast-t24 c = search needs
+cast-seen-over : tie.Need-cast-seen-over
+cast-seen-over c = search needs
+
+seen-over-requires : tie.Need-seen-over-requires
+seen-over-requires c κs =
+    let v = c .before .before .before .before .before .before .before in
+    omega (arith, sung-small _ _ _ _ (v .before .before .before .before .before .before .before .before .pre .3) _ _ _ _ (sung v))
 
 same-length-2 : tie.Need-same-length-2
 same-length-2 c = search needs
 
 returns-2 : tie.Need-returns-2
 returns-2 c =
-    let g = c .before in
-    let p = g .before .before .before in
+    let e = c .before in
+    let g = e .before in
+    let p = g .before .before .before .before in
     let v = p .before .before in
-    let s = v .before .before .before .before .before .before .before .before .before in
+    let s = v .before .before .before .before .before .before .before .before in
     let b = getD (s .args .m .now) (s .args .i) 0 in
-    letter-steps _ _ _ _ (s .pre .3) (p .put .last .0) (v .vowel-sound .result ∷ []) (p .put .result) 0 (v .vowel-sound .result) (not (eqb (s .args .c) 10)) (s .args .r .mark) (spelt s) (rw (c .if1 .left) at (codes-put g))
-    (sym (sung-tone _ _ _ _ (s .pre .3) _ _ _ _ (sung v))) refl (rw (s .pre .1) (sym (vowel-softens b (s .pre .3 .steady .bytes (s .args .i)) (sings s)))) refl (p .put .ensures)
+    let l = sung-small _ _ _ _ (s .pre .3) _ _ _ _ (sung v) in
+    letter-steps _ _ _ _ (s .pre .3) (p .put .last .0) (v .vowel-sound .result ∷ []) (p .put .result) 0 (v .vowel-sound .result) (c .seen-over .result) (not (eqb (s .args .c) 10)) (spelt s) (rw (e .if1 .left) at (codes-put g))
+    (sym (sung-tone _ _ _ _ (s .pre .3) _ _ _ _ (sung v))) refl (rw (s .pre .1) (sym (vowel-softens b (s .pre .3 .steady .bytes (s .args .i)) (sings s)))) (omega (arith, c .seen-over .ensures, l)) (levels g) (p .put .ensures)
 
 pub put-vowel-spec : {M : Type 1} → statement M
 put-vowel-spec =
@@ -141,15 +157,16 @@ put-vowel-spec =
     class-before-requires
     syllable-by-requires
     hard-before-requires
-    shared-slice-read-small-letter
-    small-letter-requires
+    shared-slice-read-vowel-sound
     after-class-requires
     vowel-sound-requires
     put-requires
+    level-before-requires
     has-glide-requires
     put-requires-2
     same-length
     returns
-    cast-t24
+    cast-seen-over
+    seen-over-requires
     same-length-2
     returns-2)

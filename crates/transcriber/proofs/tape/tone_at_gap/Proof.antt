@@ -1,5 +1,6 @@
--- Only a voicing sound has tone 1.
+-- Only a voicing sound has a voiced sound's tone.
 -- Assumes nothing.
+use Prim.Native.Nat.{_%_}
 use borrow.Author.Needs.{needs}
 use borrow.Author.Tests.{ne-eqb}
 use Rattle.transcriber.proofs.Walking.{gap-tone}
@@ -10,10 +11,10 @@ tone-before-requires : tie.Need-tone-before-requires
 tone-before-requires c κs = search needs
 
 returns : tie.Need-returns
-returns c = rw (gap-tone (c .before .before .args .sound), ← c .before .tone-before .ensures, c .if1 .taken)
+returns c = rw (gap-tone (c .before .before .args .sound % 64), ← c .before .tone-before .ensures, c .if1 .taken)
 
 returns-2 : tie.Need-returns-2
-returns-2 c = rw (gap-tone (c .before .before .args .sound), ← c .before .tone-before .ensures, ne-eqb (c .before .tone-before .result) 1 (c .if1 .left))
+returns-2 c = rw (gap-tone (c .before .before .args .sound % 64), ← c .before .tone-before .ensures, ne-eqb (c .before .tone-before .result) 32 (c .if1 .left))
 
 pub tone-at-gap-spec : {M : Type 1} → statement M
 tone-at-gap-spec = tie.close (tie.spec tone-before-requires returns returns-2)

@@ -1,6 +1,6 @@
 -- The check's refusal is answered, then a lent output that is too short; an accepted message is steady and has as many codes as the check counted, so its tape is written.
 -- Assumes nothing.
-use mathlib.Core.Path.{_≡_, refl, sym, _∙_}
+use mathlib.Core.Path.{_≡_, sym, _∙_}
 use native.Mathlib.Omega.{arith}
 use lib.ListN.{length}
 use borrow.Author.Needs.{needs}
@@ -9,8 +9,6 @@ use Rattle.message.specs.Refusals.{checkOf}
 use Rattle.message.specs.Answers.{tapeAnswer}
 use Rattle.message.specs.declared.Checked.the-variants.{Accepted}
 use Rattle.message.proofs.Accepted.{accepted-counts, accepted-steady}
-use Rattle.message.proofs.Computed.{everything}
-use Rattle.transcriber.specs.Sounds.{toneNo, hardCode, letterGroup, soundGroup, soundTable}
 use Rattle.transcriber.proofs.Putting.{put-first}
 use Rattle.transcriber.proofs.Answering.{answered-refused, answered-short, answered-written}
 use Rattle.transcriber.proofs.tape.transcribe.Statement.{statement}
@@ -51,17 +49,24 @@ returns-2 c =
     let s = k .before .before .before .before .before in
     answered-short (checkOf (s .args .m .now)) (k .checked .given .0 .0) (accepted k) (length (tape (s .args .m .now))) (k .checked .given .0 .0 .codes) 0 (counted k) (tape (s .args .m .now)) (s .args .out .now) (c .if1 .taken)
 
+class-table-requires : tie.Need-class-table-requires
+class-table-requires c κs = search needs
+
+sound-table-requires : tie.Need-sound-table-requires
+sound-table-requires c κs = search needs
+
 write-tape-requires : tie.Need-write-tape-requires
-unfolding everything toneNo hardCode letterGroup soundGroup soundTable
 write-tape-requires c κs =
-    let k = c .before .before .before .before .before in
+    let a = c .before .before .before in
+    let e = a .before .before in
+    let k = e .before .before in
     let s = k .before .before .before .before .before in
     let n = counted k in (
-      refl,
-      refl,
+      a .before .class-table .ensures,
+      a .sound-table .ensures,
       accepted-steady (s .args .m .now) (k .checked .given .0 .0) (accepted k) (λ j. omega (arith, k .before .before .before .before .shared-slice-known .given j)),
       omega (arith, n),
-      c .before .before .before .if1 .left,
+      e .if1 .left,
     )
 
 same-length : tie.Need-same-length
@@ -71,11 +76,12 @@ returns-3 : tie.Need-returns-3
 unfolding tapeAnswer
 returns-3 c =
     let f = c .before .before in
-    let k = f .before .before .before .before .before .before in
+    let e = f .before .before .before .before .before .before in
+    let k = e .before .before in
     let s = k .before .before .before .before .before in
     let n = k .checked .given .0 .0 .codes in
     answered-written (checkOf (s .args .m .now)) (k .checked .given .0 .0) (accepted k) (length (tape (s .args .m .now))) n 0 (counted k) (tape (s .args .m .now)) (s .args .out .now)
-    (f .write-tape .last .1 .0) (f .before .before .before .before .if1 .left)
+    (f .write-tape .last .1 .0) (e .if1 .left)
     (put-first (tape (s .args .m .now)) (s .args .out .now) (f .write-tape .last .1 .0) n (f .write-tape .result) (counted k) (f .write-tape .ensures))
 
 pub transcribe-spec : {M : Type 1} → statement M
@@ -88,6 +94,8 @@ transcribe-spec =
     refused-requires
     returns
     returns-2
+    class-table-requires
+    sound-table-requires
     write-tape-requires
     same-length
     returns-3)

@@ -1,7 +1,7 @@
 -- The walk so far is carried by one record, to which each step adds the piece of its byte.
 -- Assumes nothing.
 use lib.ListN.{length}
-use Rattle.transcriber.proofs.Filling.{walked-none, walked-ready, walked-more}
+use Rattle.transcriber.proofs.Filling.{walked-none, walked-length, walked-ready, walked-more}
 use Rattle.transcriber.specs.Walk.{Walked}
 use native.Mathlib.Omega.{arith}
 use mathlib.Core.Path.{_≡_}
@@ -10,7 +10,7 @@ use Rattle.transcriber.proofs.tape.walk_back.Statement.{statement}
 use Rattle.transcriber.proofs.tape.walk_back.Tie as tie
 
 abbrev Inv-loop : tie.InvT-loop
-Inv-loop m out₀ from to t s i₀ q₀ out i q = (to ≤ i) × (i ≤ from) × (q .at ≤ q₀ .at) × Walked m out₀ out from i q₀ q
+Inv-loop m out₀ from to t s i₀ q₀ out i q = (to ≤ i) × (i ≤ from) × Walked m out₀ out from i q₀ q
 
 abbrev μ-loop : tie.MeasureT-loop
 μ-loop m out₀ from to t s i₀ q₀ out i q = i
@@ -22,10 +22,10 @@ inside : (c : tie.In-loop Inv-loop μ-loop)
     Walked (s .args .m .now) (s .args .out .now) (l .loop .out) (s .args .from) (suc (l .loop .i - 1)) (s .args .r) (l .loop .q)
 inside c =
     let e : suc (c .before .loop .i - 1) ≡ c .before .loop .i = omega (arith, c .loop-test .taken) in
-    rw e (c .before .loop .inv .3)
+    rw e (c .before .loop .inv .2)
 
 loop-holds : tie.Need-loop-holds Inv-loop μ-loop
-loop-holds c = let s = c .before .before in (s .pre .2 .order, omega arith, omega arith, walked-none _ _ _ _ (s .pre .2 .stands))
+loop-holds c = let s = c .before .before in (s .pre .2 .order, omega arith, walked-none _ _ _ _ (s .pre .2 .stands))
 
 sub-i : tie.Need-sub-i Inv-loop μ-loop
 sub-i c = omega arith
@@ -34,7 +34,7 @@ step-requires : tie.Need-step-requires Inv-loop μ-loop
 step-requires c κs = let l = c .before .before in
     let s = l .before .before .before in
     let w = inside (c .before) in
-    (s .pre .0, s .pre .1, walked-ready _ (s .pre .2 .steady) _ _ _ _ _ _ (omega (arith, s .pre .2 .within)) (s .pre .2 .room) (s .pre .2 .place) (l .loop .inv .2) w)
+    (s .pre .0, s .pre .1, walked-ready _ (s .pre .2 .steady) _ _ _ (s .pre .2 .place) _ _ _ (omega (arith, s .pre .2 .within)) (s .pre .2 .room) w)
 
 loop-less : tie.Need-loop-less Inv-loop μ-loop
 loop-less c = omega arith
@@ -45,16 +45,17 @@ loop-again c = let n = c .before .before in
     let l = i .before in
     let s = l .before .before .before in
     let h : l .loop .i - 1 < length (s .args .m .now) = omega (arith, s .pre .2 .within, l .loop .inv .1, i .loop-test .taken) in
-    let b : l .loop .q .at ≤ length (l .loop .out) = omega (arith, s .pre .2 .place, l .loop .inv .2, l .loop .inv .3 .size) in
-    (omega (arith, i .loop-test .taken), omega (arith, l .loop .inv .1), omega (arith, l .loop .inv .2, n .step .ensures .put .place), walked-more _ (s .pre .2 .steady) _ _ _ _ _ _ _ _ h b (inside i) (n .step .ensures))
+    (omega (arith, i .loop-test .taken), omega (arith, l .loop .inv .1), walked-more _ (s .pre .2 .steady) _ _ _ (s .pre .2 .place) _ _ _ _ _ h (inside i) (n .step .ensures))
 
 same-length : tie.Need-same-length Inv-loop μ-loop
-same-length c = let l = c .before in l .loop .inv .3 .size
+same-length c = let l = c .before in
+    let s = l .before .before .before in
+    walked-length _ (s .pre .2 .steady) _ _ _ (s .pre .2 .place) _ _ _ (l .loop .inv .2)
 
 returns : tie.Need-returns Inv-loop μ-loop
 returns c = let l = c .before in
     let e : l .loop .i ≡ l .before .before .before .args .to = omega (arith, c .loop-test .left, l .loop .inv .0) in
-    rw e at (l .loop .inv .3)
+    rw e at (l .loop .inv .2)
 
 pub walk-back-spec : {M : Type 1} → statement M
 walk-back-spec =

@@ -20,7 +20,7 @@ past m (suc i) k e n = omega arith
 
 returns : tie.Need-returns
 unfolding hardBefore
-returns c = rw (← c .before .before .pre .2, ne-eqb _ _ (c .if1 .taken))
+returns c = let s = c .before .before in rw (← s .pre .2, ne-eqb (s .args .k) 2 (c .if1 .taken))
 
 sub-class-before : tie.Need-sub-class-before
 sub-class-before c = let s = c .before .before in past (s .args .m .now) (s .args .i) (s .args .k) (s .pre .2) (λ e. omega arith)

@@ -1,0 +1,29 @@
+-- The part's tape is written where it is changed, and stands there where it is not.
+-- Assumes nothing.
+use Prim.Native.Nat.{_-_}
+use mathlib.Core.Path.{_≡_}
+use native.Mathlib.Omega.{arith}
+use lib.ListN.{length}
+use borrow.Author.Needs.{needs}
+use Rattle.message.specs.Tape.{tape}
+use Rattle.joiner.proofs.join.write_part.Statement.{statement}
+use Rattle.joiner.proofs.join.write_part.Tie as tie
+
+write-tape-requires : tie.Need-write-tape-requires
+write-tape-requires c κs = search needs
+
+same-length : tie.Need-same-length
+same-length c = search needs
+
+returns : tie.Need-returns
+returns c =
+    let w = c .before .before in
+    let s = w .before .before .before .before .before in
+    let e : s .args .end - length (tape (s .args .p .now)) ≡ w .write-tape .result = omega (arith, w .write-tape .ensures .place) in
+    rw e (w .write-tape .ensures)
+
+returns-2 : tie.Need-returns-2
+returns-2 c = c .before .before .before .pre .2 .stands (c .if1 .left)
+
+pub write-part-spec : {M : Type 1} → statement M
+write-part-spec = tie.close (tie.spec write-tape-requires same-length returns returns-2)

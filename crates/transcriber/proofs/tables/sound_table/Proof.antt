@@ -1,0 +1,14 @@
+-- The numbers are the rule's, by one computation.
+-- Assumes nothing.
+use mathlib.Core.Path.{refl}
+use Rattle.message.proofs.Computed.{everything}
+use Rattle.transcriber.specs.Sounds.{toneNo, hardCode, letterGroup, soundGroup, groupOf, softIn, softNo, soundTable}
+use Rattle.transcriber.proofs.tables.sound_table.Statement.{statement}
+use Rattle.transcriber.proofs.tables.sound_table.Tie as tie
+
+returns : tie.Need-returns
+unfolding everything toneNo hardCode letterGroup soundGroup groupOf softIn softNo soundTable
+returns c = refl
+
+pub sound-table-spec : {M : Type 1} → statement M
+sound-table-spec = tie.close (tie.spec returns)
