@@ -1,70 +1,66 @@
-//! A search for messages on which the library and the paper part: inputs are changed a little, and
-//! those that meet something new are kept to be changed further.
+//! What a fuzzer's bytes stand for: a list of cuts and a message. `fuzz/` has the target.
 
-pub mod features;
-pub mod mutation;
-
-use std::collections::HashSet;
-
-use crate::gen::{good_cuts, lexicon, Rng};
-use crate::text::cp1251;
+use crate::gen::Rng;
+use crate::message::breaks;
 use crate::trial;
 
-/// A message and a list of cuts for the joiner.
-#[derive(Clone, Debug, Default)]
-pub struct Input {
-    pub msg: Vec<u8>,
+/// How many bytes a cut that is written out takes.
+const WRITTEN: usize = 3;
+
+/// A list of cuts and a message, on which the library and the paper are compared.
+#[derive(Debug, PartialEq, Eq)]
+pub struct Input<'a> {
     pub cuts: Vec<usize>,
+    pub msg: &'a [u8],
 }
 
-/// The inputs kept so far and what they met.
-pub struct Search {
-    rng: Rng,
-    corpus: Vec<Input>,
-    features: HashSet<u32>,
-    executions: usize,
+impl<'a> Input<'a> {
+    /// The first byte says how the cuts are made: none, all breaks, those that the bits of the
+    /// second byte choose, or those and then up to four that are written out, good or bad. The
+    /// message is what is left. So most changes of a byte keep either the message or a good list.
+    pub fn of(data: &'a [u8]) -> Self {
+        let (&[how, bits], rest) = data.split_first_chunk().unwrap_or((&[0, 0], &[]));
+        let (bits, count) = match how % 4 {
+            0 => (0, 0),
+            1 => (u8::MAX, 0),
+            2 => (bits, 0),
+            _ => (bits, 1 + how / 4 % 4),
+        };
+        let length = WRITTEN * usize::from(count);
+        let (written, msg) = rest.split_at(length.min(rest.len()));
+        let mut cuts = chosen_breaks(msg, bits);
+        cuts.extend(written.chunks_exact(WRITTEN).map(written_cut));
+        Input { cuts, msg }
+    }
+
+    /// Tries all operations, and says what is wrong with the library's answer.
+    pub fn compare(&self, rng: &mut Rng) -> Result<(), String> {
+        trial::once(rng, self.msg, &self.cuts)
+            .map_err(|difference| format!("{difference}\ncuts, hexadecimal: {:X?}", self.cuts))
+    }
 }
 
-impl Search {
-    /// A search that begins with the empty message and a few words.
-    pub fn new(mut rng: Rng) -> Self {
-        let mut corpus = vec![Input::default()];
-        for _ in 0..20 {
-            let pair = [rng.pick(lexicon::words()), rng.pick(lexicon::words())];
-            let msg = cp1251(&pair.join(" "));
-            let cuts = good_cuts(&mut rng, &msg);
-            corpus.push(Input { msg, cuts });
-        }
-        Search {
-            rng,
-            corpus,
-            features: HashSet::new(),
-            executions: 0,
-        }
-    }
+/// The breaks whose bits are set; the bits come again for each eight breaks.
+fn chosen_breaks(msg: &[u8], bits: u8) -> Vec<usize> {
+    let is_chosen = |index: usize| bits >> (index % 8) & 1 == 1;
+    let breaks = breaks(msg).into_iter().enumerate();
+    breaks
+        .filter_map(|(index, place)| is_chosen(index).then_some(place))
+        .collect()
+}
 
-    /// Tries one more input; gives it with what is wrong if the library answers it otherwise.
-    pub fn step(&mut self) -> Result<(), (Input, String)> {
-        let input = mutation::mutated(&mut self.rng, &self.corpus);
-        self.executions += 1;
-        if let Err(difference) = trial::once(&mut self.rng, &input.msg, &input.cuts) {
-            return Err((input, difference));
-        }
-        let known = self.features.len();
-        self.features.extend(features::of(&input));
-        if self.features.len() > known {
-            self.corpus.push(input);
-        }
-        Ok(())
+/// A place from two bytes, below 0 from the upper half, with one more bit changed if the third byte
+/// is not 0: huge cuts look like good ones to a narrower number.
+fn written_cut(bytes: &[u8]) -> usize {
+    let place = i16::from_le_bytes([bytes[0], bytes[1]]) as usize;
+    match bytes[2] {
+        0 => place,
+        far => place ^ 1_usize.rotate_left(far.into()),
     }
+}
 
-    /// A line that says how far the search has come.
-    pub fn report(&self) -> String {
-        format!(
-            "{} executions, {} inputs kept, {} features reached",
-            self.executions,
-            self.corpus.len(),
-            self.features.len()
-        )
-    }
+/// A generator for the lengths and contents of the outputs, the same for the same bytes.
+pub fn rng(data: &[u8]) -> Rng {
+    let mixed = |seed: u64, &byte: &u8| (seed ^ u64::from(byte)).wrapping_mul(0x0100_0000_01B3);
+    Rng::new(data.iter().fold(0xCBF2_9CE4_8422_2325, mixed))
 }

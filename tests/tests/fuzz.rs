@@ -1,16 +1,53 @@
-//! A short run of the search for a difference between the library and the paper. The environment
-//! variable GOVORUN_FUZZ_SECONDS makes it longer.
+//! A short run of the fuzzer's search for a difference between the library and the paper, and what
+//! its inputs stand for. The environment variable GOVORUN_FUZZ_SECONDS makes the run longer.
 
 use std::env;
 use std::process::Command;
 
+use govorun_tests::cp1251;
+use govorun_tests::fuzz::Input;
+
 #[test]
 fn the_search_finds_no_difference() {
-    let seconds = env::var("GOVORUN_FUZZ_SECONDS").unwrap_or_else(|_| "20".to_string());
-    let mut command = Command::new(env!("CARGO_BIN_EXE_fuzz"));
+    let seconds = env::var("GOVORUN_FUZZ_SECONDS").unwrap_or_else(|_| "60".to_string());
+    let mut command = Command::new(concat!(env!("CARGO_MANIFEST_DIR"), "/fuzz/run"));
     let output = command.arg(seconds).output().expect("the search starts");
     let printed = String::from_utf8_lossy(&output.stdout);
     let complaint = String::from_utf8_lossy(&output.stderr);
-    println!("{printed}{complaint}");
-    assert!(output.status.success(), "{}", output.status);
+    assert!(output.status.success(), "{}\n{complaint}", output.status);
+    println!("{}", printed.lines().last().expect("a report"));
+}
+
+/// The cuts of an input with this beginning and ten words of one letter.
+fn made(beginning: &[u8]) -> Vec<usize> {
+    let msg = cp1251("а б в г д е ж з и к");
+    let data = [beginning, &msg].concat();
+    let input = Input::of(&data);
+    assert_eq!(input.msg, msg);
+    input.cuts
+}
+
+#[test]
+fn cuts_at_no_break_at_all_or_at_some() {
+    assert_eq!(made(&[0, 0xFF]), []);
+    assert_eq!(made(&[1, 0]), [1, 3, 5, 7, 9, 11, 13, 15, 17]);
+    assert_eq!(made(&[2, 0b1000_0101]), [1, 5, 15, 17]);
+}
+
+#[test]
+fn cuts_that_are_written_out() {
+    assert_eq!(made(&[3, 1, 5, 0, 0]), [1, 17, 5]);
+    assert_eq!(made(&[7, 0, 1, 0, 0, 0xFF, 0xFF, 0]), [1, usize::MAX]);
+    assert_eq!(made(&[3, 0, 3, 0, 32]), [(1 << 32) + 3]);
+}
+
+#[test]
+fn short_inputs() {
+    let nothing = Input {
+        cuts: Vec::new(),
+        msg: &[],
+    };
+    for data in [&[][..], &[3], &[1, 0], &[15, 0, 1, 0]] {
+        assert_eq!(Input::of(data), nothing, "{data:?}");
+    }
 }

@@ -155,6 +155,23 @@ fn messages_of_about_the_longest_length() {
     }
 }
 
+/// Every kind of byte as the 65th letter of a word, and near it, with and without marks before it.
+#[test]
+fn words_of_about_the_longest_length() {
+    let mut rng = Rng::for_test(32);
+    let tails = "|*|а*б|стн|здно|нтский|ста|ндшт|ьа|ъя|ъь|7| и|#а| ";
+    for filler in ["а", "а*", "з", "с"] {
+        for count in 60..=66 {
+            for tail in tails.split('|') {
+                for lead in ["", "к ", "дуб стн "] {
+                    let msg = cp1251(&[lead, &filler.repeat(count), tail].concat());
+                    agrees(&mut rng, &msg, &breaks(&msg));
+                }
+            }
+        }
+    }
+}
+
 #[test]
 fn extreme_messages_with_many_cuts() {
     let mut rng = Rng::for_test(28);
