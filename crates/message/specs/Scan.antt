@@ -1,4 +1,4 @@
--- How the code walks a message: a class for each byte, a kind for what stands before it, and a table for each of the two. These are not the paper's words: `proofs/` shows that they agree with them.
+-- How the code walks a message: a class for each byte, a kind for what stands before it, and two tables, of the classes and of what a kind and a class come to. These are not the paper's words: `proofs/` shows that they agree with them.
 -- Assumes nothing: these are definitions.
 use Prim.Native.Nat.{ℕ, zero, suc, _+_, _-_, _*_, _/_, _%_, _≤_, _<_}
 use mathlib.Core.Path.{_≡_}

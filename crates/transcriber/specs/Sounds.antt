@@ -123,15 +123,15 @@ unfoldable pub softIn : ℕ → Bool → ℕ → Bool
 softIn own soft group =
     cond (eqb own 0) false (soft || (cond (eqb group 0) false (eqb own group || (eqb own 2 && eqb group 1))))
 
--- A sound has 64 added where the letter that makes it palatalizes the one before: that is group 10, which all letters with a group go before.
+-- A sound has 64 added where the letter that makes it palatalizes the one before. That is group 10: before it every letter that has a group is palatalized.
 unfoldable pub groupOf : ℕ → ℕ
 groupOf s = cond (leb 64 s) 10 (soundGroup s)
 
--- 1 where a letter of this group is palatalized before that group
+-- 1 where a letter of the group `own` is palatalized before a sound of this group
 unfoldable pub softNo : ℕ → ℕ → ℕ
 softNo group own = cond (softIn own (eqb group 10) group) 1 0
 
--- the table: hard codes under the three tones for the letters а to я, their groups, for each code its tone, for each sound 16 times its group, then for each group before which letters it palatalizes
+-- the table: hard codes under the three tones for the letters а to я, their groups, for each code its tone, for each sound 16 times its group, then for each group of sounds which groups of letters it palatalizes
 unfoldable pub soundTable : List ℕ
 soundTable =
     tabulate (λ j. hardCode asWritten (224 + j)) 0 32
