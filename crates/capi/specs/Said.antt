@@ -3,9 +3,9 @@
 use Prim.Native.Nat.{ℕ, _≤_}
 use mathlib.Core.Path.{_≡_}
 use mathlib.Core.List.{List}
-use Rattle.message.specs.Answers.{numberOf, placeOf, lengthOf, liveOf, checkedNumber, checkedPlace, checkedCodes, checkedNames, outputAfter}
-use Rattle.message.specs.declared.Answer.{Answer}
-use Rattle.message.specs.declared.Checked.{Checked}
+use Rattle.spec.specs.Answers.{numberOf, placeOf, lengthOf, liveOf, checkedNumber, checkedPlace, checkedCodes, checkedNames, outputAfter}
+use Rattle.spec.specs.declared.Answer.{Answer}
+use Rattle.spec.specs.declared.Checked.{Checked}
 use Rattle.capi.specs.declared.GovorunAnswer.{GovorunAnswer}
 use Rattle.capi.specs.declared.GovorunCounts.{GovorunCounts}
 

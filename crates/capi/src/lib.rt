@@ -2,15 +2,15 @@
 ghost use Prim.Native.Nat.{_≤_};
 ghost use mathlib.Core.Path.{_≡_};
 ghost use lib.ListN.{length};
-ghost use Rattle.message.specs.Tape.{tape, names};
-ghost use Rattle.message.specs.Joints.{joined};
-ghost use Rattle.message.specs.Refusals.{checkOf};
-ghost use Rattle.message.specs.Answers.{nameAnswer, tapeAnswer, joinAnswer};
+ghost use Rattle.spec.specs.Tape.{tape, names};
+ghost use Rattle.spec.specs.Joints.{joined};
+ghost use Rattle.spec.specs.Refusals.{checkOf};
+ghost use Rattle.spec.specs.Answers.{nameAnswer, tapeAnswer, joinAnswer};
 ghost use Rattle.capi.specs.Said.{Said, Counted, Done, Fits};
 use joiner::join::join;
-use message::Answer;
-use message::Checked;
 use message::check::check;
+use spec::Answer;
+use spec::Checked;
 use transcriber::naming::name;
 use transcriber::tape::transcribe;
 

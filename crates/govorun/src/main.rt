@@ -3,8 +3,8 @@ ghost use Prim.Native.Nat.{_+_, _*_, _≤_};
 ghost use lib.ListN.{length};
 use libc::STDIN_FILENO;
 use libc::STDOUT_FILENO;
-use message::Answer;
-use message::Refusal;
+use spec::Answer;
+use spec::Refusal;
 use transcriber::tape::transcribe;
 
 // Puts a code below 100 in decimal, and a space, at place at of the text.

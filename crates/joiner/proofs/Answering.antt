@@ -7,14 +7,14 @@ use native.Mathlib.Omega.{arith}
 use borrow.Author.Tests.{eq-eqb, ne-eqb, le-leb, lt-leb}
 use lib.ListN.{length, take, drop}
 use lib.Seq.{length-take-le}
-use Rattle.message.specs.Refusals.{refusal, checkOf}
-use Rattle.message.specs.Joints.{joined, liveCount, badCut}
-use Rattle.message.specs.Answers.{Answered, within, afterCheck, outputAfter, joinAnswer}
-use Rattle.message.specs.declared.Counts.{Counts}
-use Rattle.message.specs.declared.Refusal.{Refusal}
-use Rattle.message.specs.declared.Checked.the-variants as checked
-use Rattle.message.specs.declared.Answer.the-variants.{Written, Refused}
-use Rattle.message.proofs.Accepted.{accepted-counts}
+use Rattle.spec.specs.Refusals.{refusal, checkOf}
+use Rattle.spec.specs.Joints.{joined, liveCount, badCut}
+use Rattle.spec.specs.Answers.{Answered, within, afterCheck, outputAfter, joinAnswer}
+use Rattle.spec.specs.declared.Counts.{Counts}
+use Rattle.spec.specs.declared.Refusal.{Refusal}
+use Rattle.spec.specs.declared.Checked.the-variants as checked
+use Rattle.spec.specs.declared.Answer.the-variants.{Written, Refused}
+use Rattle.laws.proofs.Accepted.{accepted-counts}
 use Rattle.laws.proofs.Cuts.{rising-of}
 use Rattle.laws.proofs.Cutting.{cutting}
 use Rattle.joiner.specs.Writing.{TapeDue}

@@ -8,7 +8,7 @@ use mathlib.Core.Logic.{inl, inr}
 use native.Mathlib.Omega.{arith}
 use borrow.Author.Tests.{ne-eqb}
 use types.Run.{OneOf}
-use Rattle.message.specs.Tables.{among}
+use Rattle.spec.specs.Tables.{among}
 use Rattle.message.proofs.Bytes.{below, below-same}
 
 -- a byte that is none of the keys

@@ -8,8 +8,8 @@ use native.Mathlib.Numerals.{add-one}
 use native.Mathlib.Omega.{arith}
 use lib.ListN.{length, drop, getD, drop-of-length-le}
 use lib.Seq.{drop-cons}
-use Rattle.message.specs.Letters.{isBreak}
-use Rattle.message.specs.Joints.{row12, badCutFrom, badCut}
+use Rattle.spec.specs.Letters.{isBreak}
+use Rattle.spec.specs.Joints.{row12, badCutFrom, badCut}
 use Rattle.laws.proofs.Cuts.{break-within}
 
 -- no cut before index k is bad, and least is the least place that the next one may have

@@ -7,8 +7,8 @@ use mathlib.Core.List.{List, [], _∷_}
 use native.Mathlib.Omega.{arith}
 use lib.ListN.{length, drop, getD}
 use mir.Val.{boolByte}
-use Rattle.message.specs.Letters.{isBreak}
-use Rattle.message.specs.Joints.{liveCount}
+use Rattle.spec.specs.Letters.{isBreak}
+use Rattle.spec.specs.Joints.{liveCount}
 use Rattle.laws.proofs.Cuts.{RisingFrom}
 use Rattle.laws.proofs.Parts.{before-here, after-here, live-here}
 use Rattle.joiner.specs.Writing.{Changing}

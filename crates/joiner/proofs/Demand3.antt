@@ -7,15 +7,15 @@ use mathlib.Core.Logic.{_↔_, inl, inr, ⊎-elim}
 use mathlib.Core.List.{List, [], _∷_, _++_}
 use native.Mathlib.Omega.{arith}
 use lib.ListN.{length, drop, getD}
-use Rattle.message.specs.Codes.{markOf}
-use Rattle.message.specs.Tape.{tape}
-use Rattle.message.specs.Refusals.{checkOf}
-use Rattle.message.specs.Joints.{joined, markIndex, isLive, liveCount}
-use Rattle.message.specs.Answers.{Answered, liveOf, outputAfter, joinAnswer}
-use Rattle.message.specs.declared.Counts.{Counts}
-use Rattle.message.specs.declared.Checked.the-variants.{Accepted}
-use Rattle.message.specs.declared.Answer.{Answer}
-use Rattle.message.specs.declared.Answer.the-variants.{Written}
+use Rattle.spec.specs.Codes.{markOf}
+use Rattle.spec.specs.Tape.{tape}
+use Rattle.spec.specs.Refusals.{checkOf}
+use Rattle.spec.specs.Joints.{joined, markIndex, isLive, liveCount}
+use Rattle.spec.specs.Answers.{Answered, liveOf, outputAfter, joinAnswer}
+use Rattle.spec.specs.declared.Counts.{Counts}
+use Rattle.spec.specs.declared.Checked.the-variants.{Accepted}
+use Rattle.spec.specs.declared.Answer.{Answer}
+use Rattle.spec.specs.declared.Answer.the-variants.{Written}
 use Rattle.laws.proofs.Cuts.{Rising, CutOf, rising-to}
 use Rattle.laws.proofs.Cutting.{DiffersAt, cutting}
 use Rattle.joiner.proofs.Answering.{join-due}

@@ -11,16 +11,17 @@ use lib.Dec.{leb}
 use mir.Val.{boolByte}
 use lib.ListN.{length, take, drop, getD, length-append, length-take, length-drop, List·getD-eq-default}
 use lib.Seq.{length-take-le, take-all, take-at, drop-at, drop-length, drop-cons, getD-take, getD-drop, getD-append-add}
-use Rattle.message.specs.Letters.{isBreak, read}
-use Rattle.message.specs.Codes.{markOf}
-use Rattle.message.specs.Palatalization.{firstCode}
-use Rattle.message.specs.Tape.{tape, segment}
+use Rattle.spec.specs.Letters.{isBreak, read}
+use Rattle.spec.specs.Codes.{markOf}
+use Rattle.spec.specs.Palatalization.{firstCode}
+use Rattle.spec.specs.Tape.{tape, segment}
 use Rattle.message.specs.Places.{Steady, tapeAt, wordAt}
-use Rattle.message.specs.Refusals.{checkOf}
-use Rattle.message.specs.Joints.{joinedFrom, joined, liveCount}
-use Rattle.message.specs.declared.Counts.{Counts}
-use Rattle.message.specs.declared.Checked.the-variants.{Accepted}
-use Rattle.message.proofs.Accepted.{countsOf, accepted-steady}
+use Rattle.spec.specs.Refusals.{checkOf}
+use Rattle.spec.specs.Joints.{joinedFrom, joined, liveCount}
+use Rattle.spec.specs.declared.Counts.{Counts}
+use Rattle.spec.specs.declared.Checked.the-variants.{Accepted}
+use Rattle.laws.proofs.Accepted.{countsOf}
+use Rattle.message.proofs.Steadiness.{accepted-steady}
 use Rattle.message.proofs.Left.{left-break}
 use Rattle.message.proofs.Tail.{start-tape, marked-after, tape-start, tape-end, tape-break}
 use Rattle.transcriber.specs.Walk.{Stands, Put, MayWalk, Walked}

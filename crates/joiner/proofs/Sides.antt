@@ -9,16 +9,16 @@ use native.Mathlib.Numerals.{add-one}
 use lib.Dec.{eqb}
 use lib.ListN.{length, getD, take, drop}
 use lib.Seq.{take-suc, getD-drop}
-use Rattle.message.specs.Alphabet.{mark, «ж», «и», «ц», «ш», «э»}
-use Rattle.message.specs.Tables.{among}
-use Rattle.message.specs.Letters.{Letter, Message, last, more, putLetter, read, firstWord, lastWord, beginsWithMark, small, plainVowels, softeningVowels, signs, isMark, isBreak, isVowel, isSign, isConsonant, isHardOnly, isPaired, isObstruent}
-use Rattle.message.specs.Vowels.{hardEnd, endsHardFrom, endsHard}
+use Rattle.spec.specs.Alphabet.{mark, «ж», «и», «ц», «ш», «э»}
+use Rattle.spec.specs.Tables.{among}
+use Rattle.spec.specs.Letters.{Letter, Message, last, more, putLetter, read, firstWord, lastWord, beginsWithMark, small, plainVowels, softeningVowels, signs, isMark, isBreak, isVowel, isSign, isConsonant, isHardOnly, isPaired, isObstruent}
+use Rattle.spec.specs.Vowels.{hardEnd, endsHardFrom, endsHard}
 use Rattle.message.specs.Scan.{letterAt, letterBefore}
 use Rattle.message.specs.Places.{leftAt, letterOf, Steady}
-use Rattle.message.specs.Joints.{wordBefore, wordAfter, endsInObstruentFrom, endsInObstruent, beginsWithIOrE}
+use Rattle.spec.specs.Joints.{wordBefore, wordAfter, endsInObstruentFrom, endsInObstruent, beginsWithIOrE}
 use Rattle.message.proofs.Bytes.{below-same, not-both, break-vowel}
 use Rattle.message.proofs.Before.{vowel-before}
-use Rattle.message.proofs.Classes.{among-same}
+use Rattle.laws.proofs.Classes.{among-same}
 use Rattle.message.proofs.Left.{word-put, begins-at, left-letter, left-mark, left-break, unmarked-after}
 use Rattle.message.proofs.Silent.{alike-before}
 

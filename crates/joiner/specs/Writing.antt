@@ -5,13 +5,13 @@ use mathlib.Core.Path.{_≡_}
 use mathlib.Core.Bool.{Bool, false, _&&_}
 use mathlib.Core.List.{List}
 use lib.ListN.{length, getD}
-use Rattle.message.specs.Letters.{isGap}
-use Rattle.message.specs.Tape.{tape}
+use Rattle.spec.specs.Letters.{isGap}
+use Rattle.spec.specs.Tape.{tape}
 use Rattle.message.specs.Places.{Steady}
-use Rattle.message.specs.Refusals.{checkOf}
-use Rattle.message.specs.Joints.{badCut, liveByVoice, liveByHardness}
-use Rattle.message.specs.declared.Counts.{Counts}
-use Rattle.message.specs.declared.Checked.the-variants.{Accepted}
+use Rattle.spec.specs.Refusals.{checkOf}
+use Rattle.spec.specs.Joints.{badCut, liveByVoice, liveByHardness}
+use Rattle.spec.specs.declared.Counts.{Counts}
+use Rattle.spec.specs.declared.Checked.the-variants.{Accepted}
 use Rattle.transcriber.specs.Walk.{Put}
 use Rattle.joiner.specs.declared.Changes.{Changes}
 

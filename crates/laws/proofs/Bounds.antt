@@ -1,30 +1,33 @@
 -- How large an answer's numbers can be, whatever the bytes and the cuts: no place is past 4,096 bytes, a byte makes at most two codes and one name, and each good cut takes a break of its own.
 -- Assumes nothing.
-use Prim.Native.Nat.{ℕ, zero, suc, _+_, _-_, _<_, _≤_}
+use Prim.Native.Nat.{ℕ, suc, _+_, _-_, _≤_}
 use mathlib.Core.Path.{_≡_, refl}
-use mathlib.Core.Bool.{Bool, true, false, cond, not, _||_}
+use mathlib.Core.Bool.{Bool, true, false, cond, not, _&&_, _||_, and-eq-true-iff}
 use mathlib.Core.List.{List, [], _∷_}
 use native.Mathlib.Omega.{arith}
 use lib.Dec.{eqb, leb}
 use lib.ListN.{length, getD}
 use borrow.Author.Tests.{eqb-true, leb-true}
-use Rattle.message.specs.Letters.{isBreak}
-use Rattle.message.specs.Tape.{tape, names}
-use Rattle.message.specs.Refusals.{row3, row4, row5, row6, row7, row8, row9, row10, faultAt, refusal, scan, checkOf}
-use Rattle.message.specs.Scan.{classOf, isBreakClass, isConsonantClass, isSignKind, isVowelClass, kindAt, tailNames, namesIn, namesTo}
-use Rattle.message.specs.Places.{Steady}
-use Rattle.message.specs.Joints.{joined, isLive, liveCount, row12, badCutFrom, badCut}
-use Rattle.message.specs.Answers.{numberOf, placeOf, lengthOf, liveOf, checkedNumber, checkedPlace, checkedCodes, checkedNames, within, afterCheck, nameAnswer, tapeAnswer, joinAnswer}
-use Rattle.message.specs.declared.Counts.{Counts}
-use Rattle.message.specs.declared.Checked.{Checked}
-use Rattle.message.specs.declared.Answer.{Answer}
-use Rattle.message.specs.declared.Checked.the-variants.{Accepted, Refused}
-use Rattle.message.specs.declared.Answer.the-variants as answer
-use Rattle.message.proofs.Accepted.{accepted-counts, accepted-steady}
-use Rattle.message.proofs.Lengths.{names-all}
+use Rattle.spec.specs.Letters.{isBreak}
+use Rattle.spec.specs.Tape.{tape, names}
+use Rattle.spec.specs.Refusals.{Row, _when_, rows, firstFit, faultAt, refusal, scan, checkOf}
+use Rattle.spec.specs.Joints.{joined, isLive, liveCount, row12, badCutFrom, badCut}
+use Rattle.spec.specs.Answers.{numberOf, placeOf, lengthOf, liveOf, checkedNumber, checkedPlace, checkedCodes, checkedNames, within, afterCheck, nameAnswer, tapeAnswer, joinAnswer}
+use Rattle.spec.specs.declared.Counts.{Counts}
+use Rattle.spec.specs.declared.Checked.{Checked}
+use Rattle.spec.specs.declared.Answer.{Answer}
+use Rattle.spec.specs.declared.Checked.the-variants.{Accepted, Refused}
+use Rattle.spec.specs.declared.Answer.the-variants as answer
+use Rattle.spec.proofs.Computed.{everything}
+use Rattle.laws.proofs.Accepted.{accepted-counts}
 use Rattle.laws.proofs.Cuts.{break-within, rising-of, rising-length}
 use Rattle.laws.proofs.Cutting.{cutting}
-use Rattle.laws.proofs.PartsAccepted.{tape-bound}
+use Rattle.laws.proofs.Sizes.{tape-size, names-size}
+
+-- no number of the rows is past n
+unfoldable upTo : ℕ → List Row → Bool
+upTo n [] = true
+upTo n ((k when test) ∷ rs) = leb k n && upTo n rs
 
 -- the check's answer in numbers that are small
 pub record SmallCheck (d : Checked) : Type 0 where
@@ -40,23 +43,21 @@ pub record Small (a : Answer) : Type 0 where
   pub length : lengthOf a ≤ 8192
   pub live : liveOf a ≤ 8192
 
--- a row's number or the next one's
-row-up : (t : Bool) (n x : ℕ) → n ≤ 10 → x ≤ 10 → cond t n x ≤ 10
-row-up true n x h l = h
-row-up false n x h l = l
+-- a number that fits is one of the table
+fault-up : (rs : List Row) (before : List ℕ) (b : ℕ) (after : List ℕ) → upTo 10 rs ≡ true → firstFit rs before b after ≤ 10
+unfolding firstFit upTo
+fault-up [] before b after u = omega arith
+fault-up ((n when test) ∷ rs) before b after u =
+    let a = and-eq-true-iff (leb n 10) (upTo 10 rs) .0 u in
+    by (test before b after) (leb-true n 10 (a .0)) (fault-up rs before b after (a .1))
+  where
+    by : (t : Bool) → n ≤ 10 → firstFit rs before b after ≤ 10 → cond t n (firstFit rs before b after) ≤ 10
+    by true h l = h
+    by false h l = l
 
--- no row has a number past 10
-fault-up : (before : List ℕ) (b : ℕ) (after : List ℕ) → faultAt before b after ≤ 10
-unfolding faultAt
-fault-up before b after =
-    row-up (row3 before b after) 3 _ (omega arith)
-    (row-up (row4 before b after) 4 _ (omega arith)
-    (row-up (row5 before b after) 5 _ (omega arith)
-    (row-up (row6 before b after) 6 _ (omega arith)
-    (row-up (row7 before b after) 7 _ (omega arith)
-    (row-up (row8 before b after) 8 _ (omega arith)
-    (row-up (row9 before b after) 9 _ (omega arith)
-    (row-up (row10 before b after) 10 0 (omega arith) (omega arith))))))))
+rows-up : upTo 10 rows ≡ true
+unfolding everything upTo
+rows-up = refl
 
 -- an answer of the check: a number of the table, and a place that a message may have
 abbrev Placed : Checked → Type 0
@@ -64,13 +65,13 @@ Placed d = (checkedNumber d ≤ 10) × (checkedPlace d ≤ 4096)
 
 -- a scan answers so
 scan-placed : (a : Checked) (before m : List ℕ) → Placed a → length before + length m ≤ 4096 → Placed (scan a before m)
-unfolding scan checkedNumber checkedPlace
+unfolding scan faultAt checkedNumber checkedPlace
 scan-placed a before [] p h = p
 scan-placed a before (b ∷ m) p h = by (eqb (faultAt before b m) 0) (scan-placed a (b ∷ before) m p (omega arith))
   where
     by : (t : Bool) → Placed (scan a (b ∷ before) m) → Placed (cond t (scan a (b ∷ before) m) (Refused (refusal (faultAt before b m) (length before))))
     by true r = r
-    by false r = (fault-up before b m, omega arith)
+    by false r = (fault-up rows before b m rows-up, omega arith)
 
 -- and the check
 check-placed : (m : List ℕ) → Placed (checkOf m)
@@ -81,35 +82,6 @@ check-placed m = by (eqb (length m) 0) (leb (length m) 4096) refl
     by true t e = (omega arith, omega arith)
     by false true e = scan-placed _ [] m (omega arith, omega arith) (omega (arith, leb-true (length m) 4096 e))
     by false false e = (omega arith, omega arith)
-
--- a word's end settles at most one name
-tail-one : (k : ℕ) → tailNames k ≤ 1
-unfolding tailNames
-tail-one k = by (isConsonantClass k || isSignKind k)
-  where
-    by : (t : Bool) → cond t 1 0 ≤ 1
-    by true = omega arith
-    by false = omega arith
-
--- and so does a byte
-names-one : (k c : ℕ) → namesIn k c ≤ 1
-unfolding namesIn
-names-one k c = by (isVowelClass c) (isBreakClass c)
-  where
-    by : (v s : Bool) → cond v 1 (cond s (tailNames k) 0) ≤ 1
-    by true s = omega arith
-    by false true = tail-one k
-    by false false = omega arith
-
--- so the bytes before a place settle no more names than they are
-names-to : (m : List ℕ) (i : ℕ) → namesTo m i ≤ i
-unfolding namesTo
-names-to m zero = omega arith
-names-to m (suc i) = omega (arith, names-to m i, names-one (kindAt m i) (classOf (getD m i 0)))
-
--- a message has at most one name more than bytes
-names-bound : (m : List ℕ) → Steady m → length (names m) ≤ suc (length m)
-names-bound m s = omega (arith, names-all m s, names-to m (length m), tail-one (kindAt m (length m)))
 
 -- no more cuts are live than there are
 pub live-bound : (m cuts : List ℕ) → liveCount m cuts ≤ length cuts
@@ -153,7 +125,7 @@ unfolding afterCheck checkedNumber checkedPlace numberOf placeOf lengthOf liveOf
 after-small (Accepted counts) a p f = f counts refl
 after-small (Refused r) a p f = record { number = omega (arith, p .0); place = omega (arith, p .1); length = omega arith; live = omega arith }
 
-module _ (m : List ℕ) (bytes : (i : ℕ) → getD m i 0 < 256) where
+module _ (m : List ℕ) where
   module _ (counts : Counts) (e : checkOf m ≡ Accepted counts) where
     -- an accepted message is short
     short : length m ≤ 4096
@@ -161,11 +133,11 @@ module _ (m : List ℕ) (bytes : (i : ℕ) → getD m i 0 < 256) where
 
     -- its tape
     tape-short : length (tape m) ≤ 8192
-    tape-short = omega (arith, short, tape-bound m (accepted-steady m counts e bytes))
+    tape-short = omega (arith, short, tape-size m)
 
     -- and its naming are not much longer
     names-short : length (names m) ≤ 8192
-    names-short = omega (arith, short, names-bound m (accepted-steady m counts e bytes))
+    names-short = omega (arith, short, names-size m)
 
     -- so its counts are small
     counts-small : (counts .codes ≤ 8192) × (counts .names ≤ 8192)

@@ -9,8 +9,8 @@ use native.Mathlib.Omega.{arith}
 use lib.Dec.{leb}
 use borrow.Author.Tests.{leb-true, leb-false, le-leb}
 use lib.ListN.{length, getD, List·getD-eq-default}
-use Rattle.message.specs.Letters.{isBreak}
-use Rattle.message.specs.Joints.{row12, badCutFrom, badCut}
+use Rattle.spec.specs.Letters.{isBreak}
+use Rattle.spec.specs.Joints.{row12, badCutFrom, badCut}
 
 -- a strictly rising list of places of breaks of the message, none below the least
 abbrev pub RisingFrom : List ℕ → ℕ → List ℕ → Type 0

@@ -7,10 +7,10 @@ use mathlib.Core.Logic.{_⊎_, inl, inr, ⊎-elim, _≢_}
 use mathlib.Core.List.{List, [], _∷_}
 use lib.ListN.{length, getD, take}
 use lib.Seq.{getD-at}
-use Rattle.message.specs.Letters.{isBreak, read}
-use Rattle.message.specs.Codes.{markOf}
-use Rattle.message.specs.Tape.{tape, segment}
-use Rattle.message.specs.Joints.{joined, isLive, liveCount, markIndex, wordBefore, endsInObstruent}
+use Rattle.spec.specs.Letters.{isBreak, read}
+use Rattle.spec.specs.Codes.{markOf}
+use Rattle.spec.specs.Tape.{tape, segment}
+use Rattle.spec.specs.Joints.{joined, isLive, liveCount, markIndex, wordBefore, endsInObstruent}
 use Rattle.laws.proofs.Word.{lastCode}
 use Rattle.laws.proofs.Cuts.{Rising, CutOf, cut-break}
 use Rattle.laws.proofs.Parts.{voicedAt, changedBefore, changedAfter, CutAt, part-first, before-mark, after-mark, tape-cut, mark-index, code-after, live-here, onward-first, first-own, joined-length, joined-dead, cut-at}

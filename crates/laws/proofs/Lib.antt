@@ -1,7 +1,10 @@
+pub mod Accepted
+pub mod Classes
 pub mod Word
 pub mod Cuts
 pub mod Stretch
 pub mod Parts
 pub mod Cutting
 pub mod PartsAccepted
+pub mod Sizes
 pub mod Bounds

@@ -8,12 +8,12 @@ use mathlib.Core.List.{List, [], _∷_, _++_, append-assoc}
 use native.Mathlib.Omega.{arith}
 use lib.ListN.{length, take, drop, getD, length-append, take-append-drop}
 use lib.Seq.{drop-cons, drop-drop, take-add}
-use Rattle.message.specs.Letters.{Message, read, firstWord, lastWord, isGap, isBreak}
-use Rattle.message.specs.Codes.{markOf, isVoicing}
-use Rattle.message.specs.Vowels.{endsHard}
-use Rattle.message.specs.Palatalization.{firstCode}
-use Rattle.message.specs.Tape.{segment, tape}
-use Rattle.message.specs.Joints.{joinedFrom, markIndex, wordBefore, wordAfter, endsInObstruent, beginsWithIOrE, liveByVoice, liveByHardness, isLive, liveCount}
+use Rattle.spec.specs.Letters.{Message, read, firstWord, lastWord, isGap, isBreak}
+use Rattle.spec.specs.Codes.{markOf, isVoicing}
+use Rattle.spec.specs.Vowels.{endsHard}
+use Rattle.spec.specs.Palatalization.{firstCode}
+use Rattle.spec.specs.Tape.{segment, tape}
+use Rattle.spec.specs.Joints.{joinedFrom, markIndex, wordBefore, wordAfter, endsInObstruent, beginsWithIOrE, liveByVoice, liveByHardness, isLive, liveCount}
 use Rattle.laws.proofs.Word.{lastCodeFrom, lastCode}
 use Rattle.laws.proofs.Cuts.{RisingFrom, CutOf, break-within, cut-above}
 use Rattle.laws.proofs.Stretch.{first-meet, last-meet, read-join, segment-join, segment-length, segment-quiet, segment-ends-differ, segment-firm, first-differ, segment-starts-differ, last-append}

@@ -1,4 +1,4 @@
--- A part of an accepted message, cut at its breaks, is accepted: every row looks back no further than the break before, and a break last in a part would stand before a break or last in the message; a tape is bounded, since a byte makes at most two codes.
+-- A part of an accepted message, cut at its breaks, is accepted: every row looks back no further than the break before, and a break last in a part would stand before a break or last in the message.
 -- Assumes nothing.
 use Prim.Native.Nat.{ℕ, zero, suc, _+_, _-_, _*_, _<_, _≤_}
 use mathlib.Core.Path.{_≡_, refl, sym, _∙_}
@@ -10,19 +10,13 @@ use lib.Dec.{eqb}
 use lib.ListN.{length, take, drop, getD, length-take, length-drop}
 use lib.Seq.{drop-length, getD-take, getD-drop}
 use borrow.Author.Tests.{eqb-true}
-use Rattle.message.specs.Alphabet.{gap, pause}
-use Rattle.message.specs.Letters.{isBreak, isMark}
-use Rattle.message.specs.Tape.{tape}
-use Rattle.message.specs.Refusals.{vowelByte, signByte, hardSignByte, first, none, adjacent, vowelSign, lettersBefore, row3, row4, row5, row6, row7, row8, row9, row10, checkOf}
-use Rattle.message.specs.Scan.{classOf, kindAt, codesTo}
-use Rattle.message.specs.declared.Counts.{Counts}
-use Rattle.message.specs.declared.Checked.the-variants.{Accepted}
-use Rattle.message.specs.Places.{Steady}
-use Rattle.message.proofs.Accepted.{beforeAt, countsOf, Clear, Passes, accepted-passes, passes-accepted}
-use Rattle.message.proofs.Bytes.{by-class}
-use Rattle.message.proofs.Computed.{everything}
-use Rattle.message.proofs.Lengths.{codes-all}
-use Rattle.message.proofs.ScanTable.{entry-holds, width-up}
+use Rattle.spec.specs.Alphabet.{gap, pause}
+use Rattle.spec.specs.Letters.{isBreak, isMark}
+use Rattle.spec.specs.Refusals.{vowelByte, signByte, hardSignByte, first, none, adjacent, vowelSign, lettersBefore, row3, row4, row5, row6, row7, row8, row9, row10, rows, fitsIn, beforeAt, checkOf}
+use Rattle.spec.specs.declared.Counts.{Counts}
+use Rattle.spec.specs.declared.Checked.the-variants.{Accepted}
+use Rattle.laws.proofs.Accepted.{countsOf, Clear, Passes, accepted-passes, passes-accepted}
+use Rattle.spec.proofs.Computed.{everything}
 use Rattle.laws.proofs.Cuts.{break-within}
 use Rattle.laws.proofs.Parts.{part, Begins}
 
@@ -119,24 +113,25 @@ or-ends true q r e = e
 or-ends false true r e = absurd (true≢false e)
 or-ends false false r e = e
 
--- So no row fits at a byte of a part, if none fits there in the message and no break stands last in the part.
+-- So no row fits at a byte of a part, if none fits there in the message and no break stands last in the part: each number has its reason.
 clear-part : (x t : List ℕ) (b : ℕ) (after after′ : List ℕ) → Opens t → (isBreak b ≡ true → none after′ ≡ false) → Clear (x ++ t) b after → Clear x b after′
-unfolding row3 row4 row5 row6 row7 row8 row9 row10
-clear-part x t b after after′ o n c =
-    record {
-      not3 = c .not3;
-      not4 = by (isBreak b) refl;
-      not5 = rw (first-over vowelByte break-vowel t o x) at (c .not5);
-      not6 = rw (start-over t o x) at (c .not6);
-      not7 = rw (near-over signByte break-sign t o x) at (c .not7);
-      not8 = rw (near-over hardSignByte break-hard-sign t o x) at (c .not8);
-      not9 = rw (adjacent-over vowelSign t o (sign-over t o) x) at (c .not9);
-      not10 = rw (letters-over t o x) at (c .not10);
-    }
+unfolding fitsIn rows row3 row4 row5 row6 row7 row8 row9 row10
+clear-part x t b after after′ o n c k =
+    one 3 (c 3) (one 4 (by (isBreak b) refl) (one 5 (rw (first-over vowelByte break-vowel t o x) at (c 5))
+    (one 6 (rw (start-over t o x) at (c 6)) (one 7 (rw (near-over signByte break-sign t o x) at (c 7))
+    (one 8 (rw (near-over hardSignByte break-hard-sign t o x) at (c 8)) (one 9 (rw (adjacent-over vowelSign t o (sign-over t o) x) at (c 9))
+    (one 10 (rw (letters-over t o x) at (c 10)) refl)))))))
   where
     by : (k : Bool) → isBreak b ≡ k → row4 x b after′ ≡ false
-    by true d = rw (d, n d, ← start-over t o x) (or-ends (none (x ++ t)) (none after) (first isBreak (x ++ t)) (rw d at (c .not4)))
+    by true d = rw (d, n d, ← start-over t o x) (or-ends (none (x ++ t)) (none after) (first isBreak (x ++ t)) (rw d at (c 4)))
     by false d = rw d
+
+    one : (n : ℕ) {s r : Bool} → s ≡ false → r ≡ false → cond (eqb n k) s r ≡ false
+    one n e f = rw (e, f) (two (eqb n k))
+      where
+        two : (t : Bool) → cond t false false ≡ false
+        two true = refl
+        two false = refl
 
 module _ (m : List ℕ) (a e : ℕ) where
   -- a part has its length
@@ -162,16 +157,16 @@ none-empty (b ∷ x) e = absurd (true≢false (sym e))
 module _ (m : List ℕ) (p : Passes m) (e : ℕ) (s : (isBreak (getD m e 0) ≡ true) ⊎ (e ≡ length m)) where
   -- no break stands last in a part that ends at e
   last-firm : (j : ℕ) → suc j ≡ e → isBreak (getD m j 0) ≡ true → ⊥
-  unfolding row4 beforeAt none first
+  unfolding fitsIn rows row4 beforeAt none first
   last-firm j q d =
-      ⊎-elim (λ k. true≢false (rw (k, ← q, d, or-true) at (p .rows e (break-within m e k) .not4)))
-      (λ k. let r : suc j ≡ length m = q ∙ k in true≢false (rw (d, r, drop-length, or-true) at (p .rows j (break-within m j d) .not4)))
+      ⊎-elim (λ k. true≢false (rw (k, ← q, d, or-true) at (p .rows e (break-within m e k) 4)))
+      (λ k. let r : suc j ≡ length m = q ∙ k in true≢false (rw (d, r, drop-length, or-true) at (p .rows j (break-within m j d) 4)))
       s
 
   -- and no part is empty
   part-some : (a : ℕ) → Begins m a → a ≡ e → ⊥
-  unfolding row4 beforeAt none
-  part-some zero b q = ⊎-elim (λ k. true≢false (rw (k, ← q) at (p .rows e (break-within m e k) .not4))) (λ k. omega (arith, p .some)) s
+  unfolding fitsIn rows row4 beforeAt none
+  part-some zero b q = ⊎-elim (λ k. true≢false (rw (k, ← q) at (p .rows e (break-within m e k) 4))) (λ k. omega (arith, p .some)) s
   part-some (suc c) b q = last-firm c q b
 
   module _ (a : ℕ) (b : Begins m a) (h : a ≤ e) (l : e ≤ length m) where
@@ -203,16 +198,3 @@ pub part-accepted : (m : List ℕ) (counts : Counts) (a e : ℕ) → checkOf m �
     → Begins m a → a ≤ e → e ≤ length m → (isBreak (getD m e 0) ≡ true) ⊎ (e ≡ length m)
     → checkOf (take (e - a) (drop a m)) ≡ Accepted (countsOf (take (e - a) (drop a m)))
 part-accepted m counts a e c b h l s = passes-accepted (part m a e) (part-passes m (accepted-passes m counts c) e s a b h l)
-
--- the bytes before a place make at most two codes each, since the kind there is one of the check's table
-codes-two : (m : List ℕ) → Steady m → (i : ℕ) → (kindAt m i < 15) × (codesTo m i ≤ 2 * i)
-unfolding kindAt codesTo
-codes-two m s zero = (omega arith, omega arith)
-codes-two m s (suc i) =
-    let r = codes-two m s i in
-    let e = entry-holds (kindAt m i) (classOf (getD m i 0)) (r .0) (by-class (getD m i 0) (s .bytes i) .class) in
-    (e .next, omega (arith, r .1, width-up m i (kindAt m i) e))
-
--- a tape has at most two codes for a byte of message
-pub tape-bound : (m : List ℕ) → Steady m → length (tape m) ≤ 2 * length m
-tape-bound m s = omega (arith, codes-all m s, codes-two m s (length m) .1)

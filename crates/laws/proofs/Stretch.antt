@@ -8,14 +8,14 @@ use native.Mathlib.Omega.{arith}
 use lib.Dec.{eqb}
 use borrow.Author.Tests.{eqb-true}
 use lib.ListN.{length, length-append}
-use Rattle.message.specs.Alphabet.{gap, pause, mark}
-use Rattle.message.specs.Tables.{among}
-use Rattle.message.specs.Letters.{Letter, Message, last, more, read, putLetter, beginsWithMark, firstWord, lastWord, isGap, isBreak, isMark}
-use Rattle.message.specs.Codes.{markOf, isVoicing}
-use Rattle.message.specs.Vowels.{endsHard}
-use Rattle.message.specs.Palatalization.{firstCode}
-use Rattle.message.specs.Tape.{wordTape, segment}
-use Rattle.message.specs.Joints.{endsInObstruent, beginsWithIOrE}
+use Rattle.spec.specs.Alphabet.{gap, pause, mark}
+use Rattle.spec.specs.Tables.{among}
+use Rattle.spec.specs.Letters.{Letter, Message, last, more, read, putLetter, beginsWithMark, firstWord, lastWord, isGap, isBreak, isMark}
+use Rattle.spec.specs.Codes.{markOf, isVoicing}
+use Rattle.spec.specs.Vowels.{endsHard}
+use Rattle.spec.specs.Palatalization.{firstCode}
+use Rattle.spec.specs.Tape.{wordTape, segment}
+use Rattle.spec.specs.Joints.{endsInObstruent, beginsWithIOrE}
 use Rattle.laws.proofs.Word.{lastCodeFrom, lastCode, word-length, word-quiet, word-ends-differ, word-firm, word-starts-differ}
 
 -- the message a, the break x, and the message b, read as one

@@ -9,20 +9,20 @@ use mathlib.Core.List.{List, [], _∷_, _++_, map}
 use lib.ListN.{length}
 use lib.Dec.{eqb}
 use borrow.Author.Tests.{eqb-true, eqb-false, not-true}
-use Rattle.message.specs.Alphabet.{«и», «н», «с», «ц», «ч», «ш», «э»}
-use Rattle.message.specs.Tables.{among, entry}
-use Rattle.message.specs.Letters.{Letter, firstByte, obstruents, signs, isSign, isVowel, isObstruent}
-use Rattle.message.specs.Elision.{elidesT, elidesD, elides, elideFrom, elide, elidesAmong}
-use Rattle.message.specs.Syllables.{coverAfter, hasMark, nextStressed, levelOf, syllableOf}
-use Rattle.message.specs.Vowels.{Phone, byStress, byLevel, glides, vowelSound, vowelPhones, phonesOf, phonesFrom}
-use Rattle.message.specs.Voicing.{voicedCode, voicelessCode, toneOf, toned, voiceOne, voice}
-use Rattle.message.specs.Palatalization.{isSoft, firstCode, palatalize}
-use Rattle.message.specs.Tape.{wordTape}
-use Rattle.message.specs.Joints.{endsInObstruent, endsInObstruentFrom, beginsWithIOrE}
-use Rattle.message.specs.declared.Level.{Level}
-use Rattle.message.specs.declared.Level.the-variants.{Stressed, First, Second}
-use Rattle.message.proofs.Computed.{everything}
-use Rattle.message.proofs.Classes.{among-same}
+use Rattle.spec.specs.Alphabet.{«и», «н», «с», «ц», «ч», «ш», «э»}
+use Rattle.spec.specs.Tables.{among, entry}
+use Rattle.spec.specs.Letters.{Letter, firstByte, obstruents, signs, isSign, isVowel, isObstruent}
+use Rattle.spec.specs.Elision.{elidesT, elidesD, elides, elideFrom, elide, elidesAmong}
+use Rattle.spec.specs.Syllables.{coverAfter, hasMark, nextStressed, levelOf, syllableOf}
+use Rattle.spec.specs.Vowels.{Phone, byStress, byLevel, glides, vowelSound, vowelPhones, phonesOf, phonesFrom}
+use Rattle.spec.specs.Voicing.{voicedCode, voicelessCode, toneOf, toned, voiceOne, voice}
+use Rattle.spec.specs.Palatalization.{isSoft, firstCode, palatalize}
+use Rattle.spec.specs.Tape.{wordTape}
+use Rattle.spec.specs.Joints.{endsInObstruent, endsInObstruentFrom, beginsWithIOrE}
+use Rattle.spec.specs.declared.Level.{Level}
+use Rattle.spec.specs.declared.Level.the-variants.{Stressed, First, Second}
+use Rattle.spec.proofs.Computed.{everything}
+use Rattle.laws.proofs.Classes.{among-same}
 
 -- the last code; 0 where there is none
 unfoldable pub lastCodeFrom : ℕ → List ℕ → ℕ

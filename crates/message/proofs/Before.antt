@@ -8,11 +8,11 @@ use lib.Dec.{eqb}
 use lib.ListN.{length, getD}
 use borrow.Author.Tests.{eqb-true}
 use native.Mathlib.Omega.{arith}
-use Rattle.message.specs.Letters.{small, plainVowels, softeningVowels, isMark, isBreak, isVowel, isSign, isConsonant}
-use Rattle.message.specs.Refusals.{vowelByte}
+use Rattle.spec.specs.Letters.{small, plainVowels, softeningVowels, isMark, isBreak, isVowel, isSign, isConsonant}
+use Rattle.spec.specs.Refusals.{vowelByte}
 use Rattle.message.specs.Scan.{classOf, isBreakClass, isConsonantClass, isSignClass, isVowelKind, isSignKind, isLetterClass, nextKind, kindAt}
 use Rattle.message.proofs.Bytes.{below, below-same, by-class, letter-class, vowel-break, vowel-mark}
-use Rattle.message.proofs.Classes.{among-same}
+use Rattle.laws.proofs.Classes.{among-same}
 use Rattle.message.specs.Places.{leftAt, letterOf, Steady}
 use Rattle.message.proofs.Left.{left-letter, left-mark, left-break}
 use Rattle.message.proofs.Computed.{everything}

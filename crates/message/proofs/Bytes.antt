@@ -7,9 +7,9 @@ use mathlib.Core.List.{List, [], _∷_, map}
 use native.Mathlib.Omega.{arith}
 use lib.Dec.{eqb, leb}
 use borrow.Author.Tests.{eqb-true, eqb-false, leb-true, ne-eqb}
-use Rattle.message.specs.Alphabet.{«д», «т»}
-use Rattle.message.specs.Letters.{small, isMark, isBreak, isConsonant}
-use Rattle.message.specs.Refusals.{vowelByte, signByte, hardSignByte, consonantByte, letterByte}
+use Rattle.spec.specs.Alphabet.{«д», «т»}
+use Rattle.spec.specs.Letters.{small, isMark, isBreak, isConsonant}
+use Rattle.spec.specs.Refusals.{vowelByte, signByte, hardSignByte, consonantByte, letterByte}
 use Rattle.message.specs.Scan.{classOf, isBreakClass, isSignClass, isConsonantClass, isVowelClass, isLetterClass}
 use Rattle.message.proofs.Computed.{everything}
 

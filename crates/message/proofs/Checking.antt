@@ -9,13 +9,14 @@ use lib.Dec.{eqb, leb}
 use lib.ListN.{length, getD, drop}
 use lib.Seq.{drop-cons, drop-length}
 use borrow.Author.Tests.{eqb-true, eqb-false, leb-true, le-leb, lt-leb, ne-eqb}
-use Rattle.message.specs.Letters.{isMark, isBreak}
-use Rattle.message.specs.Refusals.{vowelByte, signByte, hardSignByte, first, none, adjacent, vowelSign, lettersBefore, row3, row4, row5, row6, row7, row8, row9, row10, faultAt, refusal, scan, checkOf}
+use Rattle.spec.specs.Letters.{isMark, isBreak}
+use Rattle.spec.specs.Refusals.{vowelByte, signByte, hardSignByte, first, none, adjacent, vowelSign, lettersBefore, row3, row4, row5, row6, row7, row8, row9, row10, rows, firstFit, faultAt, beforeAt, refusal, scan, checkOf}
 use Rattle.message.specs.Scan.{classOf, isBreakClass, isSignClass, isConsonantClass, isVowelClass, isLetterClass, isVowelKind, isHardSignKind, isVowelSignKind, isSignKind, nextKind, faultIn, widthIn, namesIn, tailNames, settled, packed, elidedAt, kindAt, widthAt, codesTo, namesTo, lettersAt, faultHere, Sees, limitAt, Here, finishOf}
-use Rattle.message.specs.declared.Checked.{Checked}
-use Rattle.message.specs.declared.Checked.the-variants.{Accepted, Refused}
+use Rattle.spec.specs.declared.Checked.{Checked}
+use Rattle.spec.specs.declared.Checked.the-variants.{Accepted, Refused}
 use Rattle.message.specs.declared.Seen.{Seen}
-use Rattle.message.proofs.Accepted.{beforeAt, countsOf, scan-next, check-scans, accepted-steady}
+use Rattle.laws.proofs.Accepted.{countsOf, before-length, scan-next, check-scans}
+use Rattle.message.proofs.Steadiness.{accepted-steady}
 use Rattle.message.proofs.Bytes.{below-same, pairs-same, ByClass, by-class}
 use Rattle.message.proofs.ScanTable.{Entry, entry-holds, packed-settled, settled-faultless, settled-heard, width-up}
 use Rattle.message.proofs.Computed.{everything}
@@ -156,7 +157,7 @@ or-swap false y z = refl
 -- the fault at a byte, by the kind before it and its class
 pub fault-told : (before : List ℕ) (k b : ℕ) (after : List ℕ) → k < 15 → ByClass b → Told before k
     → faultAt before b after ≡ faultOf (none after) (eqb (lettersBefore before) 64) k (classOf b)
-unfolding faultAt row3 row4 row5 row6 row7 row8 row9 row10
+unfolding faultAt firstFit rows row3 row4 row5 row6 row7 row8 row9 row10
 fault-told before k b after h c t =
     rw (or-swap (none before) (none after) (first isBreak before), t .start, t .vowel, t .sign, t .hardSign, t .vowelSigned, c .letter, c .mark, c .break, c .sign, c .consonant, c .vowel)
     (fault-same (none after) (eqb (lettersBefore before) 64) k (classOf b) h (c .class))
@@ -191,12 +192,6 @@ rest-more a before k b [] h c t f l = by (isBreakClass (classOf b)) refl
     by true d = rw (c .break, d) (scan-fault a before b [] 4 (at ∙ rw d) (omega arith))
     by false d = rw (c .break, d) (scan-next a before b [] (at ∙ rw d))
 rest-more a before k b (x ∷ after) h c t f l = scan-next a before b (x ∷ after) (fault-told before k b (x ∷ after) h c t ∙ rw (f, l, and-false (isBreakClass (classOf b))))
-
--- there are i bytes before place i
-before-length : (m : List ℕ) (i : ℕ) → length (beforeAt m i) ≡ i
-unfolding beforeAt
-before-length m zero = refl
-before-length m (suc i) = ap suc (before-length m i)
 
 -- a byte without a fault here has no number of the table of steps, and is no 65th letter
 here-clear : (m : List ℕ) (i : ℕ) → faultHere m i ≡ 0

@@ -5,13 +5,13 @@ use mathlib.Core.Path.{_≡_, refl, sym, _∙_}
 use mathlib.Core.Bool.{Bool, true, false, cond, _&&_, _||_, and-false, false≢true}
 use mathlib.Core.List.{List, [], _∷_}
 use lib.Dec.{eqb}
-use Rattle.message.specs.Alphabet.{«д», «н», «с», «т», «ц», «ч», «ш»}
-use Rattle.message.specs.Tables.{among}
-use Rattle.message.specs.Letters.{Letter, firstByte, isSign, isVowel}
-use Rattle.message.specs.Elision.{secondByte, elidesT, elidesD, elides, elideFrom, elidesAmong}
-use Rattle.message.specs.Syllables.{levelOf, nextStressed, syllableOf, namesFrom}
-use Rattle.message.specs.Vowels.{softens, phonesOf, phonesFrom}
-use Rattle.message.proofs.Classes.{among-same, among-none}
+use Rattle.spec.specs.Alphabet.{«д», «н», «с», «т», «ц», «ч», «ш»}
+use Rattle.spec.specs.Tables.{among}
+use Rattle.spec.specs.Letters.{Letter, firstByte, isSign, isVowel}
+use Rattle.spec.specs.Elision.{secondByte, elidesT, elidesD, elides, elideFrom, elidesAmong}
+use Rattle.spec.specs.Syllables.{levelOf, nextStressed, syllableOf, namesFrom}
+use Rattle.spec.specs.Vowels.{softens, phonesOf, phonesFrom}
+use Rattle.laws.proofs.Classes.{among-same, among-none}
 use Rattle.message.proofs.Computed.{everything}
 
 -- the letters that can be elided

@@ -6,16 +6,16 @@ use Prim.Native.Nat.{ℕ}
 use mathlib.Core.Path.{_≡_, refl, sym}
 use mathlib.Core.Bool.{Bool, true, false, cond, _&&_}
 use mathlib.Core.List.{List, [], _∷_, _++_}
-use Rattle.message.specs.Letters.{Letter, paired, firstByte, isPaired, isSign, isVowel, isObstruent}
-use Rattle.message.specs.Codes.{palatalized}
-use Rattle.message.specs.Elision.{elideFrom, elide}
-use Rattle.message.specs.Syllables.{hasMark, syllableOf, namesFrom}
-use Rattle.message.specs.Vowels.{Phone, glides, writtenCode, softens, vowelPhones, phonesOf, phonesFrom}
-use Rattle.message.specs.Voicing.{Tone, voiced, voiceless, asWritten, toneBefore, toneOf, toned, voiceOne, voice}
-use Rattle.message.specs.Palatalization.{isSoft, firstCode, palatalize}
-use Rattle.message.specs.Tape.{wordTape, wordNames}
+use Rattle.spec.specs.Letters.{Letter, paired, firstByte, isPaired, isSign, isVowel, isObstruent}
+use Rattle.spec.specs.Codes.{palatalized}
+use Rattle.spec.specs.Elision.{elideFrom, elide}
+use Rattle.spec.specs.Syllables.{hasMark, syllableOf, namesFrom}
+use Rattle.spec.specs.Vowels.{Phone, glides, writtenCode, softens, vowelPhones, phonesOf, phonesFrom}
+use Rattle.spec.specs.Voicing.{Tone, voiced, voiceless, asWritten, toneBefore, toneOf, toned, voiceOne, voice}
+use Rattle.spec.specs.Palatalization.{isSoft, firstCode, palatalize}
+use Rattle.spec.specs.Tape.{wordTape, wordNames}
 use Rattle.message.specs.Fused.{toneIn, vowelCodes, consonantCode, letterCodes, fusedFrom}
-use Rattle.message.proofs.Classes.{among-same, vowel-quiet, vowel-single}
+use Rattle.laws.proofs.Classes.{among-same, vowel-quiet, vowel-single}
 use Rattle.message.proofs.Elided.{elide-cases, soft-elide, syllable-elide, phones-free, names-elide}
 use Rattle.message.proofs.Computed.{everything}
 

@@ -10,11 +10,11 @@ use lib.ListN.{length, getD, drop, List·getD-eq-default}
 use lib.Seq.{drop-cons, drop-length}
 use borrow.Author.Tests.{eqb-true, leb-true, leb-false}
 use native.Mathlib.Omega.{arith}
-use Rattle.message.specs.Alphabet.{mark}
-use Rattle.message.specs.Letters.{Letter, Message, last, more, putLetter, read, firstWord, small, isMark, isBreak, isGap, beginsWithMark}
-use Rattle.message.specs.Syllables.{hasMark}
-use Rattle.message.specs.Vowels.{hardEnd}
-use Rattle.message.specs.Refusals.{vowelByte}
+use Rattle.spec.specs.Alphabet.{mark}
+use Rattle.spec.specs.Letters.{Letter, Message, last, more, putLetter, read, firstWord, small, isMark, isBreak, isGap, beginsWithMark}
+use Rattle.spec.specs.Syllables.{hasMark}
+use Rattle.spec.specs.Vowels.{hardEnd}
+use Rattle.spec.specs.Refusals.{vowelByte}
 use Rattle.message.specs.Places.{Left, stepLeft, leftAt, markFrom, letterOf, Steady}
 
 -- a mark is no break

@@ -8,19 +8,19 @@ use lib.Dec.{eqb}
 use lib.ListN.{length, getD, length-append}
 use borrow.Author.Tests.{eqb-true}
 use native.Mathlib.Omega.{arith}
-use Rattle.message.specs.Alphabet.{«е», «ё», «и», «ю», «я»}
-use Rattle.message.specs.Tables.{among}
-use Rattle.message.specs.Letters.{Letter, small, hardOnly, paired, softOnly, isMark, isBreak, isVowel, isSign, isConsonant}
-use Rattle.message.specs.Elision.{elides}
-use Rattle.message.specs.Syllables.{coverAfter, syllableOf, incomplete}
-use Rattle.message.specs.Vowels.{bare, glides}
-use Rattle.message.specs.Voicing.{Tone}
-use Rattle.message.specs.Tape.{tape, names}
-use Rattle.message.specs.Refusals.{vowelByte}
+use Rattle.spec.specs.Alphabet.{«е», «ё», «и», «ю», «я»}
+use Rattle.spec.specs.Tables.{among}
+use Rattle.spec.specs.Letters.{Letter, small, hardOnly, paired, softOnly, isMark, isBreak, isVowel, isSign, isConsonant}
+use Rattle.spec.specs.Elision.{elides}
+use Rattle.spec.specs.Syllables.{coverAfter, syllableOf, incomplete}
+use Rattle.spec.specs.Vowels.{bare, glides}
+use Rattle.spec.specs.Voicing.{Tone}
+use Rattle.spec.specs.Tape.{tape, names}
+use Rattle.spec.specs.Refusals.{vowelByte}
 use Rattle.message.specs.Scan.{classOf, isBreakClass, isConsonantClass, isSignKind, isLetterClass, kindAt, letterAt, letterBefore, elidedAt, widthIn, widthAt, codesTo, namesIn, namesTo, tailNames}
-use Rattle.message.specs.declared.Cover.the-variants.{Bare, Covered}
+use Rattle.spec.specs.declared.Cover.the-variants.{Bare, Covered}
 use Rattle.message.proofs.Bytes.{below, below-same, by-class, break-consonant, mark-consonant, letter-class}
-use Rattle.message.proofs.Classes.{among-same}
+use Rattle.laws.proofs.Classes.{among-same}
 use Rattle.message.specs.Fused.{vowelCodes, letterCodes}
 use Rattle.message.specs.Places.{leftAt, markedAt, toneAt, soundAt, tapeAt, wordAt, letterOf, codesAt, namesAt, Steady}
 use Rattle.message.proofs.Tail.{tape-start, tape-end, tape-letter, tape-mark, tape-break, names-start, names-end, names-vowel, names-other, names-break}

@@ -1,8 +1,6 @@
-pub mod Accepted
 pub mod Before
 pub mod Bytes
 pub mod Checking
-pub mod Classes
 pub mod Computed
 pub mod Elided
 pub mod Fused
@@ -10,7 +8,5 @@ pub mod Left
 pub mod Lengths
 pub mod ScanTable
 pub mod Silent
+pub mod Steadiness
 pub mod Tail
-pub mod NameExamples
-pub mod RefusalExamples
-pub mod Words

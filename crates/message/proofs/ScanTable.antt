@@ -8,13 +8,13 @@ use native.Mathlib.Omega.{arith}
 use lib.Dec.{eqb, leb}
 use lib.ListN.{getD}
 use borrow.Author.Tests.{eqb-true, eqb-false, leb-true, le-leb, lt-leb, ne-eqb}
-use Rattle.message.specs.Alphabet.{«д», «з», «н», «р», «с», «т»}
-use Rattle.message.specs.Tables.{among}
-use Rattle.message.specs.Letters.{small}
-use Rattle.message.specs.Elision.{elidesT, elidesD, elidesAmong}
+use Rattle.spec.specs.Alphabet.{«д», «з», «н», «р», «с», «т»}
+use Rattle.spec.specs.Tables.{among}
+use Rattle.spec.specs.Letters.{small}
+use Rattle.spec.specs.Elision.{elidesT, elidesD, elidesAmong}
 use Rattle.message.specs.Scan.{classOf, nextKind, faultIn, widthIn, namesIn, tabulate, classes, settled, packed, steps, letterAt, letterBefore, elidedAt, kindAt, widthAt}
 use Rattle.message.proofs.Bytes.{pairs-same, by-class, not-both}
-use Rattle.message.proofs.Classes.{among-none}
+use Rattle.laws.proofs.Classes.{among-none}
 use Rattle.message.proofs.Computed.{everything}
 
 -- past the start, the letter before place i is the one at i - 1

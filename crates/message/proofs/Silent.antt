@@ -9,13 +9,13 @@ use lib.ListN.{length, getD, drop-of-length-le, List·getD-eq-default}
 use borrow.Author.Tests.{eqb-true, leb-true, leb-false}
 use native.Mathlib.Omega.{arith}
 use native.Mathlib.Numerals.{add-one}
-use Rattle.message.specs.Alphabet.{«д», «з», «к», «н», «р», «с», «т», «ц», «ч», «ш»}
-use Rattle.message.specs.Tables.{among}
-use Rattle.message.specs.Letters.{Letter, read, firstWord, firstByte, small, hardOnly, paired, softOnly, plainVowels, softeningVowels, isMark, isBreak, isVowel, isConsonant}
-use Rattle.message.specs.Elision.{secondByte, elides, elidesT, elidesD, elidesAmong}
+use Rattle.spec.specs.Alphabet.{«д», «з», «к», «н», «р», «с», «т», «ц», «ч», «ш»}
+use Rattle.spec.specs.Tables.{among}
+use Rattle.spec.specs.Letters.{Letter, read, firstWord, firstByte, small, hardOnly, paired, softOnly, plainVowels, softeningVowels, isMark, isBreak, isVowel, isConsonant}
+use Rattle.spec.specs.Elision.{secondByte, elides, elidesT, elidesD, elidesAmong}
 use Rattle.message.specs.Scan.{letterAt, letterBefore, elidedAt}
 use Rattle.message.proofs.Bytes.{break-consonant, mark-consonant, consonant-vowel}
-use Rattle.message.proofs.Classes.{among-same, among-none}
+use Rattle.laws.proofs.Classes.{among-same, among-none}
 use Rattle.message.specs.Places.{leftAt, wordAt, letterOf, Steady}
 use Rattle.message.proofs.Left.{left-letter, left-mark, left-break, unmarked-after}
 use Rattle.message.proofs.Tail.{word-letter, word-break}

@@ -7,15 +7,15 @@ use mathlib.Core.List.{List, [], _∷_, _++_, append-assoc, append-nil}
 use lib.Dec.{eqb}
 use lib.ListN.{length, getD, drop}
 use lib.Seq.{drop-cons, drop-length}
-use Rattle.message.specs.Alphabet.{pause}
-use Rattle.message.specs.Letters.{Letter, Message, last, more, putLetter, read, firstWord, isMark, isBreak, isGap, isVowel}
-use Rattle.message.specs.Codes.{markOf, isVoicing}
-use Rattle.message.specs.Syllables.{hasMark, namesFrom, incomplete, nameOf, syllableOf}
-use Rattle.message.specs.Vowels.{endsHardFrom, endsHard, hardEnd}
-use Rattle.message.specs.Voicing.{voiced, voiceless}
-use Rattle.message.specs.Palatalization.{firstCode}
-use Rattle.message.specs.Tape.{segment, tape, namesOf, names}
-use Rattle.message.specs.Refusals.{vowelByte}
+use Rattle.spec.specs.Alphabet.{pause}
+use Rattle.spec.specs.Letters.{Letter, Message, last, more, putLetter, read, firstWord, isMark, isBreak, isGap, isVowel}
+use Rattle.spec.specs.Codes.{markOf, isVoicing}
+use Rattle.spec.specs.Syllables.{hasMark, namesFrom, incomplete, nameOf, syllableOf}
+use Rattle.spec.specs.Vowels.{endsHardFrom, endsHard, hardEnd}
+use Rattle.spec.specs.Voicing.{voiced, voiceless}
+use Rattle.spec.specs.Palatalization.{firstCode}
+use Rattle.spec.specs.Tape.{segment, tape, namesOf, names}
+use Rattle.spec.specs.Refusals.{vowelByte}
 use Rattle.message.proofs.Bytes.{break-vowel, vowel-break, vowel-mark}
 use Rattle.message.specs.Fused.{toneIn, letterCodes, fusedFrom}
 use Rattle.message.proofs.Fused.{word-fused, names-fused}

@@ -3,14 +3,14 @@
 use Prim.Native.Nat.{ℕ}
 use mathlib.Core.Bool.{Bool, false, cond}
 use mathlib.Core.List.{List, [], _∷_, _++_}
-use Rattle.message.specs.Letters.{Letter, firstByte, isSign, isVowel, isObstruent}
-use Rattle.message.specs.Codes.{J, palatalized}
-use Rattle.message.specs.Elision.{elides}
-use Rattle.message.specs.Syllables.{syllableOf}
-use Rattle.message.specs.Vowels.{vowelSound, glides, writtenCode, softens}
-use Rattle.message.specs.Voicing.{Tone, voiced, voiceless, toneBefore, toned}
-use Rattle.message.specs.Palatalization.{isSoft, firstCode}
-use Rattle.message.specs.declared.Syllable.{Syllable}
+use Rattle.spec.specs.Letters.{Letter, firstByte, isSign, isVowel, isObstruent}
+use Rattle.spec.specs.Codes.{J, palatalized}
+use Rattle.spec.specs.Elision.{elides}
+use Rattle.spec.specs.Syllables.{syllableOf}
+use Rattle.spec.specs.Vowels.{vowelSound, glides, writtenCode, softens}
+use Rattle.spec.specs.Voicing.{Tone, voiced, voiceless, toneBefore, toned}
+use Rattle.spec.specs.Palatalization.{isSoft, firstCode}
+use Rattle.spec.specs.declared.Syllable.{Syllable}
 
 -- what the finished codes t of the rest of a word make of an obstruent before them; next is the bit of the word after
 unfoldable pub toneIn : Bool → List ℕ → Tone

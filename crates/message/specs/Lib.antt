@@ -1,16 +1,3 @@
-pub mod Alphabet
-pub mod Tables
-pub mod Letters
-pub mod Codes
-pub mod Elision
-pub mod Syllables
-pub mod Vowels
-pub mod Voicing
-pub mod Palatalization
-pub mod Tape
-pub mod Refusals
-pub mod Joints
-pub mod Answers
 pub mod Scan
 pub mod Fused
 pub mod Places

@@ -5,14 +5,14 @@ use mathlib.Core.Path.{_≡_}
 use mathlib.Core.Bool.{Bool, true, false, cond, _&&_, _||_, not}
 use mathlib.Core.List.{List, [], _∷_, _++_}
 use lib.ListN.{length, getD, drop}
-use Rattle.message.specs.Letters.{Letter, Message, last, more, read, firstWord, small, isMark, isBreak, isGap, beginsWithMark}
-use Rattle.message.specs.Codes.{markOf, isVoicing}
-use Rattle.message.specs.Syllables.{namesFrom}
-use Rattle.message.specs.Vowels.{endsHardFrom, hardEnd}
-use Rattle.message.specs.Voicing.{Tone, toneBefore}
-use Rattle.message.specs.Palatalization.{firstCode}
-use Rattle.message.specs.Tape.{segment, namesOf}
-use Rattle.message.specs.Refusals.{vowelByte}
+use Rattle.spec.specs.Letters.{Letter, Message, last, more, read, firstWord, small, isMark, isBreak, isGap, beginsWithMark}
+use Rattle.spec.specs.Codes.{markOf, isVoicing}
+use Rattle.spec.specs.Syllables.{namesFrom}
+use Rattle.spec.specs.Vowels.{endsHardFrom, hardEnd}
+use Rattle.spec.specs.Voicing.{Tone, toneBefore}
+use Rattle.spec.specs.Palatalization.{firstCode}
+use Rattle.spec.specs.Tape.{segment, namesOf}
+use Rattle.spec.specs.Refusals.{vowelByte}
 use Rattle.message.specs.Scan.{classOf}
 use Rattle.message.specs.Fused.{toneIn, letterCodes, fusedFrom}
 

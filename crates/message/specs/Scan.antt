@@ -6,13 +6,13 @@ use mathlib.Core.Bool.{Bool, cond, _&&_, _||_, not}
 use mathlib.Core.List.{List, [], _∷_}
 use lib.Dec.{eqb, leb}
 use lib.ListN.{length, getD}
-use Rattle.message.specs.Alphabet.{gap, pause, «д», «е», «ё», «и», «т», «ъ», «ь», «ю», «я»}
-use Rattle.message.specs.Tables.{among}
-use Rattle.message.specs.Letters.{between, small, isMark, isHardOnly, isPaired, isSoftOnly, isVowel}
-use Rattle.message.specs.Elision.{elidesAmong}
-use Rattle.message.specs.Refusals.{refusal}
-use Rattle.message.specs.declared.Checked.{Checked}
-use Rattle.message.specs.declared.Checked.the-variants.{Accepted, Refused}
+use Rattle.spec.specs.Alphabet.{gap, pause, «д», «е», «ё», «и», «т», «ъ», «ь», «ю», «я»}
+use Rattle.spec.specs.Tables.{among}
+use Rattle.spec.specs.Letters.{between, small, isMark, isHardOnly, isPaired, isSoftOnly, isVowel}
+use Rattle.spec.specs.Elision.{elidesAmong}
+use Rattle.spec.specs.Refusals.{refusal}
+use Rattle.spec.specs.declared.Checked.{Checked}
+use Rattle.spec.specs.declared.Checked.the-variants.{Accepted, Refused}
 use Rattle.message.specs.declared.Seen.{Seen}
 use Rattle.message.specs.declared.Step.{Step}
 use Rattle.message.specs.declared.Step.the-variants.{Fault, Next}

@@ -3,16 +3,16 @@ ghost use mathlib.Core.Path.{_≡_};
 ghost use mathlib.Core.Bool.{cond};
 ghost use Prim.Native.Nat.{ℕ, _*_, _<_, _≤_};
 ghost use lib.ListN.{length, getD};
-ghost use Rattle.message.specs.Refusals.{checkOf};
+ghost use Rattle.spec.specs.Refusals.{checkOf};
 ghost use Rattle.message.specs.Scan.{classes, steps, classOf, packed, elidedAt, kindAt, lettersAt, limitAt, Sees, Here, Judged, finishOf};
-use crate::Checked;
-use crate::Counts;
-use crate::Refusal;
 use crate::Seen;
 use crate::Step;
 use crate::letters::is_elided;
 use crate::tables::class_table;
 use crate::tables::step_table;
+use spec::Checked;
+use spec::Counts;
+use spec::Refusal;
 
 // The class of a byte.
 pub fn class_of(b: u8, t: &[u8; 256]) -> usize

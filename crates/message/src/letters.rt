@@ -3,8 +3,8 @@ ghost use mathlib.Core.Path.{_≡_};
 ghost use Prim.Native.Nat.{_<_, _≤_};
 ghost use lib.Dec.{eqb};
 ghost use lib.ListN.{length};
-ghost use Rattle.message.specs.Letters.{small};
-ghost use Rattle.message.specs.Elision.{elidesT, elidesD, elidesAmong};
+ghost use Rattle.spec.specs.Letters.{small};
+ghost use Rattle.spec.specs.Elision.{elidesT, elidesD, elidesAmong};
 ghost use Rattle.message.specs.Scan.{letterAt, letterBefore, elidedAt};
 
 // The small letter of a byte.

@@ -5,14 +5,14 @@ use mathlib.Core.Path.{_≡_, refl}
 use mathlib.Core.List.{List, _++_}
 use lib.ListN.{length, drop}
 use borrow.Author.Tests.{le-leb, lt-leb}
-use Rattle.message.specs.Refusals.{refusal}
-use Rattle.message.specs.Answers.{within, afterCheck, outputAfter, Answered}
-use Rattle.message.specs.declared.Refusal.{Refusal}
-use Rattle.message.specs.declared.Counts.{Counts}
-use Rattle.message.specs.declared.Checked.{Checked}
-use Rattle.message.specs.declared.Checked.the-variants as checked
-use Rattle.message.specs.declared.Answer.{Answer}
-use Rattle.message.specs.declared.Answer.the-variants.{Written, Refused}
+use Rattle.spec.specs.Refusals.{refusal}
+use Rattle.spec.specs.Answers.{within, afterCheck, outputAfter, Answered}
+use Rattle.spec.specs.declared.Refusal.{Refusal}
+use Rattle.spec.specs.declared.Counts.{Counts}
+use Rattle.spec.specs.declared.Checked.{Checked}
+use Rattle.spec.specs.declared.Checked.the-variants as checked
+use Rattle.spec.specs.declared.Answer.{Answer}
+use Rattle.spec.specs.declared.Answer.the-variants.{Written, Refused}
 
 -- a message that the check refuses leaves the output as it is
 pub answered-refused : (c : Checked) (f : Refusal) (a b : Answer) (text out : List ℕ) → c ≡ checked.Refused f → Answered (afterCheck c a) text out out (afterCheck c b)

@@ -5,7 +5,7 @@ use native.Mathlib.Omega.{arith}
 use mathlib.Core.Path.{_≡_, refl, sym, ap, _∙_}
 use mathlib.Core.List.{List, [], _++_, append-nil, append-assoc}
 use lib.ListN.{length, length-append}
-use Rattle.message.specs.Tape.{tape}
+use Rattle.spec.specs.Tape.{tape}
 use Rattle.message.specs.Places.{Steady, markBefore, tapeAt}
 use Rattle.message.proofs.Lengths.{codes-from}
 use Rattle.message.proofs.Tail.{tape-start, tape-end, word-end, tone-end, sound-end}

@@ -6,12 +6,12 @@ use mathlib.Core.Bool.{Bool, true, false}
 use mathlib.Core.List.{List}
 use lib.ListN.{length, getD, drop}
 use lib.Seq.{drop-length}
-use Rattle.message.specs.Letters.{isBreak, isMark, beginsWithMark}
-use Rattle.message.specs.Refusals.{vowelByte}
-use Rattle.message.specs.Syllables.{nextStressed, syllableOf}
+use Rattle.spec.specs.Letters.{isBreak, isMark, beginsWithMark}
+use Rattle.spec.specs.Refusals.{vowelByte}
+use Rattle.spec.specs.Syllables.{nextStressed, syllableOf}
 use Rattle.message.specs.Places.{Steady, leftAt, letterOf, wordAt, markBefore, markedAt}
-use Rattle.message.specs.declared.Level.{Level}
-use Rattle.message.specs.declared.Level.the-variants.{Stressed}
+use Rattle.spec.specs.declared.Level.{Level}
+use Rattle.spec.specs.declared.Level.the-variants.{Stressed}
 use Rattle.message.proofs.Bytes.{not-both, vowel-break, vowel-mark}
 use Rattle.message.proofs.Computed.{everything}
 use Rattle.message.proofs.Left.{begins-at, mark-within, unmarked-after}

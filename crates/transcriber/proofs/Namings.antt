@@ -7,19 +7,19 @@ use mathlib.Core.List.{List, [], _∷_, _++_}
 use native.Mathlib.Omega.{arith}
 use borrow.Author.Tests.{eq-eqb, ne-eqb, le-leb, lt-leb}
 use lib.ListN.{length, getD, drop, length-append}
-use Rattle.message.specs.Letters.{isBreak, isMark}
-use Rattle.message.specs.Refusals.{vowelByte}
+use Rattle.spec.specs.Letters.{isBreak, isMark}
+use Rattle.spec.specs.Refusals.{vowelByte}
 use Rattle.message.specs.Scan.{classOf, isVowelClass}
-use Rattle.message.specs.Syllables.{incomplete, nameOf}
-use Rattle.message.specs.Tape.{names}
+use Rattle.spec.specs.Syllables.{incomplete, nameOf}
+use Rattle.spec.specs.Tape.{names}
 use Rattle.message.specs.Places.{Steady, leftAt, markBefore, namesAt}
 use Rattle.message.proofs.Bytes.{by-class, vowel-break}
 use Rattle.message.proofs.Left.{mark-within}
 use Rattle.message.proofs.Tail.{names-start, names-end, names-vowel, names-other, names-break}
 use Rattle.message.proofs.Lengths.{names-from}
 use Rattle.transcriber.specs.declared.Vowels.{Vowels}
-use Rattle.message.specs.declared.Level.{Level}
-use Rattle.message.specs.declared.Level.the-variants.{Stressed}
+use Rattle.spec.specs.declared.Level.{Level}
+use Rattle.spec.specs.declared.Level.the-variants.{Stressed}
 use Rattle.transcriber.specs.Sounds.{classBefore, farLevel, levelBefore, syllableBy}
 use Rattle.transcriber.specs.Walk.{Levels, Put, namePiece, NameReady, Named}
 use Rattle.transcriber.proofs.Levels.{levels-syllable, levels-vowel, levels-letter, levels-mark, levels-break, levels-end}

@@ -8,25 +8,25 @@ use native.Mathlib.Omega.{arith}
 use lib.Dec.{eqb, leb}
 use lib.ListN.{length, getD, drop}
 use borrow.Author.Tests.{eqb-true, leb-true, le-leb}
-use Rattle.message.specs.Alphabet.{«ь», «е», «ё», «и», «ю», «я»}
-use Rattle.message.specs.Tables.{among, Entry, _gives_, entry}
-use Rattle.message.specs.Letters.{Letter, between, small, plainVowels, softeningVowels, isBreak, isGap, isHardOnly, isPaired, isSoftOnly, isConsonant, isSign, isVowel, isMark, firstByte, beginsWithMark}
-use Rattle.message.specs.Refusals.{vowelByte}
+use Rattle.spec.specs.Alphabet.{«ь», «е», «ё», «и», «ю», «я»}
+use Rattle.spec.specs.Tables.{among, Entry, _gives_, entry}
+use Rattle.spec.specs.Letters.{Letter, between, small, plainVowels, softeningVowels, isBreak, isGap, isHardOnly, isPaired, isSoftOnly, isConsonant, isSign, isVowel, isMark, firstByte, beginsWithMark}
+use Rattle.spec.specs.Refusals.{vowelByte}
 use Rattle.message.specs.Scan.{classOf, isBreakClass, isSignClass, isLetterClass}
-use Rattle.message.specs.Codes.{J}
-use Rattle.message.specs.Elision.{elides}
-use Rattle.message.specs.Syllables.{coverAfter, incomplete, levelOf, syllableOf, nextStressed}
-use Rattle.message.specs.Vowels.{byStress, byLevel, hardEnd, vowelSound, glides, writtenCode, softens}
-use Rattle.message.specs.Voicing.{Tone, voiced, voiceless, asWritten, toneBefore, toned, voicedCode, voicelessCode}
-use Rattle.message.specs.Palatalization.{isSoft, firstCode}
+use Rattle.spec.specs.Codes.{J}
+use Rattle.spec.specs.Elision.{elides}
+use Rattle.spec.specs.Syllables.{coverAfter, incomplete, levelOf, syllableOf, nextStressed}
+use Rattle.spec.specs.Vowels.{byStress, byLevel, hardEnd, vowelSound, glides, writtenCode, softens}
+use Rattle.spec.specs.Voicing.{Tone, voiced, voiceless, asWritten, toneBefore, toned, voicedCode, voicelessCode}
+use Rattle.spec.specs.Palatalization.{isSoft, firstCode}
 use Rattle.message.specs.Fused.{toneIn, vowelCodes, consonantCode, letterCodes, fusedFrom}
 use Rattle.message.specs.Places.{Steady, leftAt, letterOf, wordAt, markedAt, soundAt, tailWord}
-use Rattle.message.specs.declared.Cover.{Cover}
-use Rattle.message.specs.declared.Level.{Level}
-use Rattle.message.specs.declared.Level.the-variants.{Stressed, First, Second}
-use Rattle.message.specs.declared.Syllable.{Syllable}
+use Rattle.spec.specs.declared.Cover.{Cover}
+use Rattle.spec.specs.declared.Level.{Level}
+use Rattle.spec.specs.declared.Level.the-variants.{Stressed, First, Second}
+use Rattle.spec.specs.declared.Syllable.{Syllable}
 use Rattle.message.proofs.Bytes.{below, below-same, by-class, letter-class, not-both, vowel-break, vowel-mark}
-use Rattle.message.proofs.Classes.{among-same}
+use Rattle.laws.proofs.Classes.{among-same}
 use Rattle.message.proofs.Before.{vowel-before}
 use Rattle.message.proofs.Left.{left-letter, left-mark, left-break}
 use Rattle.message.proofs.Computed.{everything}

@@ -7,15 +7,15 @@ use mathlib.Core.List.{List, [], _∷_, map}
 use native.Mathlib.Omega.{arith}
 use lib.Dec.{eqb}
 use borrow.Author.Tests.{eqb-true}
-use Rattle.message.specs.Alphabet.{«б», «ж», «и», «ч»}
-use Rattle.message.specs.Tables.{among}
-use Rattle.message.specs.Letters.{small, hardOnly, softOnly, isHardOnly, isSoftOnly}
-use Rattle.message.specs.Refusals.{vowelByte}
-use Rattle.message.specs.Vowels.{initial, vowelSound}
-use Rattle.message.specs.declared.Level.{Level}
-use Rattle.message.specs.declared.Level.the-variants.{Stressed, First, Second}
+use Rattle.spec.specs.Alphabet.{«б», «ж», «и», «ч»}
+use Rattle.spec.specs.Tables.{among}
+use Rattle.spec.specs.Letters.{small, hardOnly, softOnly, isHardOnly, isSoftOnly}
+use Rattle.spec.specs.Refusals.{vowelByte}
+use Rattle.spec.specs.Vowels.{initial, vowelSound}
+use Rattle.spec.specs.declared.Level.{Level}
+use Rattle.spec.specs.declared.Level.the-variants.{Stressed, First, Second}
 use Rattle.message.proofs.Bytes.{below-same}
-use Rattle.message.proofs.Classes.{among-same}
+use Rattle.laws.proofs.Classes.{among-same}
 use Rattle.message.proofs.Computed.{everything}
 use Rattle.transcriber.specs.Sounds.{afterOf, Sounds, groupPlace, levelPlace, digitOf, Row}
 use Rattle.transcriber.specs.declared.After.{After}

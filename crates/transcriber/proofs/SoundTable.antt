@@ -8,10 +8,10 @@ use native.Mathlib.Omega.{arith}
 use lib.Dec.{leb}
 use lib.ListN.{getD}
 use borrow.Author.Tests.{leb-true}
-use Rattle.message.specs.Letters.{small}
-use Rattle.message.specs.Refusals.{consonantByte}
-use Rattle.message.specs.Voicing.{Tone, voiced, voiceless, asWritten, toneBefore}
-use Rattle.message.specs.Palatalization.{isSoft}
+use Rattle.spec.specs.Letters.{small}
+use Rattle.spec.specs.Refusals.{consonantByte}
+use Rattle.spec.specs.Voicing.{Tone, voiced, voiceless, asWritten, toneBefore}
+use Rattle.spec.specs.Palatalization.{isSoft}
 use Rattle.message.specs.Fused.{consonantCode}
 use Rattle.message.proofs.Bytes.{below-same, pairs-same}
 use Rattle.message.proofs.Computed.{everything}

@@ -8,20 +8,20 @@ use mathlib.Core.List.{List, [], _∷_, _++_, map}
 use lib.Dec.{eqb, leb}
 use lib.ListN.{length, getD}
 use borrow.Author.Tests.{eqb-true, le-leb, lt-leb}
-use Rattle.message.specs.Letters.{between, small, firstByte, isBreak, isGap, isMark}
-use Rattle.message.specs.Codes.{J, markOf, isVoicing, isDevoicing}
-use Rattle.message.specs.Elision.{elides}
-use Rattle.message.specs.Syllables.{syllableOf}
-use Rattle.message.specs.Vowels.{vowelSound, softens}
-use Rattle.message.specs.Voicing.{Tone, voiced, voiceless, asWritten, toneBefore}
-use Rattle.message.specs.Refusals.{vowelByte, signByte, consonantByte}
+use Rattle.spec.specs.Letters.{between, small, firstByte, isBreak, isGap, isMark}
+use Rattle.spec.specs.Codes.{J, markOf, isVoicing, isDevoicing}
+use Rattle.spec.specs.Elision.{elides}
+use Rattle.spec.specs.Syllables.{syllableOf}
+use Rattle.spec.specs.Vowels.{vowelSound, softens}
+use Rattle.spec.specs.Voicing.{Tone, voiced, voiceless, asWritten, toneBefore}
+use Rattle.spec.specs.Refusals.{vowelByte, signByte, consonantByte}
 use Rattle.message.specs.Scan.{classOf, isVowelClass, elidedAt}
 use Rattle.message.specs.Fused.{vowelCodes, consonantCode, letterCodes}
 use Rattle.message.specs.Places.{Steady, leftAt, letterOf, markBefore, markedAt, tapeAt, wordAt, toneAt, soundAt, codesAt, toneAfter, soundAfter}
-use Rattle.message.specs.declared.Cover.{Cover}
-use Rattle.message.specs.declared.Level.{Level}
-use Rattle.message.specs.declared.Level.the-variants.{Stressed}
-use Rattle.message.specs.declared.Syllable.{Syllable}
+use Rattle.spec.specs.declared.Cover.{Cover}
+use Rattle.spec.specs.declared.Level.{Level}
+use Rattle.spec.specs.declared.Level.the-variants.{Stressed}
+use Rattle.spec.specs.declared.Syllable.{Syllable}
 use Rattle.message.proofs.Bytes.{below, below-same, by-class, not-both}
 use Rattle.message.proofs.Computed.{everything}
 use Rattle.message.proofs.Left.{mark-within}

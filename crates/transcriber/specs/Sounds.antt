@@ -6,18 +6,18 @@ use mathlib.Core.Bool.{Bool, false, cond, _&&_, _||_, not}
 use mathlib.Core.List.{List, [], _∷_, _++_}
 use lib.Dec.{eqb, leb}
 use lib.ListN.{getD}
-use Rattle.message.specs.Alphabet.{«б», «в», «г», «д», «з», «к», «л», «м», «н», «п», «р», «с», «т», «ф», «х»}
-use Rattle.message.specs.Tables.{_gives_, entry}
-use Rattle.message.specs.Letters.{between, isHardOnly, isSoftOnly, isObstruent}
-use Rattle.message.specs.Codes.{Б', В', Г', Х1', Д', Ж', З', К', Л', М', Н', П', Р', С', Т', Ф', Х', Ч, Ч1, Щ, isVoicing}
-use Rattle.message.specs.Vowels.{vowelSound, bare, writtenCode}
-use Rattle.message.specs.Voicing.{Tone, voiced, voiceless, asWritten, toneBefore, toned}
+use Rattle.spec.specs.Alphabet.{«б», «в», «г», «д», «з», «к», «л», «м», «н», «п», «р», «с», «т», «ф», «х»}
+use Rattle.spec.specs.Tables.{_gives_, entry}
+use Rattle.spec.specs.Letters.{between, isHardOnly, isSoftOnly, isObstruent}
+use Rattle.spec.specs.Codes.{Б', В', Г', Х1', Д', Ж', З', К', Л', М', Н', П', Р', С', Т', Ф', Х', Ч, Ч1, Щ, isVoicing}
+use Rattle.spec.specs.Vowels.{vowelSound, bare, writtenCode}
+use Rattle.spec.specs.Voicing.{Tone, voiced, voiceless, asWritten, toneBefore, toned}
 use Rattle.message.specs.Scan.{classOf, isBreakClass, isSignClass, tabulate}
-use Rattle.message.specs.declared.Cover.{Cover}
-use Rattle.message.specs.declared.Cover.the-variants.{Bare, Covered}
-use Rattle.message.specs.declared.Level.{Level}
-use Rattle.message.specs.declared.Level.the-variants.{Stressed, First, Second}
-use Rattle.message.specs.declared.Syllable.{Syllable}
+use Rattle.spec.specs.declared.Cover.{Cover}
+use Rattle.spec.specs.declared.Cover.the-variants.{Bare, Covered}
+use Rattle.spec.specs.declared.Level.{Level}
+use Rattle.spec.specs.declared.Level.the-variants.{Stressed, First, Second}
+use Rattle.spec.specs.declared.Syllable.{Syllable}
 use Rattle.transcriber.specs.declared.After.{After}
 use Rattle.transcriber.specs.declared.After.the-variants.{Start, HardOnly, SoftOnly, Other}
 

@@ -5,14 +5,14 @@ use mathlib.Core.Path.{_≡_}
 use mathlib.Core.Bool.{cond}
 use mathlib.Core.List.{List, [], _∷_, _++_}
 use lib.ListN.{length, take, drop, getD}
-use Rattle.message.specs.Letters.{firstByte, beginsWithMark, isBreak, isMark}
-use Rattle.message.specs.Codes.{markOf}
-use Rattle.message.specs.Syllables.{nextStressed, incomplete, nameOf, syllableOf}
-use Rattle.message.specs.Vowels.{softens}
-use Rattle.message.specs.Tape.{tape}
-use Rattle.message.specs.Refusals.{vowelByte}
+use Rattle.spec.specs.Letters.{firstByte, beginsWithMark, isBreak, isMark}
+use Rattle.spec.specs.Codes.{markOf}
+use Rattle.spec.specs.Syllables.{nextStressed, incomplete, nameOf, syllableOf}
+use Rattle.spec.specs.Vowels.{softens}
+use Rattle.spec.specs.Tape.{tape}
+use Rattle.spec.specs.Refusals.{vowelByte}
 use Rattle.message.specs.Places.{Steady, tapeAt, leftAt, letterOf, wordAt, toneAt, soundAt, markedAt, codesAt}
-use Rattle.message.specs.declared.Level.{Level}
+use Rattle.spec.specs.declared.Level.{Level}
 use Rattle.transcriber.specs.Sounds.{levelBy, farLevel, toneNo}
 use Rattle.transcriber.specs.declared.Right.{Right}
 use Rattle.transcriber.specs.declared.Vowels.{Vowels}

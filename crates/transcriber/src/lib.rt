@@ -4,7 +4,7 @@ pub mod tables;
 pub mod tape;
 mod walk;
 
-use message::Level;
+use spec::Level;
 
 // What a vowel's sound asks of the letter before it: none, one of ж ш ц, one of ч щ й, or another.
 pub enum After {

@@ -5,10 +5,10 @@ ghost use mathlib.Core.List.{_++_};
 ghost use Prim.Native.Nat.{_<_, _≤_};
 ghost use lib.ListN.{length, drop, getD};
 ghost use Rattle.message.specs.Scan.{classes, classOf, isVowelClass};
-ghost use Rattle.message.specs.Syllables.{incomplete};
-ghost use Rattle.message.specs.Tape.{names};
+ghost use Rattle.spec.specs.Syllables.{incomplete};
+ghost use Rattle.spec.specs.Tape.{names};
 ghost use Rattle.message.specs.Places.{Steady, leftAt};
-ghost use Rattle.message.specs.Answers.{Answered, nameAnswer};
+ghost use Rattle.spec.specs.Answers.{Answered, nameAnswer};
 ghost use Rattle.transcriber.specs.Walk.{Put, NameReady, Named};
 use crate::Vowels;
 use crate::sounds::far_level;
@@ -19,13 +19,13 @@ use crate::tape::put;
 use crate::tape::refused;
 use crate::walk::class_before;
 use crate::walk::mark_before;
-use message::Answer;
-use message::Checked;
-use message::Level;
-use message::Refusal;
 use message::check::check;
 use message::check::class_of;
 use message::tables::class_table;
+use spec::Answer;
+use spec::Checked;
+use spec::Level;
+use spec::Refusal;
 
 // The end of a word, at place i: letters after its last vowel are an incomplete syllable.
 fn put_end(m: &[u8], i: usize, at: usize, out: &mut [u8], t: &[u8; 256]) -> usize

@@ -3,17 +3,17 @@ ghost use mathlib.Core.Path.{_≡_};
 ghost use mathlib.Core.Bool.{true};
 ghost use Prim.Native.Nat.{_%_, _<_};
 ghost use lib.Dec.{leb};
-ghost use Rattle.message.specs.Letters.{small};
-ghost use Rattle.message.specs.Refusals.{consonantByte, vowelByte};
+ghost use Rattle.spec.specs.Letters.{small};
+ghost use Rattle.spec.specs.Refusals.{consonantByte, vowelByte};
 ghost use Rattle.message.specs.Scan.{isSignClass};
-ghost use Rattle.message.specs.Syllables.{nameOf};
+ghost use Rattle.spec.specs.Syllables.{nameOf};
 ghost use Rattle.message.specs.Fused.{consonantCode};
-ghost use Rattle.message.specs.Voicing.{toneBefore};
+ghost use Rattle.spec.specs.Voicing.{toneBefore};
 ghost use Rattle.transcriber.specs.Sounds.{Sounds, Row, groupPlace, levelPlace, afterClass, coverClass, farLevel, levelBefore, syllableBy, glideBy, soundTable, toneBy, toneNo};
 use crate::After;
-use message::Cover;
-use message::Level;
-use message::Syllable;
+use spec::Cover;
+use spec::Level;
+use spec::Syllable;
 
 // The vowel rows of pass 3, one arm a vowel, small or capital. A digit of a row is a sound's code, and there are five groups of three:
 // initial at a hard boundary, initial, after ж ш ц, after ч щ й, after another letter; in each group levels S, 1 and 2.

@@ -5,9 +5,9 @@ ghost use mathlib.Core.List.{[], _∷_};
 ghost use Prim.Native.Nat.{_+_, _%_, _<_, _≤_};
 ghost use lib.ListN.{length, getD};
 ghost use Rattle.message.specs.Scan.{classes, classOf, isBreakClass, isConsonantClass, isVowelClass, elidedAt};
-ghost use Rattle.message.specs.Tape.{tape};
+ghost use Rattle.spec.specs.Tape.{tape};
 ghost use Rattle.message.specs.Places.{Steady};
-ghost use Rattle.message.specs.Answers.{Answered, afterCheck, tapeAnswer};
+ghost use Rattle.spec.specs.Answers.{Answered, afterCheck, tapeAnswer};
 ghost use Rattle.transcriber.specs.Sounds.{soundTable, gapTone};
 ghost use Rattle.transcriber.specs.Walk.{Stands, Put, Ready, Stepped, MayWalk, Walked};
 use crate::Right;
@@ -23,14 +23,14 @@ use crate::tables::sound_table;
 use crate::walk::class_before;
 use crate::walk::hard_before;
 use crate::walk::mark_before;
-use message::Answer;
-use message::Checked;
-use message::Level;
-use message::Refusal;
 use message::check::check;
 use message::check::class_of;
 use message::letters::is_elided;
 use message::tables::class_table;
+use spec::Answer;
+use spec::Checked;
+use spec::Level;
+use spec::Refusal;
 
 // Puts a code right before place at.
 pub fn put(out: &mut [u8], at: usize, code: u8) -> usize

@@ -2,9 +2,9 @@
 -- Assumes nothing.
 use mathlib.Core.Path.{_≡_, refl, sym, _∙_}
 use native.Mathlib.Omega.{arith}
-use Rattle.message.specs.Refusals.{checkOf}
-use Rattle.message.specs.Answers.{checkedNumber, checkedPlace, checkedCodes, checkedNames}
-use Rattle.message.specs.declared.Checked.the-variants.{Accepted, Refused}
+use Rattle.spec.specs.Refusals.{checkOf}
+use Rattle.spec.specs.Answers.{checkedNumber, checkedPlace, checkedCodes, checkedNames}
+use Rattle.spec.specs.declared.Checked.the-variants.{Accepted, Refused}
 use Rattle.laws.proofs.Bounds.{SmallCheck, check-small}
 use borrow.Author.Needs.{needs}
 use Rattle.capi.proofs.govorun_check.Statement.{statement}
@@ -12,7 +12,7 @@ use Rattle.capi.proofs.govorun_check.Tie as tie
 
 -- the check's answer is small
 small : (c : tie.After-check) → SmallCheck (checkOf (c .before .before .args .m .now))
-small c = check-small (c .before .before .args .m .now) (λ j. omega (arith, c .before .shared-slice-known .given j))
+small c = check-small (c .before .before .args .m .now)
 
 -- the message is accepted, with these counts
 accepted : (c : tie.After-counts) → checkOf (c .before .before .before .before .args .m .now) ≡ Accepted (c .counts .given .0 .0)

@@ -14,7 +14,7 @@ say-requires : tie.Need-say-requires
 say-requires c κs =
     let r = c .before .before in
     let s = r .before .before .before .before in
-    let f = join-small (s .before .args .m .now) (λ j. omega (arith, s .shared-slice-known .given j)) (s .before .args .cuts .now) (length (s .before .args .out .now)) in
+    let f = join-small (s .before .args .m .now) (s .before .args .cuts .now) (length (s .before .args .out .now)) in
     rw (r .join .ensures .answer) (record { number = f .number; place = f .place; length = f .length; live = f .live })
 
 same-length : tie.Need-same-length

@@ -2,7 +2,7 @@
 -- Assumes nothing.
 use mathlib.Core.Path.{refl}
 use native.Mathlib.Omega.{arith}
-use Rattle.message.specs.Answers.{numberOf, placeOf, lengthOf, liveOf}
+use Rattle.spec.specs.Answers.{numberOf, placeOf, lengthOf, liveOf}
 use borrow.Author.Needs.{needs}
 use Rattle.capi.proofs.say.Statement.{statement}
 use Rattle.capi.proofs.say.Tie as tie

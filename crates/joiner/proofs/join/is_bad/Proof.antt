@@ -4,8 +4,8 @@ use mathlib.Core.Bool.{or-true, or-false}
 use borrow.Author.Needs.{needs}
 use borrow.Author.Tests.{ne-eqb, le-leb, lt-leb}
 use lib.ListN.{List·getD-eq-default}
-use Rattle.message.specs.Letters.{isBreak}
-use Rattle.message.specs.Joints.{row12}
+use Rattle.spec.specs.Letters.{isBreak}
+use Rattle.spec.specs.Joints.{row12}
 use Rattle.joiner.proofs.join.is_bad.Statement.{statement}
 use Rattle.joiner.proofs.join.is_bad.Tie as tie
 

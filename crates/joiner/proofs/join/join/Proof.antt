@@ -3,9 +3,9 @@
 use mathlib.Core.Path.{_≡_, sym, _∙_}
 use lib.Seq.{length-take-le}
 use borrow.Author.Needs.{needs}
-use Rattle.message.specs.Refusals.{checkOf}
-use Rattle.message.specs.Answers.{afterCheck}
-use Rattle.message.specs.declared.Checked.the-variants.{Accepted}
+use Rattle.spec.specs.Refusals.{checkOf}
+use Rattle.spec.specs.Answers.{afterCheck}
+use Rattle.spec.specs.declared.Checked.the-variants.{Accepted}
 use Rattle.joiner.proofs.Answering.{join-refused, join-cut, join-short, tape-due, join-written}
 use Rattle.joiner.proofs.join.join.Statement.{statement}
 use Rattle.joiner.proofs.join.join.Tie as tie

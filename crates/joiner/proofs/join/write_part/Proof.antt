@@ -5,7 +5,7 @@ use mathlib.Core.Path.{_≡_}
 use native.Mathlib.Omega.{arith}
 use lib.ListN.{length}
 use borrow.Author.Needs.{needs}
-use Rattle.message.specs.Tape.{tape}
+use Rattle.spec.specs.Tape.{tape}
 use Rattle.joiner.proofs.join.write_part.Statement.{statement}
 use Rattle.joiner.proofs.join.write_part.Tie as tie
 

@@ -8,9 +8,9 @@ use lib.Dec.{eqb}
 use lib.ListN.{length}
 use borrow.Author.Needs.{needs}
 use borrow.Author.Tests.{ne-eqb}
-use Rattle.message.specs.Alphabet.{mark, «и», «э»}
+use Rattle.spec.specs.Alphabet.{mark, «и», «э»}
 use Rattle.message.specs.Scan.{letterAt}
-use Rattle.message.specs.Joints.{wordAfter, beginsWithIOrE}
+use Rattle.spec.specs.Joints.{wordAfter, beginsWithIOrE}
 use Rattle.laws.proofs.Cuts.{break-within}
 use Rattle.joiner.proofs.Sides.{begins-after}
 use Rattle.joiner.proofs.joints.begins_with_i_or_e.Statement.{statement}

@@ -5,8 +5,8 @@ use native.Mathlib.Omega.{arith}
 use lib.ListN.{length, getD}
 use borrow.Author.Needs.{needs}
 use borrow.Author.Tests.{ne-eqb}
-use Rattle.message.specs.Alphabet.{gap}
-use Rattle.message.specs.Letters.{isGap}
+use Rattle.spec.specs.Alphabet.{gap}
+use Rattle.spec.specs.Letters.{isGap}
 use Rattle.laws.proofs.Cuts.{break-within}
 use Rattle.joiner.proofs.joints.changes_at.Statement.{statement}
 use Rattle.joiner.proofs.joints.changes_at.Tie as tie

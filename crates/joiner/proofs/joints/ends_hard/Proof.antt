@@ -7,12 +7,12 @@ use mathlib.Core.List.{List}
 use native.Mathlib.Omega.{arith}
 use borrow.Author.Needs.{needs}
 use borrow.Author.Tests.{ne-eqb}
-use Rattle.message.specs.Alphabet.{«ь»}
-use Rattle.message.specs.Tables.{among}
-use Rattle.message.specs.Letters.{isHardOnly, isPaired}
-use Rattle.message.specs.Vowels.{hardEnd, endsHard}
+use Rattle.spec.specs.Alphabet.{«ь»}
+use Rattle.spec.specs.Tables.{among}
+use Rattle.spec.specs.Letters.{isHardOnly, isPaired}
+use Rattle.spec.specs.Vowels.{hardEnd, endsHard}
 use Rattle.message.specs.Scan.{letterBefore}
-use Rattle.message.specs.Joints.{wordBefore}
+use Rattle.spec.specs.Joints.{wordBefore}
 use Rattle.joiner.proofs.Sides.{hard-before}
 use Rattle.joiner.proofs.joints.ends_hard.Statement.{statement}
 use Rattle.joiner.proofs.joints.ends_hard.Tie as tie

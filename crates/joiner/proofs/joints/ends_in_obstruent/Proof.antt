@@ -6,9 +6,9 @@ use mathlib.Core.Bool.{true, cond}
 use mathlib.Core.Logic.{⊎-elim}
 use native.Mathlib.Omega.{arith}
 use borrow.Author.Needs.{needs}
-use Rattle.message.specs.Tables.{among}
-use Rattle.message.specs.Letters.{isObstruent}
-use Rattle.message.specs.Joints.{wordBefore, endsInObstruent}
+use Rattle.spec.specs.Tables.{among}
+use Rattle.spec.specs.Letters.{isObstruent}
+use Rattle.spec.specs.Joints.{wordBefore, endsInObstruent}
 use Rattle.joiner.proofs.Arms.{off-keys}
 use Rattle.joiner.proofs.Sides.{passed, noiseBefore, noise-back, noise-before}
 use Rattle.joiner.proofs.joints.ends_in_obstruent.Statement.{statement}

@@ -5,8 +5,8 @@ use mathlib.Core.Bool.{false}
 use mathlib.Core.List.{[], _∷_}
 use mathlib.Core.Logic.{⊎-elim}
 use native.Mathlib.Omega.{arith}
-use Rattle.message.specs.Tables.{among}
-use Rattle.message.specs.Letters.{isHardOnly}
+use Rattle.spec.specs.Tables.{among}
+use Rattle.spec.specs.Letters.{isHardOnly}
 use Rattle.joiner.proofs.Arms.{in-gap}
 use Rattle.joiner.proofs.joints.is_hard_only.Statement.{statement}
 use Rattle.joiner.proofs.joints.is_hard_only.Tie as tie

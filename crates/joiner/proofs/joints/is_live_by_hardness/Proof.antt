@@ -3,7 +3,7 @@
 use mathlib.Core.Path.{sym, _∙_}
 use native.Mathlib.Omega.{arith}
 use borrow.Author.Needs.{needs}
-use Rattle.message.specs.Joints.{liveByHardness}
+use Rattle.spec.specs.Joints.{liveByHardness}
 use Rattle.laws.proofs.Cuts.{break-within}
 use Rattle.joiner.proofs.joints.is_live_by_hardness.Statement.{statement}
 use Rattle.joiner.proofs.joints.is_live_by_hardness.Tie as tie

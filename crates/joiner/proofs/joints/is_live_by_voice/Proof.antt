@@ -5,9 +5,9 @@ use mathlib.Core.Path.{_≡_, sym, ap, _∙_}
 use mathlib.Core.Bool.{and-true, and-false}
 use lib.ListN.{getD}
 use borrow.Author.Needs.{needs}
-use Rattle.message.specs.Codes.{isVoicing}
-use Rattle.message.specs.Tape.{tape}
-use Rattle.message.specs.Joints.{markIndex, liveByVoice}
+use Rattle.spec.specs.Codes.{isVoicing}
+use Rattle.spec.specs.Tape.{tape}
+use Rattle.spec.specs.Joints.{markIndex, liveByVoice}
 use Rattle.joiner.proofs.joints.is_live_by_voice.Statement.{statement}
 use Rattle.joiner.proofs.joints.is_live_by_voice.Tie as tie
 

@@ -4,8 +4,8 @@ use mathlib.Core.Path.{refl}
 use mathlib.Core.Bool.{true, false}
 use mathlib.Core.List.{[], _∷_}
 use native.Mathlib.Omega.{arith}
-use Rattle.message.specs.Tables.{among}
-use Rattle.message.specs.Letters.{isPaired}
+use Rattle.spec.specs.Tables.{among}
+use Rattle.spec.specs.Letters.{isPaired}
 use Rattle.joiner.proofs.Arms.{in-range, in-gap}
 use Rattle.joiner.proofs.joints.is_paired.Statement.{statement}
 use Rattle.joiner.proofs.joints.is_paired.Tie as tie

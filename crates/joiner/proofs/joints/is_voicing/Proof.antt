@@ -5,8 +5,8 @@ use mathlib.Core.Bool.{true, false}
 use mathlib.Core.List.{[], _∷_}
 use mathlib.Core.Logic.{⊎-elim}
 use native.Mathlib.Omega.{arith}
-use Rattle.message.specs.Tables.{among}
-use Rattle.message.specs.Codes.{isVoicing}
+use Rattle.spec.specs.Tables.{among}
+use Rattle.spec.specs.Codes.{isVoicing}
 use Rattle.joiner.proofs.Arms.{in-range, in-gap}
 use Rattle.joiner.proofs.joints.is_voicing.Statement.{statement}
 use Rattle.joiner.proofs.joints.is_voicing.Tie as tie

@@ -2,7 +2,7 @@
 -- Assumes nothing.
 use lib.ListN.{length}
 use borrow.Author.Tests.{eq-eqb, ne-eqb, lt-leb}
-use Rattle.message.specs.Refusals.{checkOf}
+use Rattle.spec.specs.Refusals.{checkOf}
 use borrow.Author.Needs.{needs}
 use Rattle.message.proofs.check.check.Statement.{statement}
 use Rattle.message.proofs.check.check.Tie as tie

@@ -9,7 +9,7 @@ use lib.Dec.{leb}
 use borrow.Author.Tests.{le-leb, lt-leb}
 use borrow.Author.Needs.{needs}
 use Rattle.message.specs.declared.Seen.{Seen}
-use Rattle.message.specs.declared.Checked.the-variants.{Accepted}
+use Rattle.spec.specs.declared.Checked.the-variants.{Accepted}
 use Rattle.message.specs.Scan.{isBreakClass, finishOf, tailNames}
 use Rattle.message.proofs.Bytes.{below-same}
 use Rattle.message.proofs.Computed.{everything}

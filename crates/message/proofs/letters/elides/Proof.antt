@@ -3,8 +3,8 @@
 use mathlib.Core.Path.{sym, _∙_}
 use mathlib.Core.Bool.{or-false}
 use borrow.Author.Tests.{eqb-true}
-use Rattle.message.specs.Letters.{small}
-use Rattle.message.specs.Elision.{elidesAmong}
+use Rattle.spec.specs.Letters.{small}
+use Rattle.spec.specs.Elision.{elidesAmong}
 use borrow.Author.Needs.{needs}
 use Rattle.message.proofs.letters.elides.Statement.{statement}
 use Rattle.message.proofs.letters.elides.Tie as tie

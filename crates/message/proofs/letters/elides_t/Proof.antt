@@ -3,8 +3,8 @@
 use mathlib.Core.Path.{sym, _∙_}
 use mathlib.Core.Bool.{and-true, and-false, or-false}
 use borrow.Author.Tests.{eqb-true}
-use Rattle.message.specs.Letters.{small}
-use Rattle.message.specs.Elision.{elidesT}
+use Rattle.spec.specs.Letters.{small}
+use Rattle.spec.specs.Elision.{elidesT}
 use borrow.Author.Needs.{needs}
 use Rattle.message.proofs.letters.elides_t.Statement.{statement}
 use Rattle.message.proofs.letters.elides_t.Tie as tie

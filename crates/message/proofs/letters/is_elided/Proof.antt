@@ -4,8 +4,8 @@ use Prim.Native.Nat.{ℕ, _+_, _≤_}
 use mathlib.Core.Bool.{and-false}
 use native.Mathlib.Omega.{arith}
 use lib.ListN.{length, List·getD-eq-default}
-use Rattle.message.specs.Letters.{small}
-use Rattle.message.specs.Elision.{elidesT, elidesD, elidesAmong}
+use Rattle.spec.specs.Letters.{small}
+use Rattle.spec.specs.Elision.{elidesT, elidesD, elidesAmong}
 use Rattle.message.specs.Scan.{letterAt, letterBefore, elidedAt}
 use Rattle.message.proofs.ScanTable.{before-at}
 use borrow.Author.Needs.{needs}

@@ -6,7 +6,7 @@ use mathlib.Core.Bool.{Bool, true, false, cond}
 use native.Mathlib.Omega.{arith}
 use lib.Dec.{eqb}
 use borrow.Author.Tests.{eq-eqb, ne-eqb, eqb-true, eqb-false, le-leb, lt-leb}
-use Rattle.message.specs.Letters.{between, small}
+use Rattle.spec.specs.Letters.{between, small}
 use borrow.Author.Needs.{needs}
 use Rattle.message.proofs.letters.is_letter.Statement.{statement}
 use Rattle.message.proofs.letters.is_letter.Tie as tie

@@ -3,7 +3,7 @@
 use borrow.Author.Needs.{needs}
 use borrow.Author.Tests.{le-leb, lt-leb, ne-eqb}
 use native.Mathlib.Omega.{arith}
-use Rattle.message.specs.Letters.{small}
+use Rattle.spec.specs.Letters.{small}
 use Rattle.message.proofs.letters.small_letter.Statement.{statement}
 use Rattle.message.proofs.letters.small_letter.Tie as tie
 

@@ -4,11 +4,12 @@ use mathlib.Core.Path.{_≡_, sym, _∙_}
 use native.Mathlib.Omega.{arith}
 use borrow.Author.Needs.{needs}
 use lib.ListN.{length}
-use Rattle.message.specs.Refusals.{checkOf}
-use Rattle.message.specs.Tape.{names}
-use Rattle.message.specs.Answers.{nameAnswer}
-use Rattle.message.specs.declared.Checked.the-variants.{Accepted}
-use Rattle.message.proofs.Accepted.{accepted-steady, accepted-counts}
+use Rattle.spec.specs.Refusals.{checkOf}
+use Rattle.spec.specs.Tape.{names}
+use Rattle.spec.specs.Answers.{nameAnswer}
+use Rattle.spec.specs.declared.Checked.the-variants.{Accepted}
+use Rattle.laws.proofs.Accepted.{accepted-counts}
+use Rattle.message.proofs.Steadiness.{accepted-steady}
 use Rattle.transcriber.proofs.Answering.{answered-refused, answered-short, answered-written}
 use Rattle.transcriber.proofs.naming.name.Statement.{statement}
 use Rattle.transcriber.proofs.naming.name.Tie as tie

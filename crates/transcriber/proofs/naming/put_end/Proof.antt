@@ -8,8 +8,8 @@ use native.Mathlib.Omega.{arith}
 use lib.ListN.{length}
 use borrow.Author.Tests.{le-leb, lt-leb}
 use borrow.Author.Needs.{needs}
-use Rattle.message.specs.Letters.{between}
-use Rattle.message.specs.Syllables.{incomplete}
+use Rattle.spec.specs.Letters.{between}
+use Rattle.spec.specs.Syllables.{incomplete}
 use Rattle.message.specs.Places.{Steady, leftAt}
 use Rattle.transcriber.specs.Sounds.{classBefore}
 use Rattle.transcriber.proofs.Raw.{incomplete-raw}

@@ -3,7 +3,7 @@
 use mathlib.Core.Bool.{or-false}
 use borrow.Author.Tests.{ne-eqb}
 use Rattle.message.specs.Scan.{isSignClass}
-use Rattle.message.specs.Vowels.{bare}
+use Rattle.spec.specs.Vowels.{bare}
 use Rattle.transcriber.specs.Sounds.{glideBy}
 use borrow.Author.Needs.{needs}
 use Rattle.transcriber.proofs.sounds.has_glide.Statement.{statement}

@@ -1,6 +1,6 @@
 -- Each arm is a case of the definition.
 -- Assumes nothing.
-use Rattle.message.specs.Syllables.{nameIn, nameOf}
+use Rattle.spec.specs.Syllables.{nameIn, nameOf}
 use borrow.Author.Needs.{needs}
 use Rattle.transcriber.proofs.sounds.name_of.Statement.{statement}
 use Rattle.transcriber.proofs.sounds.name_of.Tie as tie

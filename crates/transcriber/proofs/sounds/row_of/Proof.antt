@@ -5,8 +5,8 @@ use mathlib.Core.Bool.{false}
 use mathlib.Core.Logic.{⊎-elim, inl, inr}
 use native.Mathlib.Omega.{arith}
 use borrow.Author.Tests.{ne-eqb}
-use Rattle.message.specs.Alphabet.{«а», «е», «и», «о», «у», «ы», «э», «ю», «я», «ё»}
-use Rattle.message.specs.Tables.{among}
+use Rattle.spec.specs.Alphabet.{«а», «е», «и», «о», «у», «ы», «э», «ю», «я», «ё»}
+use Rattle.spec.specs.Tables.{among}
 use Rattle.message.proofs.Computed.{everything}
 use Rattle.transcriber.specs.Sounds.{groupPlace, levelPlace, digitOf}
 use Rattle.transcriber.proofs.Rows.{row-read, armed, unarmed}

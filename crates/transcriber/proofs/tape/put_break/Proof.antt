@@ -5,7 +5,7 @@ use mathlib.Core.Bool.{true, false}
 use lib.ListN.{getD}
 use borrow.Author.Needs.{needs}
 use borrow.Author.Tests.{eq-eqb, ne-eqb}
-use Rattle.message.specs.Letters.{isBreak}
+use Rattle.spec.specs.Letters.{isBreak}
 use Rattle.message.specs.Scan.{classOf, isBreakClass}
 use Rattle.message.proofs.Bytes.{by-class}
 use Rattle.transcriber.specs.Sounds.{farLevel}

@@ -8,8 +8,8 @@ use native.Mathlib.Omega.{arith}
 use lib.Dec.{leb}
 use lib.ListN.{getD}
 use borrow.Author.Needs.{needs}
-use Rattle.message.specs.Letters.{small}
-use Rattle.message.specs.Refusals.{consonantByte}
+use Rattle.spec.specs.Letters.{small}
+use Rattle.spec.specs.Refusals.{consonantByte}
 use Rattle.message.specs.Places.{toneAt, codesAt}
 use Rattle.message.proofs.Bytes.{by-class}
 use Rattle.transcriber.specs.Sounds.{toneBy}

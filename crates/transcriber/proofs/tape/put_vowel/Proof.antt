@@ -7,8 +7,8 @@ use mathlib.Core.List.{[], _∷_}
 use native.Mathlib.Omega.{arith}
 use lib.ListN.{getD}
 use borrow.Author.Needs.{needs}
-use Rattle.message.specs.Codes.{J}
-use Rattle.message.specs.Refusals.{vowelByte}
+use Rattle.spec.specs.Codes.{J}
+use Rattle.spec.specs.Refusals.{vowelByte}
 use Rattle.message.specs.Scan.{classOf, isVowelClass}
 use Rattle.message.specs.Places.{codesAt}
 use Rattle.message.proofs.Bytes.{by-class}

@@ -1,7 +1,7 @@
 -- A refusal is the answer, and an acceptance is an empty one.
 -- Assumes nothing.
 use borrow.Author.Needs.{needs}
-use Rattle.message.specs.Answers.{afterCheck}
+use Rattle.spec.specs.Answers.{afterCheck}
 use Rattle.transcriber.proofs.tape.refused.Statement.{statement}
 use Rattle.transcriber.proofs.tape.refused.Tie as tie
 

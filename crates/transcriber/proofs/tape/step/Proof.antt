@@ -9,7 +9,7 @@ use native.Mathlib.Omega.{arith}
 use lib.ListN.{getD}
 use borrow.Author.Needs.{needs}
 use borrow.Author.Tests.{eq-eqb}
-use Rattle.message.specs.Refusals.{consonantByte, signByte}
+use Rattle.spec.specs.Refusals.{consonantByte, signByte}
 use Rattle.message.specs.Scan.{classOf, elidedAt}
 use Rattle.message.proofs.Bytes.{ByClass, by-class}
 use Rattle.message.proofs.ScanTable.{class-spoken, before-spoken}

@@ -4,11 +4,12 @@ use mathlib.Core.Path.{_≡_, sym, _∙_}
 use native.Mathlib.Omega.{arith}
 use lib.ListN.{length}
 use borrow.Author.Needs.{needs}
-use Rattle.message.specs.Tape.{tape}
-use Rattle.message.specs.Refusals.{checkOf}
-use Rattle.message.specs.Answers.{tapeAnswer}
-use Rattle.message.specs.declared.Checked.the-variants.{Accepted}
-use Rattle.message.proofs.Accepted.{accepted-counts, accepted-steady}
+use Rattle.spec.specs.Tape.{tape}
+use Rattle.spec.specs.Refusals.{checkOf}
+use Rattle.spec.specs.Answers.{tapeAnswer}
+use Rattle.spec.specs.declared.Checked.the-variants.{Accepted}
+use Rattle.laws.proofs.Accepted.{accepted-counts}
+use Rattle.message.proofs.Steadiness.{accepted-steady}
 use Rattle.transcriber.proofs.Putting.{put-first}
 use Rattle.transcriber.proofs.Answering.{answered-refused, answered-short, answered-written}
 use Rattle.transcriber.proofs.tape.transcribe.Statement.{statement}

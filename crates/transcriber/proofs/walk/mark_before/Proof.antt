@@ -8,7 +8,7 @@ use native.Mathlib.Omega.{arith}
 use lib.Dec.{eqb}
 use lib.ListN.{getD}
 use borrow.Author.Tests.{ne-eqb}
-use Rattle.message.specs.Letters.{isBreak, isMark}
+use Rattle.spec.specs.Letters.{isBreak, isMark}
 use Rattle.message.specs.Scan.{classOf}
 use Rattle.message.specs.Places.{markBefore}
 use Rattle.message.proofs.Bytes.{below-same}

@@ -5,8 +5,8 @@ use Prim.Native.Nat.{ℕ, suc}
 use mathlib.Core.Bool.{Bool, cond}
 use mathlib.Core.List.{List, [], _∷_}
 use lib.Dec.{eqb}
-use Rattle.message.specs.Alphabet.{pause}
-use Rattle.message.specs.Tables.{among}
+use Rattle.spec.specs.Alphabet.{pause}
+use Rattle.spec.specs.Tables.{among}
 
 -- 'Codes', 1 to 56 in the paper's order
 abbrev pub А* : ℕ

@@ -3,9 +3,9 @@
 use Prim.Native.Nat.{ℕ}
 use mathlib.Core.Path.{_≡_, refl}
 use mathlib.Core.List.{List, [], _∷_, map}
-use Rattle.message.specs.Alphabet.{gap, mark, «а», «б», «в», «г», «д», «и», «й», «к», «л», «м», «о», «п», «р», «с», «т», «у», «ы», «ь», «э», «ю», «ё»}
-use Rattle.message.specs.Tape.{names}
-use Rattle.message.proofs.Computed.{everything}
+use Rattle.spec.specs.Alphabet.{gap, mark, «а», «б», «в», «г», «д», «и», «й», «к», «л», «м», «о», «п», «р», «с», «т», «у», «ы», «ь», «э», «ю», «ё»}
+use Rattle.spec.specs.Tape.{names}
+use Rattle.spec.proofs.Computed.{everything}
 
 pub record Named : Type 0 where
   pub message : List ℕ

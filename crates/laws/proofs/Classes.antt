@@ -6,9 +6,9 @@ use mathlib.Core.Bool.{Bool, true, false, _||_, false≢true}
 use mathlib.Core.List.{List, [], _∷_, _++_, map}
 use lib.Dec.{eqb}
 use borrow.Author.Tests.{eqb-true}
-use Rattle.message.specs.Tables.{among}
-use Rattle.message.specs.Letters.{plainVowels, softeningVowels, isVowel, isObstruent, isPaired}
-use Rattle.message.proofs.Computed.{everything}
+use Rattle.spec.specs.Tables.{among}
+use Rattle.spec.specs.Letters.{plainVowels, softeningVowels, isVowel, isObstruent, isPaired}
+use Rattle.spec.proofs.Computed.{everything}
 
 -- two functions that agree on a list agree at each of its bytes
 pub among-same : {A : Type 0} (f g : ℕ → A) (xs : List ℕ) (b : ℕ) → map f xs ≡ map g xs → among xs b ≡ true → f b ≡ g b

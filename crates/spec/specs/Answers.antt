@@ -6,13 +6,13 @@ use mathlib.Core.Bool.{cond}
 use mathlib.Core.List.{List, _++_}
 use lib.Dec.{eqb, leb}
 use lib.ListN.{length, drop}
-use Rattle.message.specs.Tape.{tape, names}
-use Rattle.message.specs.Refusals.{refusal, checkOf}
-use Rattle.message.specs.Joints.{joined, liveCount, badCut}
-use Rattle.message.specs.declared.Checked.{Checked}
-use Rattle.message.specs.declared.Answer.{Answer}
-use Rattle.message.specs.declared.Checked.the-variants as checked
-use Rattle.message.specs.declared.Answer.the-variants.{Written, Refused}
+use Rattle.spec.specs.Tape.{tape, names}
+use Rattle.spec.specs.Refusals.{refusal, checkOf}
+use Rattle.spec.specs.Joints.{joined, liveCount, badCut}
+use Rattle.spec.specs.declared.Checked.{Checked}
+use Rattle.spec.specs.declared.Answer.{Answer}
+use Rattle.spec.specs.declared.Checked.the-variants as checked
+use Rattle.spec.specs.declared.Answer.the-variants.{Written, Refused}
 
 -- The paper's number, place, length and live count of an answer; an accepted message has number 0 and place 0.
 unfoldable pub numberOf : Answer → ℕ

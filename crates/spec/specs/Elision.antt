@@ -4,8 +4,8 @@ use Prim.Native.Nat.{ℕ}
 use mathlib.Core.Bool.{Bool, cond, _&&_, _||_}
 use mathlib.Core.List.{List, [], _∷_}
 use lib.Dec.{eqb}
-use Rattle.message.specs.Alphabet.{«д», «з», «к», «н», «р», «с», «т», «ц», «ч», «ш»}
-use Rattle.message.specs.Letters.{Letter, firstByte}
+use Rattle.spec.specs.Alphabet.{«д», «з», «к», «н», «р», «с», «т», «ц», «ч», «ш»}
+use Rattle.spec.specs.Letters.{Letter, firstByte}
 
 -- the byte of the second letter; 0 where there is none
 unfoldable pub secondByte : List Letter → ℕ

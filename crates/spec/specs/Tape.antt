@@ -3,13 +3,13 @@
 use Prim.Native.Nat.{ℕ}
 use mathlib.Core.Bool.{Bool, false, _&&_}
 use mathlib.Core.List.{List, _∷_, _++_}
-use Rattle.message.specs.Letters.{Letter, Message, last, more, read, isGap}
-use Rattle.message.specs.Codes.{isVoicing, markOf}
-use Rattle.message.specs.Elision.{elide}
-use Rattle.message.specs.Syllables.{hasMark, namesFrom}
-use Rattle.message.specs.Vowels.{phonesFrom, endsHard}
-use Rattle.message.specs.Voicing.{voice}
-use Rattle.message.specs.Palatalization.{palatalize, firstCode}
+use Rattle.spec.specs.Letters.{Letter, Message, last, more, read, isGap}
+use Rattle.spec.specs.Codes.{isVoicing, markOf}
+use Rattle.spec.specs.Elision.{elide}
+use Rattle.spec.specs.Syllables.{hasMark, namesFrom}
+use Rattle.spec.specs.Vowels.{phonesFrom, endsHard}
+use Rattle.spec.specs.Voicing.{voice}
+use Rattle.spec.specs.Palatalization.{palatalize, firstCode}
 
 -- A word through passes 1 to 5. Two bits come from its neighbours: hard, a hard boundary stands before it; next, the next word of its phrase begins with a voicing sound.
 unfoldable pub wordTape : Bool → Bool → List Letter → List ℕ

@@ -3,12 +3,12 @@
 use Prim.Native.Nat.{ℕ}
 use mathlib.Core.Bool.{Bool, false, cond, _||_, not}
 use mathlib.Core.List.{List, [], _∷_}
-use Rattle.message.specs.Letters.{Letter, isVowel, isConsonant, isSign}
-use Rattle.message.specs.declared.Cover.{Cover}
-use Rattle.message.specs.declared.Cover.the-variants.{Bare, Covered}
-use Rattle.message.specs.declared.Level.{Level}
-use Rattle.message.specs.declared.Level.the-variants.{Stressed, First, Second}
-use Rattle.message.specs.declared.Syllable.{Syllable}
+use Rattle.spec.specs.Letters.{Letter, isVowel, isConsonant, isSign}
+use Rattle.spec.specs.declared.Cover.{Cover}
+use Rattle.spec.specs.declared.Cover.the-variants.{Bare, Covered}
+use Rattle.spec.specs.declared.Level.{Level}
+use Rattle.spec.specs.declared.Level.the-variants.{Stressed, First, Second}
+use Rattle.spec.specs.declared.Syllable.{Syllable}
 
 -- a vowel stands alone in its syllable unless a consonant or a sign stands right before it in the word; p is the letter before, 0 at the start
 unfoldable pub coverAfter : ℕ → Cover

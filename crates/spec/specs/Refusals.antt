@@ -1,18 +1,21 @@
 -- Paper 01, 'Turned-away messages': one test for each row of the table, and the message check.
 -- A row is tested at a byte b, given the bytes before it, nearest first, and the bytes after it.
 -- Assumes nothing: these are definitions.
-use Prim.Native.Nat.{ℕ, suc}
+use Prim.Native.Nat.{ℕ, zero, suc, _<_}
+use mathlib.Core.Path.{_≡_}
 use mathlib.Core.Bool.{Bool, true, false, cond, _&&_, _||_, not}
+use mathlib.Core.Logic.{_⊎_}
 use mathlib.Core.List.{List, [], _∷_}
 use lib.Dec.{eqb, leb}
-use lib.ListN.{length}
-use Rattle.message.specs.Alphabet.{«ъ»}
-use Rattle.message.specs.Letters.{small, isBreak, isMark, isConsonant, isSign, isVowel}
-use Rattle.message.specs.Tape.{tape, names}
-use Rattle.message.specs.declared.Refusal.{Refusal}
-use Rattle.message.specs.declared.Checked.{Checked}
-use Rattle.message.specs.declared.Checked.the-variants.{Accepted, Refused}
+use lib.ListN.{length, getD, drop}
+use Rattle.spec.specs.Alphabet.{«ъ»}
+use Rattle.spec.specs.Letters.{small, isBreak, isMark, isConsonant, isSign, isVowel}
+use Rattle.spec.specs.Tape.{tape, names}
+use Rattle.spec.specs.declared.Refusal.{Refusal}
+use Rattle.spec.specs.declared.Checked.{Checked}
+use Rattle.spec.specs.declared.Checked.the-variants.{Accepted, Refused}
 
+infix 40 _when_
 -- the classes of a byte as it stands in a message, where a letter may be a capital
 unfoldable pub vowelByte : ℕ → Bool
 vowelByte b = isVowel (small b)
@@ -87,17 +90,23 @@ row9 before b after = vowelByte b && vowelSign (adjacent before)
 unfoldable pub row10 : List ℕ → ℕ → List ℕ → Bool
 row10 before b after = letterByte b && eqb (lettersBefore before) 64
 
--- the smallest number whose row fits at this byte; 0 where none does
+-- a row of the table: its number, and its test at a byte, given the bytes before it, nearest first, and the bytes after it
+pub data Row : Type 0 where
+  _when_ : ℕ → (List ℕ → ℕ → List ℕ → Bool) → Row
+
+-- numbers 3 to 10, in the order in which they are given at one place
+unfoldable pub rows : List Row
+rows =
+    (3 when row3) ∷ (4 when row4) ∷ (5 when row5) ∷ (6 when row6)
+    ∷ (7 when row7) ∷ (8 when row8) ∷ (9 when row9) ∷ (10 when row10) ∷ []
+
+-- the number of the first row that fits at a byte; 0 where none does
+unfoldable pub firstFit : List Row → List ℕ → ℕ → List ℕ → ℕ
+firstFit [] before b after = 0
+firstFit ((n when test) ∷ rs) before b after = cond (test before b after) n (firstFit rs before b after)
+
 unfoldable pub faultAt : List ℕ → ℕ → List ℕ → ℕ
-faultAt before b after =
-    cond (row3 before b after) 3
-    (cond (row4 before b after) 4
-    (cond (row5 before b after) 5
-    (cond (row6 before b after) 6
-    (cond (row7 before b after) 7
-    (cond (row8 before b after) 8
-    (cond (row9 before b after) 9
-    (cond (row10 before b after) 10 0)))))))
+faultAt before b after = firstFit rows before b after
 
 abbrev pub refusal : ℕ → ℕ → Refusal
 refusal n p = record { number = n; place = p }
@@ -116,3 +125,42 @@ checkOf m =
     (cond (leb (length m) 4096)
     (scan (Accepted (record { codes = length (tape m); names = length (names m) })) [] m)
     (Refused (refusal 2 0)))
+
+-- Which numbers fit where, one by one. Does number k of the rows fit at a byte?
+unfoldable pub fitsIn : List Row → ℕ → List ℕ → ℕ → List ℕ → Bool
+fitsIn [] k before b after = false
+fitsIn ((n when test) ∷ rs) k before b after = cond (eqb n k) (test before b after) (fitsIn rs k before b after)
+
+-- the bytes before place p, nearest first
+unfoldable pub beforeAt : List ℕ → ℕ → List ℕ
+beforeAt m zero = []
+beforeAt m (suc p) = getD m p 0 ∷ beforeAt m p
+
+-- does the condition of number k, 1 to 10, hold at place p of a message?
+unfoldable pub fits : List ℕ → ℕ → ℕ → Bool
+fits m k p =
+    cond (eqb k 1) (eqb p 0 && eqb (length m) 0)
+    (cond (eqb k 2) (eqb p 0 && not (leb (length m) 4096))
+    (leb (suc p) (length m) && fitsIn rows k (beforeAt m p) (getD m p 0) (drop (suc p) m)))
+
+-- the index of number k in a list of rows
+unfoldable pub indexIn : List Row → ℕ → ℕ
+indexIn [] k = 0
+indexIn ((n when test) ∷ rs) k = cond (eqb n k) 0 (suc (indexIn rs k))
+
+-- the order of the numbers at one place: 1, 2, then the rows as they stand in their list
+unfoldable pub rank : ℕ → ℕ
+rank k = cond (eqb k 1) 0 (cond (eqb k 2) 1 (suc (suc (indexIn rows k))))
+
+-- none of numbers 1 to 10 fits a message anywhere
+abbrev pub NoneFits : List ℕ → Type 0
+NoneFits m = (k p : ℕ) → fits m k p ≡ false
+
+-- number k at place q comes before number n at place p: 1 and 2 have place 0 and come first there; then by the smallest place, at one place in the order of the table
+abbrev pub Earlier : ℕ → ℕ → ℕ → ℕ → Type 0
+Earlier k q n p = (q < p) ⊎ ((q ≡ p) × (rank k < rank n))
+
+-- number n is given at place p: its condition holds there, and none earlier does
+pub record Given (m : List ℕ) (n p : ℕ) : Type 0 where
+  pub holds : fits m n p ≡ true
+  pub first : (k q : ℕ) → Earlier k q n p → fits m k q ≡ false

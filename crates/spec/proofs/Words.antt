@@ -3,17 +3,22 @@
 use Prim.Native.Nat.{ℕ}
 use mathlib.Core.Path.{_≡_, refl}
 use mathlib.Core.List.{List, [], _∷_, map}
-use Rattle.message.specs.Alphabet.{gap, pause, mark, «й», «а», «б», «в», «г», «д», «е», «ж», «з», «и», «к», «л», «м», «н», «о», «п», «р», «с», «т», «у», «ъ», «ы», «ь»}
-use Rattle.message.specs.Codes.{J, И*, А*, А1, А2, Б, В, Г, Д, Ж, З, З', К, Л, М, Н, О*, П, Р, С, С', Т, Т', У*, У1, Ы*, Ы1, Э*}
-use Rattle.message.specs.Tape.{tape}
-use Rattle.message.specs.Joints.{joined, liveCount}
-use Rattle.message.proofs.Computed.{everything}
+use lib.ListN.{length}
+use Rattle.spec.specs.Alphabet.{gap, pause, mark, «й», «а», «б», «в», «г», «д», «е», «ж», «з», «и», «к», «л», «м», «н», «о», «п», «р», «с», «т», «у», «ъ», «ы», «ь»}
+use Rattle.spec.specs.Codes.{J, И*, А*, А1, А2, Б, В, Г, Д, Ж, З, З', К, Л, М, Н, О*, П, Р, С, С', Т, Т', У*, У1, Ы*, Ы1, Э*}
+use Rattle.spec.specs.Tape.{tape}
+use Rattle.spec.specs.Joints.{joined}
+use Rattle.spec.specs.Answers.{tapeAnswer, joinAnswer}
+use Rattle.spec.specs.declared.Answer.{Answer}
+use Rattle.spec.specs.declared.Answer.the-variants.{Written}
+use Rattle.spec.proofs.Computed.{everything}
 
--- what is heard of a message, whole and cut
+-- what is heard of a message, whole and cut: the tapes, and what transcriber and joiner answer with room enough
 pub record Heard : Type 0 where
   pub whole : List ℕ
   pub parts : List ℕ
-  pub live : ℕ
+  pub transcribed : Answer
+  pub joins : Answer
 
 pub record Example : Type 0 where
   pub message : List ℕ
@@ -55,17 +60,26 @@ examples =
     -- са*д к до*му, cut at 4 and 6
     (record { message = «с» ∷ «а» ∷ mark ∷ «д» ∷ gap ∷ «к» ∷ gap ∷ «д» ∷ «о» ∷ mark ∷ «м» ∷ «у» ∷ []; cuts = 4 ∷ 6 ∷ []; whole = С ∷ А* ∷ Д ∷ 0 ∷ Г ∷ 0 ∷ Д ∷ О* ∷ М ∷ У1 ∷ []; parts = С ∷ А* ∷ Т ∷ 0 ∷ К ∷ 0 ∷ Д ∷ О* ∷ М ∷ У1 ∷ []; live = 2 }) ∷
     -- mistakes near at hand: nothing is voiced before В
-    (word («с» ∷ «в» ∷ «о» ∷ mark ∷ «й» ∷ []) (С ∷ В ∷ О* ∷ J ∷ [])) ∷
+    (word («с» ∷ «в» ∷ «о» ∷ «й» ∷ []) (С ∷ В ∷ А1 ∷ J ∷ [])) ∷
     (word («с» ∷ «а» ∷ mark ∷ «д» ∷ gap ∷ «в» ∷ gap ∷ «д» ∷ «о» ∷ mark ∷ «м» ∷ []) (С ∷ А* ∷ Т ∷ 0 ∷ В ∷ 0 ∷ Д ∷ О* ∷ М ∷ [])) ∷
     -- и over a pause
     (word («с» ∷ «а» ∷ mark ∷ «д» ∷ pause ∷ «и» ∷ mark ∷ «в» ∷ «ы» ∷ []) (С ∷ А* ∷ Т ∷ 63 ∷ И* ∷ В ∷ Ы1 ∷ [])) ∷
     []
 
+-- room for every example's answer
+abbrev pub room : ℕ
+room = 100
+
 abbrev pub expected : Example → Heard
-expected e = record { whole = e .whole; parts = e .parts; live = e .live }
+expected e = record { whole = e .whole; parts = e .parts; transcribed = Written (length (e .whole)) 0; joins = Written (length (e .parts)) (e .live) }
 
 abbrev pub found : Example → Heard
-found e = record { whole = tape (e .message); parts = joined (e .message) (e .cuts); live = liveCount (e .message) (e .cuts) }
+found e = record {
+  whole = tape (e .message);
+  parts = joined (e .message) (e .cuts);
+  transcribed = tapeAnswer (e .message) room;
+  joins = joinAnswer (e .message) (e .cuts) room;
+}
 
 pub words : map found examples ≡ map expected examples
 unfolding everything examples

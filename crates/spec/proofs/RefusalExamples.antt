@@ -2,13 +2,13 @@
 -- Assumes nothing.
 use Prim.Native.Nat.{ℕ}
 use mathlib.Core.Path.{_≡_, refl}
-use mathlib.Core.List.{List, [], _∷_, map}
+use mathlib.Core.List.{List, [], _∷_, _++_, map}
 use lib.ListN.{replicate}
-use Rattle.message.specs.Alphabet.{gap, pause, mark, «а», «б», «к», «ъ», «ь», «я»}
-use Rattle.message.specs.Refusals.{refusal}
-use Rattle.message.specs.Answers.{joinAnswer}
-use Rattle.message.specs.declared.Answer.the-variants.{Refused}
-use Rattle.message.proofs.Computed.{everything}
+use Rattle.spec.specs.Alphabet.{gap, pause, mark, «а», «б», «к», «ъ», «ь», «я»}
+use Rattle.spec.specs.Refusals.{refusal}
+use Rattle.spec.specs.Answers.{joinAnswer}
+use Rattle.spec.specs.declared.Answer.the-variants.{Refused}
+use Rattle.spec.proofs.Computed.{everything}
 
 -- what is handed in, and how it is turned away
 pub record TurnedAway : Type 0 where
@@ -44,6 +44,15 @@ turnedAway =
     (refused 9 3 («а» ∷ mark ∷ «ь» ∷ «я» ∷ [])) ∷
     -- 65 times а
     (refused 10 64 (replicate 65 «а»)) ∷
+    -- at one place the smallest number: the 65th letter of a word is also a sign after a sign, a consonant after ъ, or a vowel after a vowel and a sign
+    (refused 7 64 (replicate 63 «б» ++ («ь» ∷ «ъ» ∷ []))) ∷
+    (refused 8 64 (replicate 63 «б» ++ («ъ» ∷ «к» ∷ []))) ∷
+    (refused 9 64 (replicate 62 «б» ++ («а» ∷ «ь» ∷ «а» ∷ []))) ∷
+    -- the smallest place before the smallest number; 2 before what its bytes would meet; 12 before 11
+    (refused 5 1 («б» ∷ mark ∷ 0x37 ∷ [])) ∷
+    (refused 2 0 (replicate 4097 0x37)) ∷
+    (record { message = «а» ∷ gap ∷ «б» ∷ []; cuts = 0 ∷ []; room = 0; number = 12; place = 0 }) ∷
+    (record { message = «б» ∷ mark ∷ []; cuts = 0 ∷ []; room = 0; number = 5; place = 1 }) ∷
     -- а, output of 0
     (record { message = «а» ∷ []; cuts = []; room = 0; number = 11; place = 1 }) ∷
     -- а б, cuts 0

@@ -4,12 +4,12 @@ use Prim.Native.Nat.{ℕ}
 use mathlib.Core.Bool.{Bool, cond, _&&_, _||_, not}
 use mathlib.Core.List.{List, [], _∷_}
 use lib.Dec.{eqb}
-use Rattle.message.specs.Alphabet.{«д», «з», «н», «с», «т»}
-use Rattle.message.specs.Tables.{among}
-use Rattle.message.specs.Letters.{isPaired, isObstruent}
-use Rattle.message.specs.Codes.{Д', Ж', З', Н', С', Т', Ч, Ч1, Щ, palatalized}
-use Rattle.message.specs.Vowels.{Phone, writtenCode}
-use Rattle.message.specs.Voicing.{voicedCode, voicelessCode}
+use Rattle.spec.specs.Alphabet.{«д», «з», «н», «с», «т»}
+use Rattle.spec.specs.Tables.{among}
+use Rattle.spec.specs.Letters.{isPaired, isObstruent}
+use Rattle.spec.specs.Codes.{Д', Ж', З', Н', С', Т', Ч, Ч1, Щ, palatalized}
+use Rattle.spec.specs.Vowels.{Phone, writtenCode}
+use Rattle.spec.specs.Voicing.{voicedCode, voicelessCode}
 
 -- т д с з н
 abbrev pub dentals : List ℕ

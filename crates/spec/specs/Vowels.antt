@@ -4,16 +4,16 @@ use Prim.Native.Nat.{ℕ}
 use mathlib.Core.Bool.{Bool, true, false, cond, _&&_, _||_}
 use mathlib.Core.List.{List, [], _∷_, _++_}
 use lib.Dec.{eqb}
-use Rattle.message.specs.Alphabet.{«а», «б», «в», «г», «д», «е», «ж», «з», «и», «й», «к», «л», «м», «н», «о», «п», «р», «с», «т», «у», «ф», «х», «ц», «ч», «ш», «щ», «ы», «ь», «э», «ю», «я», «ё»}
-use Rattle.message.specs.Tables.{among, _gives_, entry}
-use Rattle.message.specs.Letters.{Letter, firstByte, isHardOnly, isPaired, isSoftOnly, isSign, isVowel, isSofteningVowel}
-use Rattle.message.specs.Codes.{А*, О*, Э*, Ы*, И*, У*, А1, Э1, Ы1, И1, У1, А2, Э2, Б, В, Г, Д, Ж, J, З, К, Л, М, Н, П, Р, С, Т, Ф, Х, Ц, Ч, Ш, Щ}
-use Rattle.message.specs.Syllables.{syllableOf}
-use Rattle.message.specs.declared.Cover.{Cover}
-use Rattle.message.specs.declared.Cover.the-variants.{Bare, Covered}
-use Rattle.message.specs.declared.Level.{Level}
-use Rattle.message.specs.declared.Level.the-variants.{Stressed, First, Second}
-use Rattle.message.specs.declared.Syllable.{Syllable}
+use Rattle.spec.specs.Alphabet.{«а», «б», «в», «г», «д», «е», «ж», «з», «и», «й», «к», «л», «м», «н», «о», «п», «р», «с», «т», «у», «ф», «х», «ц», «ч», «ш», «щ», «ы», «ь», «э», «ю», «я», «ё»}
+use Rattle.spec.specs.Tables.{among, _gives_, entry}
+use Rattle.spec.specs.Letters.{Letter, firstByte, isHardOnly, isPaired, isSoftOnly, isSign, isVowel, isSofteningVowel}
+use Rattle.spec.specs.Codes.{А*, О*, Э*, Ы*, И*, У*, А1, Э1, Ы1, И1, У1, А2, Э2, Б, В, Г, Д, Ж, J, З, К, Л, М, Н, П, Р, С, Т, Ф, Х, Ц, Ч, Ш, Щ}
+use Rattle.spec.specs.Syllables.{syllableOf}
+use Rattle.spec.specs.declared.Cover.{Cover}
+use Rattle.spec.specs.declared.Cover.the-variants.{Bare, Covered}
+use Rattle.spec.specs.declared.Level.{Level}
+use Rattle.spec.specs.declared.Level.the-variants.{Stressed, First, Second}
+use Rattle.spec.specs.declared.Syllable.{Syllable}
 
 -- the last letter of a word is p and the one before it is q: does the word end in T or P, or in ь with T before it?
 unfoldable pub hardEnd : ℕ → ℕ → Bool

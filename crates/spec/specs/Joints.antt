@@ -5,11 +5,11 @@ use mathlib.Core.Bool.{Bool, false, cond, _&&_, _||_, not}
 use mathlib.Core.List.{List, [], _∷_, _++_}
 use lib.Dec.{eqb, leb}
 use lib.ListN.{length, take, drop, getD}
-use Rattle.message.specs.Alphabet.{«и», «э»}
-use Rattle.message.specs.Letters.{Letter, read, firstWord, lastWord, isGap, isBreak, isSign, isObstruent}
-use Rattle.message.specs.Codes.{isVoicing, markOf}
-use Rattle.message.specs.Vowels.{endsHard}
-use Rattle.message.specs.Tape.{tape}
+use Rattle.spec.specs.Alphabet.{«и», «э»}
+use Rattle.spec.specs.Letters.{Letter, read, firstWord, lastWord, isGap, isBreak, isSign, isObstruent}
+use Rattle.spec.specs.Codes.{isVoicing, markOf}
+use Rattle.spec.specs.Vowels.{endsHard}
+use Rattle.spec.specs.Tape.{tape}
 
 -- the parts of a message from place a on, cut at the places of the list, each transcribed as a message of its own, with the marks of the cuts between them
 unfoldable pub joinedFrom : List ℕ → ℕ → List ℕ → List ℕ

@@ -4,8 +4,8 @@ use Prim.Native.Nat.{ℕ, _+_}
 use mathlib.Core.Bool.{Bool, false, cond, _&&_, _||_}
 use mathlib.Core.List.{List, [], _∷_, _++_}
 use lib.Dec.{eqb, leb}
-use Rattle.message.specs.Alphabet.{gap, pause, mark, «а», «б», «в», «г», «д», «е», «ж», «з», «и», «й», «к», «л», «м», «н», «о», «п», «р», «с», «т», «у», «ф», «х», «ц», «ч», «ш», «щ», «ъ», «ы», «ь», «э», «ю», «я», «ё»}
-use Rattle.message.specs.Tables.{among}
+use Rattle.spec.specs.Alphabet.{gap, pause, mark, «а», «б», «в», «г», «д», «е», «ж», «з», «и», «й», «к», «л», «м», «н», «о», «п», «р», «с», «т», «у», «ф», «х», «ц», «ч», «ш», «щ», «ъ», «ы», «ь», «э», «ю», «я», «ё»}
+use Rattle.spec.specs.Tables.{among}
 
 abbrev pub between : ℕ → ℕ → ℕ → Bool
 between lo hi b = leb lo b && leb b hi

@@ -1,0 +1,133 @@
+-- How long a tape and a naming can be: a letter makes at most two codes and one name, a break one code, and a message has no more letters and breaks than bytes.
+-- Assumes nothing.
+use Prim.Native.Nat.{ℕ, suc, _+_, _*_, _≤_}
+use mathlib.Core.Path.{_≡_, refl, ap}
+use mathlib.Core.Bool.{Bool, true, false, cond, _&&_, _||_}
+use mathlib.Core.List.{List, [], _∷_, _++_}
+use native.Mathlib.Omega.{arith}
+use lib.ListN.{length, length-append}
+use Rattle.spec.specs.Letters.{Letter, Message, last, more, read, putLetter, beginsWithMark, small, isGap, isBreak, isMark, isSign, isVowel, isConsonant, plainVowels, softeningVowels}
+use Rattle.spec.specs.Codes.{isVoicing}
+use Rattle.spec.specs.Elision.{elides, elideFrom, elide}
+use Rattle.spec.specs.Syllables.{hasMark, syllableOf, nameOf, incomplete, namesFrom}
+use Rattle.spec.specs.Vowels.{Phone, glides, vowelPhones, phonesOf, phonesFrom, endsHard}
+use Rattle.spec.specs.Voicing.{voice}
+use Rattle.spec.specs.Palatalization.{palatalize, firstCode}
+use Rattle.spec.specs.Tape.{wordTape, segment, tape, wordNames, namesOf, names}
+use Rattle.spec.proofs.Computed.{everything}
+use Rattle.laws.proofs.Classes.{among-same}
+
+-- the letters and breaks of a message
+abbrev pub sizeOf : Message → ℕ
+sizeOf (last w) = length w
+sizeOf (more w x r) = suc (length w + sizeOf r)
+
+-- a letter more
+put-size : (l : Letter) (r : Message) → sizeOf (putLetter l r) ≡ suc (sizeOf r)
+unfolding putLetter
+put-size l (last w) = refl
+put-size l (more w x r) = omega arith
+
+-- are no more than its bytes
+pub read-size : (m : List ℕ) → sizeOf (read m) ≤ length m
+unfolding read
+read-size [] = omega arith
+read-size (b ∷ m) = by (isBreak b) (isMark b) (read-size m)
+  where
+    by : (s t : Bool) → sizeOf (read m) ≤ length m
+        → sizeOf (cond s (more [] b (read m)) (cond t (read m) (putLetter (record { byte = small b; stressed = beginsWithMark m }) (read m)))) ≤ suc (length m)
+    by true t h = omega arith
+    by false true h = omega arith
+    by false false h = omega (arith, put-size (record { byte = small b; stressed = beginsWithMark m }) (read m))
+
+-- pass 1 only takes letters away
+elide-size : (p : ℕ) (w : List Letter) → length (elideFrom p w) ≤ length w
+unfolding elideFrom
+elide-size p [] = omega arith
+elide-size p (l ∷ w) = by (elides p (l .byte) w) (elide-size (l .byte) w)
+  where
+    by : (t : Bool) → length (elideFrom (l .byte) w) ≤ length w → length (cond t (elideFrom (l .byte) w) (l ∷ elideFrom (l .byte) w)) ≤ suc (length w)
+    by true h = omega arith
+    by false h = omega arith
+
+-- a letter makes at most two sounds
+phones-one : (hard marked : Bool) (p : ℕ) (l : Letter) (w : List Letter) → length (phonesOf hard marked p l w) ≤ 2
+unfolding phonesOf vowelPhones
+phones-one hard marked p l w = by (isSign (l .byte)) (isVowel (l .byte)) (glides p (syllableOf marked p l w .cover) (l .byte)) _ _ _
+  where
+    by : (s v g : Bool) (j x c : Phone) → length (cond s [] (cond v (cond g (j ∷ x ∷ []) (x ∷ [])) (c ∷ []))) ≤ 2
+    by true v g j x c = omega arith
+    by false true true j x c = omega arith
+    by false true false j x c = omega arith
+    by false false g j x c = omega arith
+
+phones-size : (hard marked : Bool) (p : ℕ) (w : List Letter) → length (phonesFrom hard marked p w) ≤ 2 * length w
+unfolding phonesFrom
+phones-size hard marked p [] = omega arith
+phones-size hard marked p (l ∷ w) = simp length-append (omega (arith, phones-one hard marked p l w, phones-size false marked (l .byte) w))
+
+-- passes 4 and 5 keep their number
+sounds-size : (next : Bool) (xs : List Phone) → length (palatalize (voice next xs)) ≡ length xs
+unfolding palatalize voice
+sounds-size next [] = refl
+sounds-size next (x ∷ xs) = ap suc (sounds-size next xs)
+
+word-size : (hard next : Bool) (w : List Letter) → length (wordTape hard next w) ≤ 2 * length w
+unfolding wordTape elide
+word-size hard next w =
+    omega (arith, sounds-size next (phonesFrom hard (hasMark w) 0 (elideFrom 0 w)), phones-size hard (hasMark w) 0 (elideFrom 0 w), elide-size 0 w)
+
+segment-size : (hard next : Bool) (r : Message) → length (segment hard next r) ≤ 2 * sizeOf r
+unfolding segment
+segment-size hard next (last w) = word-size hard next w
+segment-size hard next (more w x r) =
+    let k = isGap x && endsHard w in
+    simp length-append (omega (arith, word-size hard (isGap x && isVoicing (firstCode (segment k next r))) w, segment-size k next r))
+
+-- A tape has at most two codes for a byte of message.
+pub tape-size : (m : List ℕ) → length (tape m) ≤ 2 * length m
+unfolding tape
+tape-size m = omega (arith, segment-size false false (read m), read-size m)
+
+-- a word that ends in a vowel, or has no letter, has no incomplete syllable
+vowel-complete : (b : ℕ) → isVowel b ≡ true → incomplete b ≡ []
+unfolding everything
+vowel-complete b h = among-same incomplete (λ _. []) (plainVowels ++ softeningVowels) b refl h
+
+none-complete : incomplete 0 ≡ []
+unfolding everything
+none-complete = refl
+
+-- one that does not has one
+incomplete-one : (p : ℕ) → length (incomplete p) ≤ 1
+unfolding incomplete
+incomplete-one p = by (isConsonant p || isSign p)
+  where
+    by : (t : Bool) → length {A = ℕ} (cond t (7 ∷ []) []) ≤ 1
+    by true = omega arith
+    by false = omega arith
+
+-- a word's names are no more than its letters: a letter that is no vowel names nothing but an incomplete syllable
+names-from-size : (marked : Bool) (p : ℕ) (w : List Letter) → length (namesFrom marked p w) ≤ length w + length (incomplete p)
+unfolding namesFrom
+names-from-size marked p [] = omega arith
+names-from-size marked p (l ∷ w) = by (isVowel (l .byte)) refl (names-from-size marked (l .byte) w)
+  where
+    by : (v : Bool) → isVowel (l .byte) ≡ v → length (namesFrom marked (l .byte) w) ≤ length w + length (incomplete (l .byte))
+        → length (cond v (nameOf (syllableOf marked p l w) ∷ namesFrom marked (l .byte) w) (namesFrom marked (l .byte) w)) ≤ suc (length w) + length (incomplete p)
+    by true v h = omega (arith, ap length (vowel-complete (l .byte) v))
+    by false v h = omega (arith, incomplete-one (l .byte))
+
+word-names-size : (w : List Letter) → length (wordNames w) ≤ length w
+unfolding wordNames elide
+word-names-size w = omega (arith, names-from-size (hasMark w) 0 (elideFrom 0 w), elide-size 0 w, ap length none-complete)
+
+names-of-size : (r : Message) → length (namesOf r) ≤ sizeOf r
+unfolding namesOf
+names-of-size (last w) = word-names-size w
+names-of-size (more w x r) = simp length-append (omega (arith, word-names-size w, names-of-size r))
+
+-- A message has no more names than bytes.
+pub names-size : (m : List ℕ) → length (names m) ≤ length m
+unfolding names
+names-size m = omega (arith, names-of-size (read m), read-size m)

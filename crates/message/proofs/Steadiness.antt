@@ -1,0 +1,45 @@
+-- An accepted message is steady: each of its bytes has a class, and a mark stands right after a vowel.
+-- Assumes nothing.
+use Prim.Native.Nat.{ℕ, suc, _<_}
+use mathlib.Core.Path.{_≡_, refl, sym, _∙_}
+use mathlib.Core.Bool.{Bool, true, false, _&&_, not, false≢true}
+use mathlib.Core.List.{List, []}
+use lib.ListN.{length, getD, drop}
+use Rattle.spec.specs.Letters.{isMark}
+use Rattle.spec.specs.Refusals.{vowelByte, first, row3, row5, rows, fitsIn, beforeAt, checkOf}
+use Rattle.spec.specs.declared.Counts.{Counts}
+use Rattle.spec.specs.declared.Checked.the-variants.{Accepted}
+use Rattle.laws.proofs.Accepted.{Clear, accepted-passes}
+use Rattle.message.specs.Scan.{classOf}
+use Rattle.message.specs.Places.{Steady}
+use Rattle.message.proofs.Bytes.{ByClass, by-class}
+
+-- a clear byte is of some class
+clear-named : (before : List ℕ) (b : ℕ) (after : List ℕ) → ByClass b → Clear before b after → classOf b ≡ 0 → ⊥
+unfolding fitsIn rows row3
+clear-named before b after k c e = false≢true (sym (c 3) ∙ rw (k .letter, k .mark, k .break, e))
+
+-- a clear mark stands right after a vowel
+clear-mark : (before : List ℕ) (b : ℕ) (after : List ℕ) → Clear before b after → isMark b ≡ true → first vowelByte before ≡ true
+unfolding fitsIn rows row5
+clear-mark before b after c e = by (first vowelByte before) (rw e at (c 5))
+  where
+    by : (t : Bool) → (true && not t) ≡ false → t ≡ true
+    by true h = refl
+    by false h = sym h
+
+-- an accepted message is steady
+pub accepted-steady : (m : List ℕ) (counts : Counts) → checkOf m ≡ Accepted counts → ((i : ℕ) → getD m i 0 < 256) → Steady m
+unfolding beforeAt first
+accepted-steady m counts e bytes =
+    let p = accepted-passes m counts e in
+    record {
+      bytes = bytes;
+      named = λ i h. clear-named (beforeAt m i) (getD m i 0) (drop (suc i) m) (by-class (getD m i 0) (bytes i)) (p .rows i h);
+      marks = λ i h. clear-mark (beforeAt m (suc i)) (getD m (suc i) 0) (drop (suc (suc i)) m) (p .rows (suc i) h);
+      first = by (isMark (getD m 0 0)) (clear-mark [] (getD m 0 0) (drop 1 m) (p .rows 0 (p .some)));
+    }
+  where
+    by : (t : Bool) → (t ≡ true → false ≡ true) → t ≡ false
+    by true h = sym (h refl)
+    by false h = refl

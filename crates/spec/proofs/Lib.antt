@@ -1,0 +1,4 @@
+pub mod Computed
+pub mod NameExamples
+pub mod RefusalExamples
+pub mod Words

@@ -1,0 +1,13 @@
+pub mod Alphabet
+pub mod Tables
+pub mod Letters
+pub mod Codes
+pub mod Elision
+pub mod Syllables
+pub mod Vowels
+pub mod Voicing
+pub mod Palatalization
+pub mod Tape
+pub mod Refusals
+pub mod Joints
+pub mod Answers

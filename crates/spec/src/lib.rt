@@ -1,0 +1,43 @@
+// The types that the papers' definitions and the operations share. This crate has no function: specs/ is what people must believe.
+
+// The syllable that a vowel closes (paper 01, pass 2): whether anything stands before the vowel in it, and how near the stress is.
+pub enum Cover {
+    Bare,
+    Covered,
+}
+
+// Levels S, 1 and 2.
+pub enum Level {
+    Stressed,
+    First,
+    Second,
+}
+
+pub struct Syllable {
+    pub cover: Cover,
+    pub level: Level,
+}
+
+// Why a message is turned away, by the paper's number, and where.
+pub struct Refusal {
+    pub number: u8,
+    pub place: usize,
+}
+
+// How long the answers for an accepted message are: codes of its tape, syllable names.
+pub struct Counts {
+    pub codes: usize,
+    pub names: usize,
+}
+
+// What the message check answers.
+pub enum Checked {
+    Accepted(Counts),
+    Refused(Refusal),
+}
+
+// What an operation on a lent output answers. The live count is the joiner's; the others answer 0.
+pub enum Answer {
+    Written { length: usize, live: usize },
+    Refused(Refusal),
+}
