@@ -9,7 +9,8 @@ use native.Mathlib.Omega.{arith}
 use lib.ListN.{length, take, drop, getD, length-append, take-append-drop}
 use lib.Seq.{drop-cons, drop-drop, take-add}
 use Rattle.spec.specs.Letters.{Message, read, firstWord, lastWord, isGap, isBreak}
-use Rattle.spec.specs.Codes.{markOf, isVoicing}
+use Rattle.spec.specs.Codes.{markOf}
+use Rattle.spec.specs.Voicing.{voices}
 use Rattle.spec.specs.Vowels.{endsHard}
 use Rattle.spec.specs.Palatalization.{firstCode}
 use Rattle.spec.specs.Tape.{segment, tape}
@@ -38,7 +39,7 @@ onward m a = segment (hardAt m a) false (read (drop a m))
 
 -- does the whole message voice an obstruent before the break at place c?
 unfoldable pub voicedAt : List ℕ → ℕ → Bool
-voicedAt m c = isGap (getD m c 0) && isVoicing (firstCode (onward m (suc c)))
+voicedAt m c = isGap (getD m c 0) && voices (onward m (suc c))
 
 -- 'Joints', (b): does a hard boundary change the first code from place a on?
 unfoldable pub changedAfter : List ℕ → ℕ → Bool
@@ -72,6 +73,11 @@ unfolding firstCode
 after-mark [] x [] k e = refl
 after-mark [] x (c ∷ t) k e = rw (← e)
 after-mark (y ∷ s) x t k e = rw (← e) (after-mark s x t (length s) refl)
+
+-- the codes after the mark k
+drop-past : (s : List ℕ) (x : ℕ) (t : List ℕ) (k : ℕ) → length s ≡ k → drop (suc k) (s ++ (x ∷ t)) ≡ t
+drop-past [] x t k e = rw (← e)
+drop-past (y ∷ s) x t k e = rw (← e) (drop-past s x t (length s) refl)
 
 -- an or that fails fails twice
 pub or-false : (s t : Bool) → (s || t) ≡ false → (s ≡ false) × (t ≡ false)
@@ -122,7 +128,7 @@ module _ (m : List ℕ) where
   part-cut : (h n : Bool) (a b c : ℕ) → a ≤ b → b < c → isBreak (getD m b 0) ≡ true
       → let p = read (part m a b) in
       let t = segment (isGap (getD m b 0) && endsHard (lastWord p)) n (read (part m (suc b) c)) in
-      segment h n (read (part m a c)) ≡ segment h (isGap (getD m b 0) && isVoicing (firstCode t)) p ++ (markOf (getD m b 0) ∷ t)
+      segment h n (read (part m a c)) ≡ segment h (isGap (getD m b 0) && voices t) p ++ (markOf (getD m b 0) ∷ t)
   part-cut h n a b c le lt e = rw (part-split a b c le lt (break-within m b e), read-join (part m a b) (part m (suc b) c) (getD m b 0) e, segment-join)
 
   -- the part from the message's start on
@@ -172,14 +178,18 @@ module _ (m : List ℕ) where
     unfolding markIndex tape
     mark-index = segment-length false false (voicedAt m c) false (read (take c m))
 
-    -- the first sound after the cut in the whole message's tape
+    -- the sounds after the cut in the whole message's tape
+    pub codes-after : drop (suc (markIndex m c)) (tape m) ≡ onward m (suc c)
+    codes-after = rw tape-cut (drop-past (segment false (voicedAt m c) (read (take c m))) (markOf (getD m c 0)) (onward m (suc c)) (markIndex m c) mark-index)
+
+    -- and the first of them
     pub code-after : getD (tape m) (suc (markIndex m c)) 0 ≡ firstCode (onward m (suc c))
     code-after = rw tape-cut (after-mark (segment false (voicedAt m c) (read (take c m))) (markOf (getD m c 0)) (onward m (suc c)) (markIndex m c) mark-index)
 
     -- (a) changes the code before the mark
     pub before-here : (isGap (getD m c 0) && liveByVoice m c) ≡ changedBefore m c
     unfolding liveByVoice changedBefore voicedAt
-    before-here = rw (code-after, and-swap)
+    before-here = rw (codes-after, and-swap)
 
     -- (b) changes the code after it
     pub after-here : (isGap (getD m c 0) && liveByHardness m c) ≡ changedAfter m (suc c)
@@ -282,7 +292,7 @@ module _ (m : List ℕ) where
         let hard = isGap g && endsHard (lastWord p) in
         rw (part-cut m false false a d c (r .0) lt (r .1))
         (simp length-append
-        (omega (arith, k .size, segment-length false false false (isGap g && isVoicing (firstCode (segment hard false s))) p, segment-length hard false false false s)));
+        (omega (arith, k .size, segment-length false false false (isGap g && voices (segment hard false s)) p, segment-length hard false false false s)));
     ends = λ h x y q e. k .ends _ _ _ q (simp last-append at (rw (part-cut m h true a d c (r .0) lt (r .1)) at e));
     starts = k .starts;
   }

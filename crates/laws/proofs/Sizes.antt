@@ -7,12 +7,11 @@ use mathlib.Core.List.{List, [], _∷_, _++_}
 use native.Mathlib.Omega.{arith}
 use lib.ListN.{length, length-append}
 use Rattle.spec.specs.Letters.{Letter, Message, last, more, read, putLetter, beginsWithMark, small, isGap, isBreak, isMark, isSign, isVowel, isConsonant, plainVowels, softeningVowels}
-use Rattle.spec.specs.Codes.{isVoicing}
 use Rattle.spec.specs.Elision.{elides, elideFrom, elide}
-use Rattle.spec.specs.Syllables.{hasMark, syllableOf, nameOf, incomplete, namesFrom}
+use Rattle.spec.specs.Syllables.{Facts, factsOf, syllableOf, nameOf, incomplete, namesFrom}
 use Rattle.spec.specs.Vowels.{Phone, glides, vowelPhones, phonesOf, phonesFrom, endsHard}
-use Rattle.spec.specs.Voicing.{voice}
-use Rattle.spec.specs.Palatalization.{palatalize, firstCode}
+use Rattle.spec.specs.Voicing.{voices, voice}
+use Rattle.spec.specs.Palatalization.{palatalize}
 use Rattle.spec.specs.Tape.{wordTape, segment, tape, wordNames, namesOf, names}
 use Rattle.spec.proofs.Computed.{everything}
 use Rattle.laws.proofs.Classes.{among-same}
@@ -51,9 +50,9 @@ elide-size p (l ∷ w) = by (elides p (l .byte) w) (elide-size (l .byte) w)
     by false h = omega arith
 
 -- a letter makes at most two sounds
-phones-one : (hard marked : Bool) (p : ℕ) (l : Letter) (w : List Letter) → length (phonesOf hard marked p l w) ≤ 2
+phones-one : (hard : Bool) (facts : Facts) (p : ℕ) (l : Letter) (w : List Letter) → length (phonesOf hard facts p l w) ≤ 2
 unfolding phonesOf vowelPhones
-phones-one hard marked p l w = by (isSign (l .byte)) (isVowel (l .byte)) (glides p (syllableOf marked p l w .cover) (l .byte)) _ _ _
+phones-one hard facts p l w = by (isSign (l .byte)) (isVowel (l .byte)) (glides p (syllableOf facts p l w .cover) (l .byte)) _ _ _
   where
     by : (s v g : Bool) (j x c : Phone) → length (cond s [] (cond v (cond g (j ∷ x ∷ []) (x ∷ [])) (c ∷ []))) ≤ 2
     by true v g j x c = omega arith
@@ -61,10 +60,10 @@ phones-one hard marked p l w = by (isSign (l .byte)) (isVowel (l .byte)) (glides
     by false true false j x c = omega arith
     by false false g j x c = omega arith
 
-phones-size : (hard marked : Bool) (p : ℕ) (w : List Letter) → length (phonesFrom hard marked p w) ≤ 2 * length w
+phones-size : (hard : Bool) (facts : Facts) (p : ℕ) (w : List Letter) → length (phonesFrom hard facts p w) ≤ 2 * length w
 unfolding phonesFrom
-phones-size hard marked p [] = omega arith
-phones-size hard marked p (l ∷ w) = simp length-append (omega (arith, phones-one hard marked p l w, phones-size false marked (l .byte) w))
+phones-size hard facts p [] = omega arith
+phones-size hard facts p (l ∷ w) = simp length-append (omega (arith, phones-one hard facts p l w, phones-size false facts (l .byte) w))
 
 -- passes 4 and 5 keep their number
 sounds-size : (next : Bool) (xs : List Phone) → length (palatalize (voice next xs)) ≡ length xs
@@ -75,14 +74,14 @@ sounds-size next (x ∷ xs) = ap suc (sounds-size next xs)
 word-size : (hard next : Bool) (w : List Letter) → length (wordTape hard next w) ≤ 2 * length w
 unfolding wordTape elide
 word-size hard next w =
-    omega (arith, sounds-size next (phonesFrom hard (hasMark w) 0 (elideFrom 0 w)), phones-size hard (hasMark w) 0 (elideFrom 0 w), elide-size 0 w)
+    omega (arith, sounds-size next (phonesFrom hard (factsOf w) 0 (elideFrom 0 w)), phones-size hard (factsOf w) 0 (elideFrom 0 w), elide-size 0 w)
 
 segment-size : (hard next : Bool) (r : Message) → length (segment hard next r) ≤ 2 * sizeOf r
 unfolding segment
 segment-size hard next (last w) = word-size hard next w
 segment-size hard next (more w x r) =
     let k = isGap x && endsHard w in
-    simp length-append (omega (arith, word-size hard (isGap x && isVoicing (firstCode (segment k next r))) w, segment-size k next r))
+    simp length-append (omega (arith, word-size hard (isGap x && voices (segment k next r)) w, segment-size k next r))
 
 -- A tape has at most two codes for a byte of message.
 pub tape-size : (m : List ℕ) → length (tape m) ≤ 2 * length m
@@ -108,19 +107,19 @@ incomplete-one p = by (isConsonant p || isSign p)
     by false = omega arith
 
 -- a word's names are no more than its letters: a letter that is no vowel names nothing but an incomplete syllable
-names-from-size : (marked : Bool) (p : ℕ) (w : List Letter) → length (namesFrom marked p w) ≤ length w + length (incomplete p)
+names-from-size : (facts : Facts) (p : ℕ) (w : List Letter) → length (namesFrom facts p w) ≤ length w + length (incomplete p)
 unfolding namesFrom
-names-from-size marked p [] = omega arith
-names-from-size marked p (l ∷ w) = by (isVowel (l .byte)) refl (names-from-size marked (l .byte) w)
+names-from-size facts p [] = omega arith
+names-from-size facts p (l ∷ w) = by (isVowel (l .byte)) refl (names-from-size facts (l .byte) w)
   where
-    by : (v : Bool) → isVowel (l .byte) ≡ v → length (namesFrom marked (l .byte) w) ≤ length w + length (incomplete (l .byte))
-        → length (cond v (nameOf (syllableOf marked p l w) ∷ namesFrom marked (l .byte) w) (namesFrom marked (l .byte) w)) ≤ suc (length w) + length (incomplete p)
+    by : (v : Bool) → isVowel (l .byte) ≡ v → length (namesFrom facts (l .byte) w) ≤ length w + length (incomplete (l .byte))
+        → length (cond v (nameOf (syllableOf facts p l w) ∷ namesFrom facts (l .byte) w) (namesFrom facts (l .byte) w)) ≤ suc (length w) + length (incomplete p)
     by true v h = omega (arith, ap length (vowel-complete (l .byte) v))
     by false v h = omega (arith, incomplete-one (l .byte))
 
 word-names-size : (w : List Letter) → length (wordNames w) ≤ length w
 unfolding wordNames elide
-word-names-size w = omega (arith, names-from-size (hasMark w) 0 (elideFrom 0 w), elide-size 0 w, ap length none-complete)
+word-names-size w = omega (arith, names-from-size (factsOf w) 0 (elideFrom 0 w), elide-size 0 w, ap length none-complete)
 
 names-of-size : (r : Message) → length (namesOf r) ≤ sizeOf r
 unfolding namesOf

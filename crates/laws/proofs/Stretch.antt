@@ -1,19 +1,20 @@
 -- The tape of a stretch of a message: a break splits it in two, since nothing but the two bits crosses a break; and what the bits change, by its first and last word.
 -- Assumes nothing.
-use Prim.Native.Nat.{ℕ}
-use mathlib.Core.Path.{_≡_, refl, ap}
+use Prim.Native.Nat.{ℕ, zero, suc}
+use mathlib.Core.Path.{_≡_, refl, ap, _∙_}
 use mathlib.Core.Bool.{Bool, true, false, cond, _&&_, _||_}
 use mathlib.Core.List.{List, [], _∷_, _++_, append-assoc}
 use native.Mathlib.Omega.{arith}
 use lib.Dec.{eqb}
 use borrow.Author.Tests.{eqb-true}
-use lib.ListN.{length, length-append}
+use lib.ListN.{length, drop, getD, length-append}
 use Rattle.spec.specs.Alphabet.{gap, pause, mark}
 use Rattle.spec.specs.Tables.{among}
 use Rattle.spec.specs.Letters.{Letter, Message, last, more, read, putLetter, beginsWithMark, firstWord, lastWord, isGap, isBreak, isMark}
 use Rattle.spec.specs.Codes.{markOf, isVoicing}
 use Rattle.spec.specs.Vowels.{endsHard}
 use Rattle.spec.specs.Palatalization.{firstCode}
+use Rattle.spec.specs.Voicing.{voices}
 use Rattle.spec.specs.Tape.{wordTape, segment}
 use Rattle.spec.specs.Joints.{endsInObstruent, beginsWithIOrE}
 use Rattle.laws.proofs.Word.{lastCodeFrom, lastCode, word-length, word-quiet, word-ends-differ, word-firm, word-starts-differ}
@@ -71,26 +72,43 @@ read-join [] s x e = rw e
 read-join (b ∷ p) s x e = rw (read-join p s x e, mark-before-break p s x e, put-meet) (read-one-meet (isBreak b) (isMark b) b (read p) _ x (read s))
 
 -- a break's mark is no voicing sound, and neither is nothing, so a word is followed by the same voice with or without what stands behind the break
-voice-before-mark : (t u : List ℕ) (x : ℕ) → isVoicing (firstCode (t ++ (markOf x ∷ u))) ≡ isVoicing (firstCode t)
-unfolding firstCode markOf isVoicing among
-voice-before-mark [] u x = by (eqb x pause)
+pub voices-over : (t u : List ℕ) (x : ℕ) → voices (t ++ (markOf x ∷ u)) ≡ voices t
+unfolding voices markOf isVoicing among
+voices-over [] u x = by (eqb x pause)
   where
-    by : (b : Bool) → isVoicing (cond b 63 0) ≡ isVoicing 0
+    by : (b : Bool) → isVoicing (cond b 63 0) ≡ false
     by true = refl
     by false = refl
-voice-before-mark (c ∷ t) u x = refl
+voices-over (c ∷ t) u x = refl
+
+-- sounds voice what their first one does; 0, for none, voices nothing
+pub voices-first : (t : List ℕ) → voices t ≡ isVoicing (firstCode t)
+unfolding voices firstCode isVoicing among
+voices-first [] = refl
+voices-first (c ∷ t) = refl
+
+-- so do the sounds from an index on
+pub voices-at : (t : List ℕ) (k : ℕ) → voices (drop k t) ≡ isVoicing (getD t k 0)
+unfolding firstCode
+voices-at t k = voices-first (drop k t) ∙ ap isVoicing (at t k)
+  where
+    at : (t : List ℕ) (k : ℕ) → firstCode (drop k t) ≡ getD t k 0
+    at [] zero = refl
+    at [] (suc k) = refl
+    at (c ∷ t) zero = refl
+    at (c ∷ t) (suc k) = at t k
 
 -- The tape of two stretches with a break between them: each with the bits that come from the other, and the mark of the break.
 pub segment-join : (h n : Bool) (a : Message) (x : ℕ) (b : Message)
     → let t = segment (isGap x && endsHard (lastWord a)) n b in
-    segment h n (meet a x b) ≡ segment h (isGap x && isVoicing (firstCode t)) a ++ (markOf x ∷ t)
+    segment h n (meet a x b) ≡ segment h (isGap x && voices t) a ++ (markOf x ∷ t)
 unfolding meet segment lastWord
 segment-join h n (last w) x b = refl
 segment-join h n (more w y r) x b =
     let k = isGap y && endsHard w in
     let t = segment (isGap x && endsHard (lastWord r)) n b in
-    let s = segment k (isGap x && isVoicing (firstCode t)) r in
-    rw (segment-join k n r x b, voice-before-mark s t x, append-assoc)
+    let s = segment k (isGap x && voices t) r in
+    rw (segment-join k n r x b, voices-over s t x, append-assoc)
 
 -- the length depends on neither bit
 pub segment-length : (h h′ n n′ : Bool) (a : Message) → length (segment h n a) ≡ length (segment h′ n′ a)
@@ -98,7 +116,7 @@ unfolding segment
 segment-length h h′ n n′ (last w) = word-length h h′ n n′ w
 segment-length h h′ n n′ (more w x r) =
     let k = isGap x && endsHard w in
-    let v : Bool → Bool = λ b. isGap x && isVoicing (firstCode (segment k b r)) in
+    let v : Bool → Bool = λ b. isGap x && voices (segment k b r) in
     simp length-append (omega (arith, word-length h h′ (v n) (v n′) w, segment-length k k n n′ r))
 
 -- what follows changes nothing where the last word ends in no obstruent
@@ -133,7 +151,7 @@ pub segment-firm : (h h′ n : Bool) (a : Message) → beginsWithIOrE (firstWord
 unfolding segment firstWord
 segment-firm h h′ n (last w) e = word-firm h h′ n w e
 segment-firm h h′ n (more w x r) e =
-    ap (λ (t : List ℕ). t ++ (markOf x ∷ segment (isGap x && endsHard w) n r)) (word-firm h h′ (isGap x && isVoicing (firstCode (segment (isGap x && endsHard w) n r))) w e)
+    ap (λ (t : List ℕ). t ++ (markOf x ∷ segment (isGap x && endsHard w) n r)) (word-firm h h′ (isGap x && voices (segment (isGap x && endsHard w) n r)) w e)
 
 -- two tapes of one length whose first codes differ are not empty, so they differ whatever stands after them
 pub first-differ : (s t u v : List ℕ) → length s ≡ length t → (firstCode s ≡ firstCode t → ⊥) → firstCode (s ++ u) ≡ firstCode (t ++ v) → ⊥
@@ -149,5 +167,5 @@ pub segment-starts-differ : (n n′ : Bool) (a : Message) → beginsWithIOrE (fi
 unfolding segment firstWord
 segment-starts-differ n n′ (last w) e = word-starts-differ n n′ w e
 segment-starts-differ n n′ (more w x r) e =
-    let v : Bool → Bool = λ b. isGap x && isVoicing (firstCode (segment (isGap x && endsHard w) b r)) in
+    let v : Bool → Bool = λ b. isGap x && voices (segment (isGap x && endsHard w) b r) in
     first-differ (wordTape true (v n) w) (wordTape false (v n′) w) _ _ (word-length true false (v n) (v n′) w) (word-starts-differ (v n) (v n′) w e)

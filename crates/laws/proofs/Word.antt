@@ -13,12 +13,13 @@ use Rattle.spec.specs.Alphabet.{«и», «н», «с», «ц», «ч», «ш»,
 use Rattle.spec.specs.Tables.{among, entry}
 use Rattle.spec.specs.Letters.{Letter, firstByte, obstruents, signs, isSign, isVowel, isObstruent}
 use Rattle.spec.specs.Elision.{elidesT, elidesD, elides, elideFrom, elide, elidesAmong}
-use Rattle.spec.specs.Syllables.{coverAfter, hasMark, nextStressed, levelOf, syllableOf}
+use Rattle.spec.specs.Syllables.{Facts, factsOf, coverAfter, hasMark, nextStressed, levelOf, syllableOf}
 use Rattle.spec.specs.Vowels.{Phone, byStress, byLevel, glides, vowelSound, vowelPhones, phonesOf, phonesFrom}
 use Rattle.spec.specs.Voicing.{voicedCode, voicelessCode, toneOf, toned, voiceOne, voice}
 use Rattle.spec.specs.Palatalization.{isSoft, firstCode, palatalize}
 use Rattle.spec.specs.Tape.{wordTape}
 use Rattle.spec.specs.Joints.{endsInObstruent, endsInObstruentFrom, beginsWithIOrE}
+use Rattle.spec.specs.declared.Cover.{Cover}
 use Rattle.spec.specs.declared.Level.{Level}
 use Rattle.spec.specs.declared.Level.the-variants.{Stressed, First, Second}
 use Rattle.spec.proofs.Computed.{everything}
@@ -67,13 +68,13 @@ shape-toned false true false d b j x c r e f = rw e
 shape-toned false false g d b j x c r e f = rw f
 
 -- pass 3: a hard boundary changes codes at most
-pub phones-alike : (h h′ m : Bool) (p : ℕ) (w : List Letter) → Alike (phonesFrom h m p w) (phonesFrom h′ m p w)
+pub phones-alike : (h h′ : Bool) (m : Facts) (p : ℕ) (w : List Letter) → Alike (phonesFrom h m p w) (phonesFrom h′ m p w)
 unfolding phonesFrom phonesOf vowelPhones syllableOf
 phones-alike h h′ m p [] = alike-end
 phones-alike h h′ m p (l ∷ w) = shape-alike (isSign (l .byte)) (isVowel (l .byte)) (glides p (coverAfter p) (l .byte)) _ _ _ _ (phonesFrom false m (l .byte) w) refl refl
 
 -- pass 3: the last sound is of the last letter, signs passed over
-pub phones-toned : (h m d : Bool) (p : ℕ) (w : List Letter) → endsToned d (phonesFrom h m p w) ≡ endsInObstruentFrom d w
+pub phones-toned : (h : Bool) (m : Facts) (d : Bool) (p : ℕ) (w : List Letter) → endsToned d (phonesFrom h m p w) ≡ endsInObstruentFrom d w
 unfolding phonesFrom phonesOf vowelPhones syllableOf endsToned endsInObstruentFrom
 phones-toned h m d p [] = refl
 phones-toned h m d p (l ∷ w) = shape-toned (isSign (l .byte)) (isVowel (l .byte)) (glides p (coverAfter p) (l .byte)) d (l .byte) _ _ _ (phonesFrom false m (l .byte) w) refl refl ∙ phones-toned false m _ (l .byte) w
@@ -137,9 +138,9 @@ elide-ends d p (l ∷ w) = by (elides p (l .byte) w) refl (λ x. elide-ends x (l
     by false q k = k _
 
 -- the last sound of a word is of its last letter, signs passed over
-pub word-toned : (h : Bool) (w : List Letter) → endsToned false (phonesFrom h (hasMark w) 0 (elide w)) ≡ endsInObstruent w
+pub word-toned : (h : Bool) (w : List Letter) → endsToned false (phonesFrom h (factsOf w) 0 (elide w)) ≡ endsInObstruent w
 unfolding elide endsInObstruent
-word-toned h w = phones-toned h (hasMark w) false 0 (elideFrom 0 w) ∙ elide-ends false 0 w
+word-toned h w = phones-toned h (factsOf w) false 0 (elideFrom 0 w) ∙ elide-ends false 0 w
 
 -- a word's first letter is not elided
 first-kept : (b : ℕ) (w : List Letter) → elides 0 b w ≡ false
@@ -147,30 +148,30 @@ unfolding elides elidesAmong elidesT elidesD
 first-kept b w = simp and-false
 
 -- pass 3: at the start of a word a hard boundary changes no vowel but и and unmarked э
-vowel-firm : (h h′ s t i e : Bool) (b : ℕ) → eqb b «и» ≡ i → eqb b «э» ≡ e → (i || (e && not s)) ≡ false → vowelSound h 0 (cond s Stressed (cond t First Second)) b ≡ vowelSound h′ 0 (cond s Stressed (cond t First Second)) b
+vowel-firm : (h h′ s t i e : Bool) (c : Cover) (b : ℕ) → eqb b «и» ≡ i → eqb b «э» ≡ e → (i || (e && not s)) ≡ false → vowelSound h 0 (record { cover = c; level = cond s Stressed (cond t First Second) }) b ≡ vowelSound h′ 0 (record { cover = c; level = cond s Stressed (cond t First Second) }) b
 unfolding vowelSound byStress byLevel entry
-vowel-firm h h′ s t true e b x y q = absurd (true≢false q)
-vowel-firm h h′ true t false e b x y q = rw x
-vowel-firm h h′ false t false true b x y q = absurd (true≢false q)
-vowel-firm h h′ false t false false b x y q = rw (x, y)
+vowel-firm h h′ s t true e c b x y q = absurd (true≢false q)
+vowel-firm h h′ true t false e c b x y q = rw x
+vowel-firm h h′ false t false true c b x y q = absurd (true≢false q)
+vowel-firm h h′ false t false false c b x y q = rw (x, y)
 
 -- at the start of a word и has other sounds after a hard boundary, whatever its level
-start-И : (level : Level) → vowelSound true 0 level «и» ≡ vowelSound false 0 level «и» → ⊥
+start-И : (c : Cover) (level : Level) → vowelSound true 0 (record { cover = c; level = level }) «и» ≡ vowelSound false 0 (record { cover = c; level = level }) «и» → ⊥
 unfolding everything
-start-И Stressed q = omega arith
-start-И First q = omega arith
-start-И Second q = omega arith
+start-И c Stressed q = omega arith
+start-И c First q = omega arith
+start-И c Second q = omega arith
 
 -- and so has э where it is not stressed
-start-Э : (t : Bool) → vowelSound true 0 (cond t First Second) «э» ≡ vowelSound false 0 (cond t First Second) «э» → ⊥
+start-Э : (c : Cover) (t : Bool) → vowelSound true 0 (record { cover = c; level = cond t First Second }) «э» ≡ vowelSound false 0 (record { cover = c; level = cond t First Second }) «э» → ⊥
 unfolding everything
-start-Э true q = omega arith
-start-Э false q = omega arith
+start-Э c true q = omega arith
+start-Э c false q = omega arith
 
 -- the length depends on neither bit
 pub word-length : (h h′ n n′ : Bool) (w : List Letter) → length (wordTape h n w) ≡ length (wordTape h′ n′ w)
 unfolding wordTape
-word-length h h′ n n′ w = alike-length n n′ (phones-alike h h′ (hasMark w) 0 (elide w))
+word-length h h′ n n′ w = alike-length n n′ (phones-alike h h′ (factsOf w) 0 (elide w))
 
 -- what follows changes nothing where the word ends in no obstruent, signs passed over
 pub word-quiet : (h n n′ : Bool) (w : List Letter) → endsInObstruent w ≡ false → wordTape h n w ≡ wordTape h n′ w
@@ -180,14 +181,14 @@ word-quiet h n n′ w e = ap palatalize (voice-quiet n n′ _ (word-toned h w �
 -- and else the last code differs
 pub word-ends-differ : (h h′ : Bool) (w : List Letter) → endsInObstruent w ≡ true → lastCode (wordTape h true w) ≡ lastCode (wordTape h′ false w) → ⊥
 unfolding wordTape
-word-ends-differ h h′ w e q = alike-differ (phones-alike h h′ (hasMark w) 0 (elide w)) (word-toned h w ∙ e) q
+word-ends-differ h h′ w e q = alike-differ (phones-alike h h′ (factsOf w) 0 (elide w)) (word-toned h w ∙ e) q
 
 -- a hard boundary before the word changes nothing unless it begins with и or unmarked э
 pub word-firm : (h h′ n : Bool) (w : List Letter) → beginsWithIOrE w ≡ false → wordTape h n w ≡ wordTape h′ n w
 unfolding wordTape beginsWithIOrE elide elideFrom phonesFrom phonesOf vowelPhones syllableOf levelOf
 word-firm h h′ n [] e = refl
 word-firm h h′ n (l ∷ w) e =
-    let v = vowel-firm h h′ (l .stressed) (nextStressed (elideFrom (l .byte) w) || not (hasMark (l ∷ w))) (eqb (l .byte) «и») (eqb (l .byte) «э») (l .byte) refl refl e in
+    let v = vowel-firm h h′ (l .stressed) (nextStressed (elideFrom (l .byte) w) || not (hasMark (l ∷ w))) (eqb (l .byte) «и») (eqb (l .byte) «э») (coverAfter 0) (l .byte) refl refl e in
     rw (first-kept (l .byte) w, v)
 
 -- and else the first code differs, whatever follows
@@ -200,8 +201,8 @@ word-starts-differ n n′ (l ∷ w) e q = by (eqb (l .byte) «и») refl e
     Same b s = firstCode (wordTape true n (record { byte = b; stressed = s } ∷ w)) ≡ firstCode (wordTape false n′ (record { byte = b; stressed = s } ∷ w))
 
     by : (t : Bool) → eqb (l .byte) «и» ≡ t → (t || (eqb (l .byte) «э» && not (l .stressed))) ≡ true → ⊥
-    by true x o = start-И (levelOf (hasMark (l ∷ w)) l (elideFrom «и» w)) (subst (λ b. Same b (l .stressed)) (eqb-true (l .byte) «и» x) q)
+    by true x o = start-И (coverAfter 0) (levelOf (factsOf (l ∷ w)) l (elideFrom «и» w)) (subst (λ b. Same b (l .stressed)) (eqb-true (l .byte) «и» x) q)
     by false x o =
         let a = and-eq-true-iff (eqb (l .byte) «э») (not (l .stressed)) .0 o in
         let q′ = subst (λ b. Same b (l .stressed)) (eqb-true (l .byte) «э» (a .0)) q in
-        start-Э (nextStressed (elideFrom «э» w) || not (hasMark w)) (subst (Same «э») (not-true (l .stressed) (a .1)) q′)
+        start-Э (coverAfter 0) (nextStressed (elideFrom «э» w) || not (hasMark w)) (subst (Same «э») (not-true (l .stressed) (a .1)) q′)

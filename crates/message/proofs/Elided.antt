@@ -9,7 +9,7 @@ use Rattle.spec.specs.Alphabet.{«д», «н», «с», «т», «ц», «ч»,
 use Rattle.spec.specs.Tables.{among}
 use Rattle.spec.specs.Letters.{Letter, firstByte, isSign, isVowel}
 use Rattle.spec.specs.Elision.{secondByte, elidesT, elidesD, elides, elideFrom, elidesAmong}
-use Rattle.spec.specs.Syllables.{levelOf, nextStressed, syllableOf, namesFrom}
+use Rattle.spec.specs.Syllables.{Facts, levelOf, nextStressed, syllableOf, namesFrom}
 use Rattle.spec.specs.Vowels.{softens, phonesOf, phonesFrom}
 use Rattle.laws.proofs.Classes.{among-same, among-none}
 use Rattle.message.proofs.Computed.{everything}
@@ -90,27 +90,27 @@ stress-elide p [] = refl
 stress-elide p (l ∷ w) = elide-cases (λ t v. nextStressed v ≡ nextStressed (l ∷ w)) p l w (λ g n. rw (g .vowel, stress-elide (l .byte) w)) (rw (stress-elide (l .byte) w))
 
 -- so a syllable is the same before the letters left
-pub syllable-elide : (marked : Bool) (p q : ℕ) (l : Letter) (w : List Letter) → syllableOf marked p l (elideFrom q w) ≡ syllableOf marked p l w
+pub syllable-elide : (facts : Facts) (p q : ℕ) (l : Letter) (w : List Letter) → syllableOf facts p l (elideFrom q w) ≡ syllableOf facts p l w
 unfolding syllableOf levelOf
-syllable-elide marked p q l w = rw (stress-elide q w)
+syllable-elide facts p q l w = rw (stress-elide q w)
 
 -- the sounds of what is left after an elided letter do not depend on what stands before it
-pub phones-free : (hard hard′ marked : Bool) (p p′ : ℕ) (v : List Letter) → among afterSilent (firstByte v) ≡ true → phonesFrom hard marked p v ≡ phonesFrom hard′ marked p′ v
+pub phones-free : (hard hard′ : Bool) (facts : Facts) (p p′ : ℕ) (v : List Letter) → among afterSilent (firstByte v) ≡ true → phonesFrom hard facts p v ≡ phonesFrom hard′ facts p′ v
 unfolding phonesFrom phonesOf firstByte
-phones-free hard hard′ marked p p′ [] h = refl
-phones-free hard hard′ marked p p′ (l ∷ v) h = let k = next-plain (l .byte) h in rw (k .sign, k .vowel)
+phones-free hard hard′ facts p p′ [] h = refl
+phones-free hard hard′ facts p p′ (l ∷ v) h = let k = next-plain (l .byte) h in rw (k .sign, k .vowel)
 
 -- nor do its names
-pub names-free : (marked : Bool) (p p′ : ℕ) (v : List Letter) → among afterSilent (firstByte v) ≡ true → namesFrom marked p v ≡ namesFrom marked p′ v
+pub names-free : (facts : Facts) (p p′ : ℕ) (v : List Letter) → among afterSilent (firstByte v) ≡ true → namesFrom facts p v ≡ namesFrom facts p′ v
 unfolding namesFrom firstByte among
-names-free marked p p′ [] h = absurd (false≢true h)
-names-free marked p p′ (l ∷ v) h = rw (next-plain (l .byte) h .vowel)
+names-free facts p p′ [] h = absurd (false≢true h)
+names-free facts p p′ (l ∷ v) h = rw (next-plain (l .byte) h .vowel)
 
 -- elision changes no name: the letter that goes is no vowel, and a consonant stands after it
-pub names-elide : (marked : Bool) (p : ℕ) (w : List Letter) → namesFrom marked p (elideFrom p w) ≡ namesFrom marked p w
+pub names-elide : (facts : Facts) (p : ℕ) (w : List Letter) → namesFrom facts p (elideFrom p w) ≡ namesFrom facts p w
 unfolding elideFrom namesFrom
-names-elide marked p [] = refl
-names-elide marked p (l ∷ w) =
-    elide-cases (λ t v. namesFrom marked p v ≡ namesFrom marked p (l ∷ w)) p l w
-    (λ g n. names-free marked p (l .byte) (elideFrom (l .byte) w) n ∙ names-elide marked (l .byte) w ∙ rw (g .vowel))
-    (rw (names-elide marked (l .byte) w, syllable-elide marked p (l .byte) l w))
+names-elide facts p [] = refl
+names-elide facts p (l ∷ w) =
+    elide-cases (λ t v. namesFrom facts p v ≡ namesFrom facts p (l ∷ w)) p l w
+    (λ g n. names-free facts p (l .byte) (elideFrom (l .byte) w) n ∙ names-elide facts (l .byte) w ∙ rw (g .vowel))
+    (rw (names-elide facts (l .byte) w, syllable-elide facts p (l .byte) l w))

@@ -9,12 +9,12 @@ use mathlib.Core.List.{List, [], _∷_, _++_}
 use Rattle.spec.specs.Letters.{Letter, paired, firstByte, isPaired, isSign, isVowel, isObstruent}
 use Rattle.spec.specs.Codes.{palatalized}
 use Rattle.spec.specs.Elision.{elideFrom, elide}
-use Rattle.spec.specs.Syllables.{hasMark, syllableOf, namesFrom}
+use Rattle.spec.specs.Syllables.{Facts, factsOf, syllableOf, namesFrom}
 use Rattle.spec.specs.Vowels.{Phone, glides, writtenCode, softens, vowelPhones, phonesOf, phonesFrom}
-use Rattle.spec.specs.Voicing.{Tone, voiced, voiceless, asWritten, toneBefore, toneOf, toned, voiceOne, voice}
+use Rattle.spec.specs.Voicing.{Tone, voiced, voiceless, asWritten, voices, toneOf, toned, codesOf, voiceOne, voice}
 use Rattle.spec.specs.Palatalization.{isSoft, firstCode, palatalize}
 use Rattle.spec.specs.Tape.{wordTape, wordNames}
-use Rattle.message.specs.Fused.{toneIn, vowelCodes, consonantCode, letterCodes, fusedFrom}
+use Rattle.message.specs.Fused.{toneBefore, vowelCodes, consonantCode, letterCodes, fusedFrom}
 use Rattle.laws.proofs.Classes.{among-same, vowel-quiet, vowel-single}
 use Rattle.message.proofs.Elided.{elide-cases, soft-elide, syllable-elide, phones-free, names-elide}
 use Rattle.message.proofs.Computed.{everything}
@@ -43,18 +43,18 @@ consonant-tone b soft tone c = by (isPaired b) refl _
 -- passes 4 and 5 make the codes t of the sounds xs, and for an obstruent before them t is as good as the sounds after pass 4
 record Same (next : Bool) (xs : List Phone) (t : List ℕ) : Type 0 where
   codes : palatalize (voice next xs) ≡ t
-  tone : toneOf next (voice next xs) ≡ toneIn next t
+  tone : toneOf next (codesOf (voice next xs)) ≡ toneOf next t
 
 -- so it is with a consonant's sound put before them
 consonant-sound : (next : Bool) (b : ℕ) (soft : Bool) (xs : List Phone) (t : List ℕ) → Same next xs t
-    → Same next (record { letter = b; softened = soft; code = writtenCode b } ∷ xs) (consonantCode b soft (toneIn next t) (firstCode t) ∷ t)
-unfolding voice voiceOne palatalize toneOf toneIn consonantCode
-consonant-sound next b soft xs t s = record { codes = rw (s .codes, s .tone); tone = rw (s .tone) (consonant-tone b soft (toneIn next t) (firstCode t)) }
+    → Same next (record { letter = b; softened = soft; code = writtenCode b } ∷ xs) (consonantCode b soft (toneOf next t) (firstCode t) ∷ t)
+unfolding voice voiceOne palatalize voices toneOf toneBefore consonantCode
+consonant-sound next b soft xs t s = record { codes = rw (s .codes, s .tone); tone = rw (s .tone) (consonant-tone b soft (toneOf next t) (firstCode t)) }
 
 -- with a vowel's sound or glide, which both passes leave as it is
 vowel-sound : (next : Bool) (b c : ℕ) (xs : List Phone) (t : List ℕ) → isVowel b ≡ true → Same next xs t
     → Same next (record { letter = b; softened = false; code = c } ∷ xs) (c ∷ t)
-unfolding voice voiceOne palatalize toneOf toneIn isSoft
+unfolding voice voiceOne palatalize voices toneOf isSoft
 vowel-sound next b c xs t h s = record { codes = rw (vowel-quiet b h, vowel-single b h, s .codes); tone = rw (vowel-quiet b h) }
 
 -- with a choice of sounds
@@ -64,42 +64,42 @@ choose next true x y c d xs t f g = f refl
 choose next false x y c d xs t f g = g refl
 
 -- the codes of a letter that stays
-abbrev keptCodes : Bool → Bool → ℕ → Letter → List Letter → Tone → ℕ → List ℕ
-keptCodes hard marked p l w tone c =
+abbrev keptCodes : Bool → Facts → ℕ → Letter → List Letter → Tone → ℕ → List ℕ
+keptCodes hard facts p l w tone c =
     cond (isSign (l .byte)) []
-    (cond (isVowel (l .byte)) (vowelCodes hard p (l .byte) (syllableOf marked p l w)) (consonantCode (l .byte) (softens (firstByte w)) tone c ∷ []))
+    (cond (isVowel (l .byte)) (vowelCodes hard p (l .byte) (syllableOf facts p l w)) (consonantCode (l .byte) (softens (firstByte w)) tone c ∷ []))
 
 -- so with the sounds of a letter that stays
-letter-sounds : (hard marked next : Bool) (p : ℕ) (l : Letter) (w : List Letter) (xs : List Phone) (t : List ℕ) → Same next xs t
-    → Same next (phonesOf hard marked p l w ++ xs) (keptCodes hard marked p l w (toneIn next t) (firstCode t) ++ t)
+letter-sounds : (hard : Bool) (facts : Facts) (next : Bool) (p : ℕ) (l : Letter) (w : List Letter) (xs : List Phone) (t : List ℕ) → Same next xs t
+    → Same next (phonesOf hard facts p l w ++ xs) (keptCodes hard facts p l w (toneOf next t) (firstCode t) ++ t)
 unfolding phonesOf vowelPhones vowelCodes
-letter-sounds hard marked next p l w xs t s =
+letter-sounds hard facts next p l w xs t s =
     choose next (isSign (l .byte)) _ _ _ _ xs t (λ _. s) (λ _. choose next (isVowel (l .byte)) _ _ _ _ xs t
-    (λ v. choose next (glides p (syllableOf marked p l w .cover) (l .byte)) _ _ _ _ xs t (λ _. vowel-sound _ _ _ _ _ v (vowel-sound _ _ _ _ _ v s)) (λ _. vowel-sound _ _ _ _ _ v s))
+    (λ v. choose next (glides p (syllableOf facts p l w .cover) (l .byte)) _ _ _ _ xs t (λ _. vowel-sound _ _ _ _ _ v (vowel-sound _ _ _ _ _ v s)) (λ _. vowel-sound _ _ _ _ _ v s))
     (λ _. consonant-sound next (l .byte) (softens (firstByte w)) xs t s))
 
 -- the sounds of a letter are the same before the letters that elision leaves
-pub phones-elide : (hard marked : Bool) (p q : ℕ) (l : Letter) (w : List Letter) → phonesOf hard marked p l (elideFrom q w) ≡ phonesOf hard marked p l w
+pub phones-elide : (hard : Bool) (facts : Facts) (p q : ℕ) (l : Letter) (w : List Letter) → phonesOf hard facts p l (elideFrom q w) ≡ phonesOf hard facts p l w
 unfolding phonesOf
-phones-elide hard marked p q l w = rw (syllable-elide marked p q l w, soft-elide q w)
+phones-elide hard facts p q l w = rw (syllable-elide facts p q l w, soft-elide q w)
 
 -- and so with the rest of a word after the letter p, elided or not
-rest-fused : (hard marked next : Bool) (p : ℕ) (w : List Letter) → Same next (phonesFrom hard marked p (elideFrom p w)) (fusedFrom hard marked next p w)
-unfolding elideFrom phonesFrom fusedFrom letterCodes voice palatalize toneOf toneIn
-rest-fused hard marked next p [] = record { codes = refl; tone = refl }
-rest-fused hard marked next p (l ∷ w) =
-    let t = fusedFrom false marked next (l .byte) w in
-    let s = rest-fused false marked next (l .byte) w in
-    elide-cases (λ e v. Same next (phonesFrom hard marked p v) (cond e [] (keptCodes hard marked p l w (toneIn next t) (firstCode t)) ++ t)) p l w
-    (λ g n. rw (phones-free hard false marked p (l .byte) (elideFrom (l .byte) w) n) s)
-    (rw (phones-elide hard marked p (l .byte) l w) (letter-sounds hard marked next p l w _ t s))
+rest-fused : (hard : Bool) (facts : Facts) (next : Bool) (p : ℕ) (w : List Letter) → Same next (phonesFrom hard facts p (elideFrom p w)) (fusedFrom hard facts next p w)
+unfolding elideFrom phonesFrom fusedFrom letterCodes voice palatalize toneOf
+rest-fused hard facts next p [] = record { codes = refl; tone = refl }
+rest-fused hard facts next p (l ∷ w) =
+    let t = fusedFrom false facts next (l .byte) w in
+    let s = rest-fused false facts next (l .byte) w in
+    elide-cases (λ e v. Same next (phonesFrom hard facts p v) (cond e [] (keptCodes hard facts p l w (toneOf next t) (firstCode t)) ++ t)) p l w
+    (λ g n. rw (phones-free hard false facts p (l .byte) (elideFrom (l .byte) w) n) s)
+    (rw (phones-elide hard facts p (l .byte) l w) (letter-sounds hard facts next p l w _ t s))
 
 -- the five passes of a word are the one recursion
-pub word-fused : (hard next : Bool) (w : List Letter) → wordTape hard next w ≡ fusedFrom hard (hasMark w) next 0 w
+pub word-fused : (hard next : Bool) (w : List Letter) → wordTape hard next w ≡ fusedFrom hard (factsOf w) next 0 w
 unfolding wordTape elide
-word-fused hard next w = rest-fused hard (hasMark w) next 0 w .codes
+word-fused hard next w = rest-fused hard (factsOf w) next 0 w .codes
 
 -- elision changes no syllable: only consonants go, and each leaves a consonant before it
-pub names-fused : (w : List Letter) → wordNames w ≡ namesFrom (hasMark w) 0 w
+pub names-fused : (w : List Letter) → wordNames w ≡ namesFrom (factsOf w) 0 w
 unfolding wordNames elide
-names-fused w = names-elide (hasMark w) 0 w
+names-fused w = names-elide (factsOf w) 0 w

@@ -12,7 +12,7 @@ use Rattle.spec.specs.Alphabet.{«е», «ё», «и», «ю», «я»}
 use Rattle.spec.specs.Tables.{among}
 use Rattle.spec.specs.Letters.{Letter, small, hardOnly, paired, softOnly, isMark, isBreak, isVowel, isSign, isConsonant}
 use Rattle.spec.specs.Elision.{elides}
-use Rattle.spec.specs.Syllables.{coverAfter, syllableOf, incomplete}
+use Rattle.spec.specs.Syllables.{Facts, coverAfter, syllableOf, incomplete}
 use Rattle.spec.specs.Vowels.{bare, glides}
 use Rattle.spec.specs.Voicing.{Tone}
 use Rattle.spec.specs.Tape.{tape, names}
@@ -22,7 +22,7 @@ use Rattle.spec.specs.declared.Cover.the-variants.{Bare, Covered}
 use Rattle.message.proofs.Bytes.{below, below-same, by-class, break-consonant, mark-consonant, letter-class}
 use Rattle.laws.proofs.Classes.{among-same}
 use Rattle.message.specs.Fused.{vowelCodes, letterCodes}
-use Rattle.message.specs.Places.{leftAt, markedAt, toneAt, soundAt, tapeAt, wordAt, letterOf, codesAt, namesAt, Steady}
+use Rattle.message.specs.Places.{leftAt, factsAt, toneAt, soundAt, tapeAt, wordAt, letterOf, codesAt, namesAt, Steady}
 use Rattle.message.proofs.Tail.{tape-start, tape-end, tape-letter, tape-mark, tape-break, names-start, names-end, names-vowel, names-other, names-break}
 use Rattle.message.proofs.Before.{kind-consonant, kind-sign}
 use Rattle.message.proofs.Silent.{plain-stays, elided-at}
@@ -60,10 +60,10 @@ unfolding everything
 consonant-firm p h = among-same isSign (λ _. false) (hardOnly ++ paired ++ softOnly) p refl h
 
 -- the codes of a letter are as many as heard, or none
-letter-length : (hard marked : Bool) (p : ℕ) (l : Letter) (w : List Letter) (tone : Tone) (c : ℕ)
-    → length (letterCodes hard marked p l w tone c) ≡ cond (elides p (l .byte) w) 0 (heard (isConsonant p) (isSign p) (l .byte))
+letter-length : (hard : Bool) (facts : Facts) (p : ℕ) (l : Letter) (w : List Letter) (tone : Tone) (c : ℕ)
+    → length (letterCodes hard facts p l w tone c) ≡ cond (elides p (l .byte) w) 0 (heard (isConsonant p) (isSign p) (l .byte))
 unfolding letterCodes vowelCodes glides coverAfter syllableOf
-letter-length hard marked p l w tone c = by (elides p (l .byte) w) (isSign (l .byte)) (isVowel (l .byte)) (glides p (coverAfter p) (l .byte)) _ _ _
+letter-length hard facts p l w tone c = by (elides p (l .byte) w) (isSign (l .byte)) (isVowel (l .byte)) (glides p (coverAfter p) (l .byte)) _ _ _
   where
     by : (e s v g : Bool) (x y z : ℕ) → length (cond e [] (cond s [] (cond v (cond g (x ∷ y ∷ []) (y ∷ [])) (z ∷ [])))) ≡ cond e 0 (cond s 0 (cond v (cond g 2 1) 1))
     by true s v g x y z = refl
@@ -96,7 +96,7 @@ module _ (m : List ℕ) (steady : Steady m) where
   width-letter i h b k =
       let p = leftAt m i .p in
       let t = steady .bytes i in
-      let l = letter-length (leftAt m i .hard) (markedAt m i) p (letterOf m i) (wordAt m (suc i)) (toneAt m (suc i)) (soundAt m (suc i)) in
+      let l = letter-length (leftAt m i .hard) (factsAt m i) p (letterOf m i) (wordAt m (suc i)) (toneAt m (suc i)) (soundAt m (suc i)) in
       let n = heard-counted (isConsonant p) (isSign p) (getD m i 0) (consonant-firm p) t (letter-class (getD m i 0) t b k (steady .named i h)) in
       l ∙ rw (elided-at m steady i h b k, n, kind-consonant m steady i (omega arith), kind-sign m steady i (omega arith))
 

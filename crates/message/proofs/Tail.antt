@@ -10,27 +10,28 @@ use lib.Seq.{drop-cons, drop-length}
 use Rattle.spec.specs.Alphabet.{pause}
 use Rattle.spec.specs.Letters.{Letter, Message, last, more, putLetter, read, firstWord, isMark, isBreak, isGap, isVowel}
 use Rattle.spec.specs.Codes.{markOf, isVoicing}
-use Rattle.spec.specs.Syllables.{hasMark, namesFrom, incomplete, nameOf, syllableOf}
+use Rattle.spec.specs.Syllables.{Facts, factsOf, hasMark, namesFrom, incomplete, nameOf, syllableOf}
 use Rattle.spec.specs.Vowels.{endsHardFrom, endsHard, hardEnd}
-use Rattle.spec.specs.Voicing.{voiced, voiceless}
+use Rattle.spec.specs.Voicing.{voiced, voiceless, voices, toneOf}
 use Rattle.spec.specs.Palatalization.{firstCode}
 use Rattle.spec.specs.Tape.{segment, tape, namesOf, names}
 use Rattle.spec.specs.Refusals.{vowelByte}
 use Rattle.message.proofs.Bytes.{break-vowel, vowel-break, vowel-mark}
-use Rattle.message.specs.Fused.{toneIn, letterCodes, fusedFrom}
+use Rattle.laws.proofs.Stretch.{voices-over, voices-first}
+use Rattle.message.specs.Fused.{toneBefore, letterCodes, fusedFrom}
 use Rattle.message.proofs.Fused.{word-fused, names-fused}
-use Rattle.message.specs.Places.{Left, leftAt, markBefore, markFrom, markedAt, tailTape, tailNext, tailWord, tapeAt, wordAt, toneAt, soundAt, letterOf, codesAt, toneAfter, soundAfter, tailNamesOf, namesAt, Steady}
+use Rattle.message.specs.Places.{Left, leftAt, markBefore, markFrom, markedAt, factsAt, tailTape, tailNext, tailWord, tapeAt, wordAt, toneAt, soundAt, letterOf, codesAt, toneAfter, soundAfter, tailNamesOf, namesAt, Steady}
 use Rattle.message.proofs.Left.{mark-within, word-put, afterLetter, begins-at, mark-first, read-letter, read-mark, read-break, read-end, left-letter, left-mark, left-break, unmarked-after}
 use Rattle.message.proofs.Computed.{everything}
 
 -- at the start of a word its stretch is the tape of what follows
-pub start-tape : (hard : Bool) (r : Message) → segment hard false r ≡ tailTape (record { p = 0; q = 0; hard = hard }) (hasMark (firstWord r)) r
+pub start-tape : (hard : Bool) (r : Message) → segment hard false r ≡ tailTape (record { p = 0; q = 0; hard = hard }) (factsOf (firstWord r)) r
 unfolding segment tailTape firstWord endsHard
 start-tape hard (last w) = word-fused hard false w
 start-tape hard (more w x r) = rw (word-fused hard _ w)
 
 -- and so with its names
-pub start-names : (hard : Bool) (r : Message) → namesOf r ≡ tailNamesOf (record { p = 0; q = 0; hard = hard }) (hasMark (firstWord r)) r
+pub start-names : (hard : Bool) (r : Message) → namesOf r ≡ tailNamesOf (record { p = 0; q = 0; hard = hard }) (factsOf (firstWord r)) r
 unfolding namesOf tailNamesOf firstWord
 start-names hard (last w) = names-fused w
 start-names hard (more w x r) = rw (names-fused w)
@@ -41,14 +42,14 @@ tailRest l (last w) = []
 tailRest l (more w x r) = markOf x ∷ segment (isGap x && endsHardFrom (l .q) (l .p) w) false r
 
 -- the tape is the codes of the rest of the word, and what stands after it
-pub word-rest : (l : Left) (marked : Bool) (r : Message) → tailTape l marked r ≡ tailWord l marked r ++ tailRest l r
+pub word-rest : (l : Left) (facts : Facts) (r : Message) → tailTape l facts r ≡ tailWord l facts r ++ tailRest l r
 unfolding tailTape tailWord tailNext firstWord tailRest
-word-rest l marked (last w) = sym (append-nil (fusedFrom (l .hard) marked false (l .p) w))
-word-rest l marked (more w x r) = refl
+word-rest l facts (last w) = sym (append-nil (fusedFrom (l .hard) facts false (l .p) w))
+word-rest l facts (more w x r) = refl
 
 -- the tone of codes put before others
-pub tone-append : (next : Bool) (cs t : List ℕ) → toneIn next (cs ++ t) ≡ toneAfter cs (toneIn next t)
-unfolding toneIn
+pub tone-append : (next : Bool) (cs t : List ℕ) → toneOf next (cs ++ t) ≡ toneAfter cs (toneOf next t)
+unfolding toneOf voices toneBefore
 tone-append next [] t = refl
 tone-append next (c ∷ cs) t = refl
 
@@ -63,14 +64,14 @@ pub cond-append : (t : Bool) (x y z : List ℕ) → cond t x y ++ z ≡ cond t (
 cond-append true x y z = refl
 cond-append false x y z = refl
 
-module _ (l : Left) (marked : Bool) (x : Letter) where
+module _ (l : Left) (facts : Facts) (x : Letter) where
   -- the left context after the letter x
   abbrev after : Left
   after = afterLetter x l
 
   -- the codes of the letter x before a message
   abbrev putCodes : Message → List ℕ
-  putCodes r = letterCodes (l .hard) marked (l .p) x (firstWord r) (toneIn (tailNext after r) (tailWord after marked r)) (firstCode (tailWord after marked r))
+  putCodes r = letterCodes (l .hard) facts (l .p) x (firstWord r) (toneOf (tailNext after r) (tailWord after facts r)) (firstCode (tailWord after facts r))
 
   -- a letter put before the rest changes nothing about the word after
   pub put-next : (r : Message) → tailNext l (putLetter x r) ≡ tailNext after r
@@ -85,48 +86,43 @@ module _ (l : Left) (marked : Bool) (x : Letter) where
   put-rest (more w y r) = refl
 
   -- its codes stand before those of the rest of the word
-  pub put-word : (r : Message) → tailWord l marked (putLetter x r) ≡ putCodes r ++ tailWord after marked r
+  pub put-word : (r : Message) → tailWord l facts (putLetter x r) ≡ putCodes r ++ tailWord after facts r
   unfolding tailWord fusedFrom
   put-word r = rw (word-put x r, put-next r)
 
   -- so they tell its tone
-  pub put-tone : (r : Message) → toneIn (tailNext l (putLetter x r)) (tailWord l marked (putLetter x r)) ≡ toneAfter (putCodes r) (toneIn (tailNext after r) (tailWord after marked r))
-  put-tone r = rw (put-next r, put-word r) (tone-append (tailNext after r) (putCodes r) (tailWord after marked r))
+  pub put-tone : (r : Message) → toneOf (tailNext l (putLetter x r)) (tailWord l facts (putLetter x r)) ≡ toneAfter (putCodes r) (toneOf (tailNext after r) (tailWord after facts r))
+  put-tone r = rw (put-next r, put-word r) (tone-append (tailNext after r) (putCodes r) (tailWord after facts r))
 
   -- and its first sound
-  pub put-sound : (r : Message) → firstCode (tailWord l marked (putLetter x r)) ≡ soundAfter (putCodes r) (firstCode (tailWord after marked r))
-  put-sound r = rw (put-word r) (sound-append (putCodes r) (tailWord after marked r))
+  pub put-sound : (r : Message) → firstCode (tailWord l facts (putLetter x r)) ≡ soundAfter (putCodes r) (firstCode (tailWord after facts r))
+  put-sound r = rw (put-word r) (sound-append (putCodes r) (tailWord after facts r))
 
   -- and stand before the rest's tape
-  pub put-tape : (r : Message) → tailTape l marked (putLetter x r) ≡ putCodes r ++ tailTape after marked r
-  put-tape r = rw (word-rest l marked (putLetter x r), word-rest after marked r, put-word r, put-rest r) (append-assoc (putCodes r) (tailWord after marked r) (tailRest after r))
+  pub put-tape : (r : Message) → tailTape l facts (putLetter x r) ≡ putCodes r ++ tailTape after facts r
+  put-tape r = rw (word-rest l facts (putLetter x r), word-rest after facts r, put-word r, put-rest r) (append-assoc (putCodes r) (tailWord after facts r) (tailRest after r))
 
   -- of the names, a vowel puts its syllable's before the rest's
   pub put-names : (r : Message)
-      → tailNamesOf l marked (putLetter x r) ≡ cond (isVowel (x .byte)) (nameOf (syllableOf marked (l .p) x (firstWord r)) ∷ tailNamesOf after marked r) (tailNamesOf after marked r)
+      → tailNamesOf l facts (putLetter x r) ≡ cond (isVowel (x .byte)) (nameOf (syllableOf facts (l .p) x (firstWord r)) ∷ tailNamesOf after facts r) (tailNamesOf after facts r)
   unfolding tailNamesOf namesFrom putLetter firstWord
   put-names (last w) = refl
-  put-names (more w y r) = cond-append (isVowel (x .byte)) _ (namesFrom marked (x .byte) w) (namesOf r)
+  put-names (more w y r) = cond-append (isVowel (x .byte)) _ (namesFrom facts (x .byte) w) (namesOf r)
 
 -- what stands after a word voices nothing in it, being a mark or nothing
-pub voicing-word : (l : Left) (cs : List ℕ) (r : Message) → isVoicing (firstCode (cs ++ tailRest l r)) ≡ isVoicing (firstCode cs)
-unfolding everything tailRest
-voicing-word l [] (last w) = refl
-voicing-word l [] (more w x r) = by (eqb x pause)
-  where
-    by : (t : Bool) → isVoicing (cond t 63 0) ≡ false
-    by true = refl
-    by false = refl
-voicing-word l (c ∷ cs) r = refl
+voices-word : (l : Left) (cs : List ℕ) (r : Message) → voices (cs ++ tailRest l r) ≡ voices cs
+unfolding tailRest
+voices-word l cs (last w) = rw append-nil
+voices-word l cs (more w x r) = voices-over cs (segment (isGap x && endsHardFrom (l .q) (l .p) w) false r) x
 
 -- the tone before a break is told by the first sound of the word after it
-pub break-tone : (l : Left) (marked : Bool) (x : ℕ) (r : Message)
-    → toneIn (tailNext l (more [] x r)) (tailWord l marked (more [] x r))
-    ≡ cond (isGap x && isVoicing (firstCode (tailWord (record { p = 0; q = 0; hard = isGap x && hardEnd (l .q) (l .p) }) (hasMark (firstWord r)) r))) voiced voiceless
-unfolding toneIn tailNext tailWord fusedFrom firstWord endsHardFrom
-break-tone l marked x r =
+pub break-tone : (l : Left) (facts : Facts) (x : ℕ) (r : Message)
+    → toneOf (tailNext l (more [] x r)) (tailWord l facts (more [] x r))
+    ≡ cond (isGap x && isVoicing (firstCode (tailWord (record { p = 0; q = 0; hard = isGap x && hardEnd (l .q) (l .p) }) (factsOf (firstWord r)) r))) voiced voiceless
+unfolding toneOf tailNext tailWord fusedFrom firstWord endsHardFrom
+break-tone l facts x r =
     let s : Left = record { p = 0; q = 0; hard = isGap x && hardEnd (l .q) (l .p) } in
-    rw (start-tape (s .hard) r, word-rest s (hasMark (firstWord r)) r, voicing-word s (tailWord s (hasMark (firstWord r)) r) r)
+    rw (start-tape (s .hard) r, word-rest s (factsOf (firstWord r)) r, voices-word s (tailWord s (factsOf (firstWord r)) r) r, voices-first (tailWord s (factsOf (firstWord r)) r))
 
 module _ (m : List ℕ) (steady : Steady m) where
   -- a letter is the first one of the word from its place on
@@ -193,7 +189,7 @@ module _ (m : List ℕ) (steady : Steady m) where
       → tapeAt m i
       ≡ codesAt m i ++ tapeAt m (suc i)
   unfolding tapeAt codesAt toneAt soundAt wordAt
-  tape-letter i h b k = rw (← marked-within i h b, left-letter m i h b k, read-letter m i h b k) (put-tape (leftAt m i) (markedAt m i) (letterOf m i) (read (drop (suc i) m)))
+  tape-letter i h b k = rw (← marked-within i h b, left-letter m i h b k, read-letter m i h b k) (put-tape (leftAt m i) (factsAt m i) (letterOf m i) (read (drop (suc i) m)))
 
   -- a mark makes no code
   pub tape-mark : (i : ℕ) → i < length m → isMark (getD m i 0) ≡ true → tapeAt m i ≡ tapeAt m (suc i)
@@ -209,13 +205,13 @@ module _ (m : List ℕ) (steady : Steady m) where
   pub tone-letter : (i : ℕ) → i < length m → isBreak (getD m i 0) ≡ false → isMark (getD m i 0) ≡ false
       → toneAt m i ≡ toneAfter (codesAt m i) (toneAt m (suc i))
   unfolding toneAt soundAt codesAt wordAt
-  tone-letter i h b k = rw (← marked-within i h b, left-letter m i h b k, read-letter m i h b k) (put-tone (leftAt m i) (markedAt m i) (letterOf m i) (read (drop (suc i) m)))
+  tone-letter i h b k = rw (← marked-within i h b, left-letter m i h b k, read-letter m i h b k) (put-tone (leftAt m i) (factsAt m i) (letterOf m i) (read (drop (suc i) m)))
 
   -- the first sound then
   pub sound-letter : (i : ℕ) → i < length m → isBreak (getD m i 0) ≡ false → isMark (getD m i 0) ≡ false
       → soundAt m i ≡ soundAfter (codesAt m i) (soundAt m (suc i))
   unfolding toneAt soundAt codesAt wordAt
-  sound-letter i h b k = rw (← marked-within i h b, left-letter m i h b k, read-letter m i h b k) (put-sound (leftAt m i) (markedAt m i) (letterOf m i) (read (drop (suc i) m)))
+  sound-letter i h b k = rw (← marked-within i h b, left-letter m i h b k, read-letter m i h b k) (put-sound (leftAt m i) (factsAt m i) (letterOf m i) (read (drop (suc i) m)))
 
   -- a mark changes no tone
   pub tone-mark : (i : ℕ) → i < length m → isMark (getD m i 0) ≡ true → toneAt m i ≡ toneAt m (suc i)
@@ -230,7 +226,7 @@ module _ (m : List ℕ) (steady : Steady m) where
   -- before a break the tone is told by the first sound after it
   pub tone-break : (i : ℕ) → i < length m → isBreak (getD m i 0) ≡ true → toneAt m i ≡ cond (isGap (getD m i 0) && isVoicing (soundAt m (suc i))) voiced voiceless
   unfolding toneAt soundAt wordAt
-  tone-break i h b = rw (read-break m i h b, left-break m i h b, marked-after i b) (break-tone (leftAt m i) (markedAt m i) (getD m i 0) (read (drop (suc i) m)))
+  tone-break i h b = rw (read-break m i h b, left-break m i h b, marked-after i b) (break-tone (leftAt m i) (factsAt m i) (getD m i 0) (read (drop (suc i) m)))
 
   -- and the word has no sound left
   pub sound-break : (i : ℕ) → i < length m → isBreak (getD m i 0) ≡ true → soundAt m i ≡ 0
@@ -239,7 +235,7 @@ module _ (m : List ℕ) (steady : Steady m) where
 
   -- at the end nothing voices
   pub tone-end : toneAt m (length m) ≡ voiceless
-  unfolding toneAt tailNext tailWord toneIn fusedFrom firstWord
+  unfolding toneAt tailNext tailWord toneOf fusedFrom firstWord
   tone-end = rw (read-end m)
 
   -- and there is no sound
@@ -259,13 +255,13 @@ module _ (m : List ℕ) (steady : Steady m) where
 
   -- a letter that is a vowel names its syllable, another none
   pub names-letter : (i : ℕ) → i < length m → isBreak (getD m i 0) ≡ false → isMark (getD m i 0) ≡ false
-      → namesAt m i ≡ cond (vowelByte (getD m i 0)) (nameOf (syllableOf (markedAt m i) (leftAt m i .p) (letterOf m i) (wordAt m (suc i))) ∷ namesAt m (suc i)) (namesAt m (suc i))
+      → namesAt m i ≡ cond (vowelByte (getD m i 0)) (nameOf (syllableOf (factsAt m i) (leftAt m i .p) (letterOf m i) (wordAt m (suc i))) ∷ namesAt m (suc i)) (namesAt m (suc i))
   unfolding namesAt vowelByte letterOf wordAt
-  names-letter i h b k = rw (← marked-within i h b, left-letter m i h b k, read-letter m i h b k) (put-names (leftAt m i) (markedAt m i) (letterOf m i) (read (drop (suc i) m)))
+  names-letter i h b k = rw (← marked-within i h b, left-letter m i h b k, read-letter m i h b k) (put-names (leftAt m i) (factsAt m i) (letterOf m i) (read (drop (suc i) m)))
 
   -- so a vowel puts a name before the rest's
   pub names-vowel : (i : ℕ) → i < length m → vowelByte (getD m i 0) ≡ true
-      → namesAt m i ≡ nameOf (syllableOf (markedAt m i) (leftAt m i .p) (letterOf m i) (wordAt m (suc i))) ∷ namesAt m (suc i)
+      → namesAt m i ≡ nameOf (syllableOf (factsAt m i) (leftAt m i .p) (letterOf m i) (wordAt m (suc i))) ∷ namesAt m (suc i)
   names-vowel i h v = rw v at (names-letter i h (vowel-break _ (steady .bytes i) v) (vowel-mark _ (steady .bytes i) v))
 
   -- a byte that is neither a vowel nor a break names nothing

@@ -6,15 +6,15 @@ use mathlib.Core.Bool.{Bool, true, false, cond, _&&_, _||_, not}
 use mathlib.Core.List.{List, [], _∷_, _++_}
 use lib.ListN.{length, getD, drop}
 use Rattle.spec.specs.Letters.{Letter, Message, last, more, read, firstWord, small, isMark, isBreak, isGap, beginsWithMark}
-use Rattle.spec.specs.Codes.{markOf, isVoicing}
-use Rattle.spec.specs.Syllables.{namesFrom}
+use Rattle.spec.specs.Codes.{markOf}
+use Rattle.spec.specs.Syllables.{Facts, namesFrom}
 use Rattle.spec.specs.Vowels.{endsHardFrom, hardEnd}
-use Rattle.spec.specs.Voicing.{Tone, toneBefore}
+use Rattle.spec.specs.Voicing.{Tone, voices, toneOf}
 use Rattle.spec.specs.Palatalization.{firstCode}
 use Rattle.spec.specs.Tape.{segment, namesOf}
 use Rattle.spec.specs.Refusals.{vowelByte}
 use Rattle.message.specs.Scan.{classOf}
-use Rattle.message.specs.Fused.{toneIn, letterCodes, fusedFrom}
+use Rattle.message.specs.Fused.{toneBefore, letterCodes, fusedFrom}
 
 -- what the bytes before a place say: the last letter of the word, the one before it (0 for none), and whether a hard boundary stands right before the place
 pub record Left : Type 0 where
@@ -44,33 +44,37 @@ markFrom (b ∷ m) = not (isBreak b) && (isMark b || markFrom m)
 unfoldable pub markedAt : List ℕ → ℕ → Bool
 markedAt m i = markBefore m i || markFrom (drop i m)
 
+-- the facts of the word at place i
+abbrev pub factsAt : List ℕ → ℕ → Facts
+factsAt m i = record { marked = markedAt m i }
+
 -- the codes of the rest of a word, w, and of what follows it, after the letters of the left context
-unfoldable pub tailTape : Left → Bool → Message → List ℕ
-tailTape l marked (last w) = fusedFrom (l .hard) marked false (l .p) w
-tailTape l marked (more w x r) =
+unfoldable pub tailTape : Left → Facts → Message → List ℕ
+tailTape l facts (last w) = fusedFrom (l .hard) facts false (l .p) w
+tailTape l facts (more w x r) =
     let rest = segment (isGap x && endsHardFrom (l .q) (l .p) w) false r in
-    fusedFrom (l .hard) marked (isGap x && isVoicing (firstCode rest)) (l .p) w ++ (markOf x ∷ rest)
+    fusedFrom (l .hard) facts (isGap x && voices rest) (l .p) w ++ (markOf x ∷ rest)
 
 -- the bit of the word after, and the codes of this word's rest alone
 unfoldable pub tailNext : Left → Message → Bool
 tailNext l (last w) = false
-tailNext l (more w x r) = isGap x && isVoicing (firstCode (segment (isGap x && endsHardFrom (l .q) (l .p) w) false r))
+tailNext l (more w x r) = isGap x && voices (segment (isGap x && endsHardFrom (l .q) (l .p) w) false r)
 
-unfoldable pub tailWord : Left → Bool → Message → List ℕ
-tailWord l marked r = fusedFrom (l .hard) marked (tailNext l r) (l .p) (firstWord r)
+unfoldable pub tailWord : Left → Facts → Message → List ℕ
+tailWord l facts r = fusedFrom (l .hard) facts (tailNext l r) (l .p) (firstWord r)
 
 -- At a place: the tape from there on, and what a letter before it would see: the tone, the first sound of its word, whether the next letter softens, whether the next vowel is stressed
 unfoldable pub tapeAt : List ℕ → ℕ → List ℕ
-tapeAt m i = tailTape (leftAt m i) (markedAt m i) (read (drop i m))
+tapeAt m i = tailTape (leftAt m i) (factsAt m i) (read (drop i m))
 
 unfoldable pub wordAt : List ℕ → ℕ → List Letter
 wordAt m i = firstWord (read (drop i m))
 
 unfoldable pub toneAt : List ℕ → ℕ → Tone
-toneAt m i = toneIn (tailNext (leftAt m i) (read (drop i m))) (tailWord (leftAt m i) (markedAt m i) (read (drop i m)))
+toneAt m i = toneOf (tailNext (leftAt m i) (read (drop i m))) (tailWord (leftAt m i) (factsAt m i) (read (drop i m)))
 
 unfoldable pub soundAt : List ℕ → ℕ → ℕ
-soundAt m i = firstCode (tailWord (leftAt m i) (markedAt m i) (read (drop i m)))
+soundAt m i = firstCode (tailWord (leftAt m i) (factsAt m i) (read (drop i m)))
 
 -- the letter at place i
 unfoldable pub letterOf : List ℕ → ℕ → Letter
@@ -78,7 +82,7 @@ letterOf m i = record { byte = small (getD m i 0); stressed = beginsWithMark (dr
 
 -- the codes that the letter at place i puts before the rest's
 unfoldable pub codesAt : List ℕ → ℕ → List ℕ
-codesAt m i = letterCodes (leftAt m i .hard) (markedAt m i) (leftAt m i .p) (letterOf m i) (wordAt m (suc i)) (toneAt m (suc i)) (soundAt m (suc i))
+codesAt m i = letterCodes (leftAt m i .hard) (factsAt m i) (leftAt m i .p) (letterOf m i) (wordAt m (suc i)) (toneAt m (suc i)) (soundAt m (suc i))
 
 -- the tone and the first sound after codes have been put before a tape that had these
 abbrev pub toneAfter : List ℕ → Tone → Tone
@@ -90,12 +94,12 @@ soundAfter [] s = s
 soundAfter (c ∷ cs) s = c
 
 -- the names of the rest of a word and of what follows it
-unfoldable pub tailNamesOf : Left → Bool → Message → List ℕ
-tailNamesOf l marked (last w) = namesFrom marked (l .p) w
-tailNamesOf l marked (more w x r) = namesFrom marked (l .p) w ++ namesOf r
+unfoldable pub tailNamesOf : Left → Facts → Message → List ℕ
+tailNamesOf l facts (last w) = namesFrom facts (l .p) w
+tailNamesOf l facts (more w x r) = namesFrom facts (l .p) w ++ namesOf r
 
 unfoldable pub namesAt : List ℕ → ℕ → List ℕ
-namesAt m i = tailNamesOf (leftAt m i) (markedAt m i) (read (drop i m))
+namesAt m i = tailNamesOf (leftAt m i) (factsAt m i) (read (drop i m))
 
 -- Steady: each byte is below 256 and named, and a mark stands right after a vowel. The check's acceptance gives it.
 pub record Steady (m : List ℕ) : Type 0 where

@@ -6,7 +6,7 @@ use Rattle.spec.specs.Codes.{markOf, isVoicing, isDevoicing}
 use Rattle.spec.specs.Elision.{secondByte, elidesT, elidesD, elidesAmong, elides, elideFrom, elide}
 use Rattle.spec.specs.Syllables.{coverAfter, hasMark, nextStressed, levelOf, syllableOf, nameIn, nameOf, incomplete, namesFrom}
 use Rattle.spec.specs.Vowels.{hardEnd, endsHardFrom, endsHard, byStress, byLevel, initial, rowА, rowО, rowУ, rowЫ, rowЭ, rowЕ, rowЁ, rowЮ, rowЯ, rowИ, vowelSound, bare, glides, writtenCode, softens, vowelPhones, phonesOf, phonesFrom}
-use Rattle.spec.specs.Voicing.{voicedCode, voicelessCode, toneBefore, toneOf, toned, voiceOne, voice}
+use Rattle.spec.specs.Voicing.{voicedCode, voicelessCode, voices, toneOf, toned, voiceOne, voice}
 use Rattle.spec.specs.Palatalization.{dentalBefore, nasalBefore, ownBefore, isSoft, firstCode, palatalize}
 use Rattle.spec.specs.Tape.{wordTape, segment, tape, wordNames, namesOf, names}
 use Rattle.spec.specs.Refusals.{vowelByte, signByte, hardSignByte, consonantByte, letterByte, first, none, adjacent, vowelSign, lettersBefore, row3, row4, row5, row6, row7, row8, row9, row10, rows, firstFit, faultAt, scan, checkOf, fitsIn, beforeAt, fits, indexIn, rank}
@@ -14,5 +14,5 @@ use Rattle.spec.specs.Joints.{joinedFrom, joined, markIndex, wordBefore,
 use Rattle.spec.specs.Answers.{numberOf, placeOf, lengthOf, liveOf, within, afterCheck, outputAfter, nameAnswer, tapeAnswer, joinAnswer}
 
 unfoldable pub everything : Unit {0}
-unfolding among entry isGap isBreak isMark small isHardOnly isPaired isSoftOnly isConsonant isSign isSofteningVowel isVowel isObstruent firstByte beginsWithMark putLetter read firstWord lastWord markOf isVoicing isDevoicing secondByte elidesT elidesD elides elideFrom elide coverAfter hasMark nextStressed levelOf syllableOf nameIn nameOf incomplete namesFrom hardEnd endsHardFrom endsHard byStress byLevel initial rowА rowО rowУ rowЫ rowЭ rowЕ rowЁ rowЮ rowЯ rowИ vowelSound bare glides writtenCode softens vowelPhones phonesOf phonesFrom voicedCode voicelessCode toneBefore toneOf toned voiceOne voice dentalBefore nasalBefore ownBefore isSoft firstCode palatalize wordTape segment tape wordNames namesOf names vowelByte signByte hardSignByte consonantByte letterByte first none adjacent vowelSign lettersBefore row3 row4 row5 row6 row7 row8 row9 row10 rows firstFit faultAt scan checkOf fitsIn beforeAt fits indexIn rank joinedFrom joined markIndex wordBefore wordAfter endsInObstruentFrom endsInObstruent beginsWithIOrE liveByVoice liveByHardness isLive liveCount row12 badCutFrom badCut numberOf placeOf lengthOf liveOf within afterCheck outputAfter nameAnswer tapeAnswer joinAnswer elidesAmong
+unfolding among entry isGap isBreak isMark small isHardOnly isPaired isSoftOnly isConsonant isSign isSofteningVowel isVowel isObstruent firstByte beginsWithMark putLetter read firstWord lastWord markOf isVoicing isDevoicing secondByte elidesT elidesD elides elideFrom elide coverAfter hasMark nextStressed levelOf syllableOf nameIn nameOf incomplete namesFrom hardEnd endsHardFrom endsHard byStress byLevel initial rowА rowО rowУ rowЫ rowЭ rowЕ rowЁ rowЮ rowЯ rowИ vowelSound bare glides writtenCode softens vowelPhones phonesOf phonesFrom voicedCode voicelessCode voices toneOf toned voiceOne voice dentalBefore nasalBefore ownBefore isSoft firstCode palatalize wordTape segment tape wordNames namesOf names vowelByte signByte hardSignByte consonantByte letterByte first none adjacent vowelSign lettersBefore row3 row4 row5 row6 row7 row8 row9 row10 rows firstFit faultAt scan checkOf fitsIn beforeAt fits indexIn rank joinedFrom joined markIndex wordBefore wordAfter endsInObstruentFrom endsInObstruent beginsWithIOrE liveByVoice liveByHardness isLive liveCount row12 badCutFrom badCut numberOf placeOf lengthOf liveOf within afterCheck outputAfter nameAnswer tapeAnswer joinAnswer elidesAmong
 everything = tt

@@ -7,7 +7,8 @@ use lib.Dec.{eqb, leb}
 use lib.ListN.{length, take, drop, getD}
 use Rattle.spec.specs.Alphabet.{«и», «э»}
 use Rattle.spec.specs.Letters.{Letter, read, firstWord, lastWord, isGap, isBreak, isSign, isObstruent}
-use Rattle.spec.specs.Codes.{isVoicing, markOf}
+use Rattle.spec.specs.Codes.{markOf}
+use Rattle.spec.specs.Voicing.{voices}
 use Rattle.spec.specs.Vowels.{endsHard}
 use Rattle.spec.specs.Tape.{tape}
 
@@ -44,9 +45,9 @@ unfoldable pub beginsWithIOrE : List Letter → Bool
 beginsWithIOrE [] = false
 beginsWithIOrE (l ∷ w) = eqb (l .byte) «и» || (eqb (l .byte) «э» && not (l .stressed))
 
--- (a): an obstruent before the cut, and a voicing sound just after its mark in the whole message's tape
+-- (a): an obstruent before the cut, and sounds that voice it just after its mark in the whole message's tape
 unfoldable pub liveByVoice : List ℕ → ℕ → Bool
-liveByVoice m c = endsInObstruent (wordBefore m c) && isVoicing (getD (tape m) (suc (markIndex m c)) 0)
+liveByVoice m c = endsInObstruent (wordBefore m c) && voices (drop (suc (markIndex m c)) (tape m))
 
 -- (b): и or unmarked э after the cut, and a hard boundary there
 unfoldable pub liveByHardness : List ℕ → ℕ → Bool

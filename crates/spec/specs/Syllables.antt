@@ -24,13 +24,20 @@ unfoldable pub nextStressed : List Letter → Bool
 nextStressed [] = false
 nextStressed (l ∷ w) = cond (isVowel (l .byte)) (l .stressed) (nextStressed w)
 
--- the level of the vowel l before w, in a word that has a mark or not: S, 1, 2 are Stressed, First, Second
-unfoldable pub levelOf : Bool → Letter → List Letter → Level
-levelOf marked l w = cond (l .stressed) Stressed (cond (nextStressed w || not marked) First Second)
+-- what the passes ask of a whole word, as it is written
+pub record Facts : Type 0 where
+  pub marked : Bool
+
+abbrev pub factsOf : List Letter → Facts
+factsOf w = record { marked = hasMark w }
+
+-- the level of the vowel l before w: S, 1, 2 are Stressed, First, Second; in a word with no mark all vowels are level 1
+unfoldable pub levelOf : Facts → Letter → List Letter → Level
+levelOf facts l w = cond (l .stressed) Stressed (cond (nextStressed w || not (facts .marked)) First Second)
 
 -- the syllable that the vowel l ends, after p and before w
-unfoldable pub syllableOf : Bool → ℕ → Letter → List Letter → Syllable
-syllableOf marked p l w = record { cover = coverAfter p; level = levelOf marked l w }
+unfoldable pub syllableOf : Facts → ℕ → Letter → List Letter → Syllable
+syllableOf facts p l w = record { cover = coverAfter p; level = levelOf facts l w }
 
 -- syllable names 1 to 6, of a syllable with a vowel
 unfoldable pub nameIn : Cover → Level → ℕ
@@ -49,8 +56,8 @@ unfoldable pub incomplete : ℕ → List ℕ
 incomplete p = cond (isConsonant p || isSign p) (7 ∷ []) []
 
 -- the names of w, the rest of a word whose letter before is p
-unfoldable pub namesFrom : Bool → ℕ → List Letter → List ℕ
-namesFrom marked p [] = incomplete p
-namesFrom marked p (l ∷ w) =
-    let rest = namesFrom marked (l .byte) w in
-    cond (isVowel (l .byte)) (nameOf (syllableOf marked p l w) ∷ rest) rest
+unfoldable pub namesFrom : Facts → ℕ → List Letter → List ℕ
+namesFrom facts p [] = incomplete p
+namesFrom facts p (l ∷ w) =
+    let rest = namesFrom facts (l .byte) w in
+    cond (isVowel (l .byte)) (nameOf (syllableOf facts p l w) ∷ rest) rest

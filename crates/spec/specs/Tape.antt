@@ -4,16 +4,16 @@ use Prim.Native.Nat.{ℕ}
 use mathlib.Core.Bool.{Bool, false, _&&_}
 use mathlib.Core.List.{List, _∷_, _++_}
 use Rattle.spec.specs.Letters.{Letter, Message, last, more, read, isGap}
-use Rattle.spec.specs.Codes.{isVoicing, markOf}
+use Rattle.spec.specs.Codes.{markOf}
 use Rattle.spec.specs.Elision.{elide}
-use Rattle.spec.specs.Syllables.{hasMark, namesFrom}
+use Rattle.spec.specs.Syllables.{factsOf, namesFrom}
 use Rattle.spec.specs.Vowels.{phonesFrom, endsHard}
-use Rattle.spec.specs.Voicing.{voice}
-use Rattle.spec.specs.Palatalization.{palatalize, firstCode}
+use Rattle.spec.specs.Voicing.{voices, voice}
+use Rattle.spec.specs.Palatalization.{palatalize}
 
--- A word through passes 1 to 5. Two bits come from its neighbours: hard, a hard boundary stands before it; next, the next word of its phrase begins with a voicing sound.
+-- A word through passes 1 to 5. Two bits come from its neighbours: hard, a hard boundary stands before it; next, the next word of its phrase voices an obstruent before it.
 unfoldable pub wordTape : Bool → Bool → List Letter → List ℕ
-wordTape hard next w = palatalize (voice next (phonesFrom hard (hasMark w) 0 (elide w)))
+wordTape hard next w = palatalize (voice next (phonesFrom hard (factsOf w) 0 (elide w)))
 
 -- The tape of a stretch of a message, given the same two bits for what stands around it. Nothing crosses a pause.
 -- A hard boundary stands before a word if a gap precedes it and the word before ends hard.
@@ -21,7 +21,7 @@ unfoldable pub segment : Bool → Bool → Message → List ℕ
 segment hard next (last w) = wordTape hard next w
 segment hard next (more w x r) =
     let rest = segment (isGap x && endsHard w) next r in
-    wordTape hard (isGap x && isVoicing (firstCode rest)) w ++ (markOf x ∷ rest)
+    wordTape hard (isGap x && voices rest) w ++ (markOf x ∷ rest)
 
 -- the tape of a message, around which nothing stands
 unfoldable pub tape : List ℕ → List ℕ
@@ -29,7 +29,7 @@ tape m = segment false false (read m)
 
 -- the names of a word, through passes 1 and 2
 unfoldable pub wordNames : List Letter → List ℕ
-wordNames w = namesFrom (hasMark w) 0 (elide w)
+wordNames w = namesFrom (factsOf w) 0 (elide w)
 
 -- pass 2, the naming: one byte for each syllable, in order over the message, breaks not shown
 unfoldable pub namesOf : Message → List ℕ

@@ -1,7 +1,7 @@
 -- Paper 01, pass 4, voice: an obstruent (the paper's noise letter) is voiced or voiceless by the sound after it.
 -- Assumes nothing: these are definitions.
 use Prim.Native.Nat.{ℕ}
-use mathlib.Core.Bool.{Bool, cond}
+use mathlib.Core.Bool.{Bool, false, cond}
 use mathlib.Core.List.{List, [], _∷_}
 use Rattle.spec.specs.Alphabet.{«б», «в», «г», «д», «ж», «з», «к», «п», «с», «т», «ф», «х», «ц», «ч», «ш», «щ»}
 use Rattle.spec.specs.Tables.{_gives_, entry}
@@ -33,13 +33,15 @@ voicelessCode b =
 pub data Tone : Type 0 where
   voiced voiceless asWritten : Tone
 
-unfoldable pub toneBefore : ℕ → Tone
-toneBefore c = cond (isVoicing c) voiced (cond (isDevoicing c) voiceless asWritten)
+-- do these sounds voice an obstruent before them? So it is within a word, over a gap, and at a live joint.
+unfoldable pub voices : List ℕ → Bool
+voices [] = false
+voices (c ∷ t) = isVoicing c
 
--- before the later sounds of its word; with none, by whether the next word of the phrase begins with a voicing sound
-unfoldable pub toneOf : Bool → List Phone → Tone
+-- before the later sounds t of its word; with none, by whether the next word of the phrase voices it
+unfoldable pub toneOf : Bool → List ℕ → Tone
 toneOf next [] = cond next voiced voiceless
-toneOf next (x ∷ xs) = toneBefore (x .code)
+toneOf next (c ∷ t) = cond (voices (c ∷ t)) voiced (cond (isDevoicing c) voiceless asWritten)
 
 -- the code of an obstruent b that is c as written
 unfoldable pub toned : Tone → ℕ → ℕ → ℕ
@@ -47,10 +49,15 @@ toned voiced b c = voicedCode b
 toned voiceless b c = voicelessCode b
 toned asWritten b c = c
 
+-- the codes of sounds so far
+abbrev pub codesOf : List Phone → List ℕ
+codesOf [] = []
+codesOf (x ∷ xs) = x .code ∷ codesOf xs
+
 -- one sound before the finished sounds xs: only an obstruent changes
 unfoldable pub voiceOne : Bool → Phone → List Phone → Phone
 voiceOne next x xs =
-    record { letter = x .letter; softened = x .softened; code = cond (isObstruent (x .letter)) (toned (toneOf next xs) (x .letter) (x .code)) (x .code) }
+    record { letter = x .letter; softened = x .softened; code = cond (isObstruent (x .letter)) (toned (toneOf next (codesOf xs)) (x .letter) (x .code)) (x .code) }
 
 -- pass 4, from right to left
 unfoldable pub voice : Bool → List Phone → List Phone

@@ -8,7 +8,7 @@ use Rattle.spec.specs.Alphabet.{«а», «б», «в», «г», «д», 
 use Rattle.spec.specs.Tables.{among, _gives_, entry}
 use Rattle.spec.specs.Letters.{Letter, firstByte, isHardOnly, isPaired, isSoftOnly, isSign, isVowel, isSofteningVowel}
 use Rattle.spec.specs.Codes.{А*, О*, Э*, Ы*, И*, У*, А1, Э1, Ы1, И1, У1, А2, Э2, Б, В, Г, Д, Ж, J, З, К, Л, М, Н, П, Р, С, Т, Ф, Х, Ц, Ч, Ш, Щ}
-use Rattle.spec.specs.Syllables.{syllableOf}
+use Rattle.spec.specs.Syllables.{Facts, syllableOf}
 use Rattle.spec.specs.declared.Cover.{Cover}
 use Rattle.spec.specs.declared.Cover.the-variants.{Bare, Covered}
 use Rattle.spec.specs.declared.Level.{Level}
@@ -43,31 +43,31 @@ byLevel Second s one two = two
 unfoldable pub initial : ℕ → Bool
 initial p = eqb p 0
 
--- The vowel table, a row a vowel. p is the letter before ("after"); hard says that a hard boundary stands right before this letter.
-module _ (hard : Bool) (p : ℕ) (level : Level) where
+-- The vowel table, a row a vowel. p is the letter before ("after"); hard says that a hard boundary stands right before this letter; s is the vowel's syllable.
+module _ (hard : Bool) (p : ℕ) (s : Syllable) where
   -- pass 3, row а: reduced one way after a soft-only consonant (class Q), and kept А1 where initial
   unfoldable pub rowА : ℕ
-  rowА = byLevel level А* (cond (isSoftOnly p) Э1 А1) (cond (initial p) А1 (cond (isSoftOnly p) Э2 А2))
+  rowА = byLevel (s .level) А* (cond (isSoftOnly p) Э1 А1) (cond (initial p) А1 (cond (isSoftOnly p) Э2 А2))
 
   -- pass 3, row о
   unfoldable pub rowО : ℕ
-  rowО = byLevel level О* А1 (cond (initial p) А1 (cond (isSoftOnly p) Э2 А2))
+  rowО = byLevel (s .level) О* А1 (cond (initial p) А1 (cond (isSoftOnly p) Э2 А2))
 
   -- pass 3, row у, one sound for levels 1 and 2
   unfoldable pub rowУ : ℕ
-  rowУ = byStress level У* У1
+  rowУ = byStress (s .level) У* У1
 
   -- pass 3, row ы
   unfoldable pub rowЫ : ℕ
-  rowЫ = byStress level Ы* Ы1
+  rowЫ = byStress (s .level) Ы* Ы1
 
   -- pass 3, row э: the stressed sound comes first, then the hard boundary
   unfoldable pub rowЭ : ℕ
-  rowЭ = byLevel level Э* (cond (initial p && hard) Ы1 Э1) (cond (initial p && hard) Ы1 Э2)
+  rowЭ = byLevel (s .level) Э* (cond (initial p && hard) Ы1 Э1) (cond (initial p && hard) Ы1 Э2)
 
   -- pass 3, row е: after a hard-only consonant (class T) it is Ы1 or А2
   unfoldable pub rowЕ : ℕ
-  rowЕ = byLevel level Э* (cond (isHardOnly p) Ы1 Э1) (cond (initial p) Э1 (cond (isHardOnly p) А2 Э2))
+  rowЕ = byLevel (s .level) Э* (cond (isHardOnly p) Ы1 Э1) (cond (initial p) Э1 (cond (isHardOnly p) А2 Э2))
 
   -- pass 3, row ё: the same at every level
   unfoldable pub rowЁ : ℕ
@@ -75,15 +75,15 @@ module _ (hard : Bool) (p : ℕ) (level : Level) where
 
   -- pass 3, row ю
   unfoldable pub rowЮ : ℕ
-  rowЮ = byStress level У* У1
+  rowЮ = byStress (s .level) У* У1
 
   -- pass 3, row я
   unfoldable pub rowЯ : ℕ
-  rowЯ = byLevel level А* Э1 (cond (initial p) Э1 Э2)
+  rowЯ = byLevel (s .level) А* Э1 (cond (initial p) Э1 Э2)
 
   -- pass 3, row и: Ы after a hard-only consonant or behind a hard boundary
   unfoldable pub rowИ : ℕ
-  rowИ = cond (isHardOnly p || (initial p && hard)) (byStress level Ы* Ы1) (byStress level И* И1)
+  rowИ = cond (isHardOnly p || (initial p && hard)) (byStress (s .level) Ы* Ы1) (byStress (s .level) И* И1)
 
   -- the row of the vowel b
   unfoldable pub vowelSound : ℕ → ℕ
@@ -125,17 +125,17 @@ softens b = eqb b «ь» || isSofteningVowel b
 
 unfoldable pub vowelPhones : Bool → ℕ → ℕ → Syllable → List Phone
 vowelPhones hard p b s =
-    let v : Phone = record { letter = b; softened = false; code = vowelSound hard p (s .level) b } in
+    let v : Phone = record { letter = b; softened = false; code = vowelSound hard p s b } in
     cond (glides p (s .cover) b) (record { letter = b; softened = false; code = J } ∷ v ∷ []) (v ∷ [])
 
 -- pass 4, its first sentence: a sign makes no sound, each other letter one, with J two
-unfoldable pub phonesOf : Bool → Bool → ℕ → Letter → List Letter → List Phone
-phonesOf hard marked p l w =
+unfoldable pub phonesOf : Bool → Facts → ℕ → Letter → List Letter → List Phone
+phonesOf hard facts p l w =
     cond (isSign (l .byte)) []
-    (cond (isVowel (l .byte)) (vowelPhones hard p (l .byte) (syllableOf marked p l w))
+    (cond (isVowel (l .byte)) (vowelPhones hard p (l .byte) (syllableOf facts p l w))
     (record { letter = l .byte; softened = softens (firstByte w); code = writtenCode (l .byte) } ∷ []))
 
 -- Pass 3, over w, the rest of a word whose letter before is p. Only a word's first letter can have a hard boundary before it.
-unfoldable pub phonesFrom : Bool → Bool → ℕ → List Letter → List Phone
-phonesFrom hard marked p [] = []
-phonesFrom hard marked p (l ∷ w) = phonesOf hard marked p l w ++ phonesFrom false marked (l .byte) w
+unfoldable pub phonesFrom : Bool → Facts → ℕ → List Letter → List Phone
+phonesFrom hard facts p [] = []
+phonesFrom hard facts p (l ∷ w) = phonesOf hard facts p l w ++ phonesFrom false facts (l .byte) w

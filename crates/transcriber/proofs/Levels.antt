@@ -9,7 +9,7 @@ use lib.Seq.{drop-length}
 use Rattle.spec.specs.Letters.{isBreak, isMark, beginsWithMark}
 use Rattle.spec.specs.Refusals.{vowelByte}
 use Rattle.spec.specs.Syllables.{nextStressed, syllableOf}
-use Rattle.message.specs.Places.{Steady, leftAt, letterOf, wordAt, markBefore, markedAt}
+use Rattle.message.specs.Places.{Steady, leftAt, letterOf, wordAt, markBefore, markedAt, factsAt}
 use Rattle.spec.specs.declared.Level.{Level}
 use Rattle.spec.specs.declared.Level.the-variants.{Stressed}
 use Rattle.message.proofs.Bytes.{not-both, vowel-break, vowel-mark}
@@ -43,7 +43,7 @@ break-mark b = not-both isBreak isMark b refl
 module _ (m : List ℕ) (steady : Steady m) (i : ℕ) (h : i < length m) where
   -- the syllable of a vowel
   pub levels-syllable : {n f : Level} → vowelByte (getD m i 0) ≡ true → Levels m (suc i) n f
-      → syllableOf (markedAt m i) (leftAt m i .p) (letterOf m i) (wordAt m (suc i)) ≡ syllableBy (classBefore m i) n
+      → syllableOf (factsAt m i) (leftAt m i .p) (letterOf m i) (wordAt m (suc i)) ≡ syllableBy (classBefore m i) n
   levels-syllable v l = rw (syllable-raw m steady i h, marked-within m steady i h (vowel-break (getD m i 0) (steady .bytes i) v), l .near)
 
   -- over a vowel

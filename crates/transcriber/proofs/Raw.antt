@@ -15,12 +15,12 @@ use Rattle.spec.specs.Refusals.{vowelByte}
 use Rattle.message.specs.Scan.{classOf, isBreakClass, isSignClass, isLetterClass}
 use Rattle.spec.specs.Codes.{J}
 use Rattle.spec.specs.Elision.{elides}
-use Rattle.spec.specs.Syllables.{coverAfter, incomplete, levelOf, syllableOf, nextStressed}
+use Rattle.spec.specs.Syllables.{Facts, coverAfter, incomplete, levelOf, syllableOf, nextStressed}
 use Rattle.spec.specs.Vowels.{byStress, byLevel, hardEnd, vowelSound, glides, writtenCode, softens}
-use Rattle.spec.specs.Voicing.{Tone, voiced, voiceless, asWritten, toneBefore, toned, voicedCode, voicelessCode}
+use Rattle.spec.specs.Voicing.{Tone, voiced, voiceless, asWritten, toneOf, toned, voicedCode, voicelessCode}
 use Rattle.spec.specs.Palatalization.{isSoft, firstCode}
-use Rattle.message.specs.Fused.{toneIn, vowelCodes, consonantCode, letterCodes, fusedFrom}
-use Rattle.message.specs.Places.{Steady, leftAt, letterOf, wordAt, markedAt, soundAt, tailWord}
+use Rattle.message.specs.Fused.{toneBefore, vowelCodes, consonantCode, letterCodes, fusedFrom}
+use Rattle.message.specs.Places.{Steady, leftAt, letterOf, wordAt, markedAt, factsAt, soundAt, tailWord}
 use Rattle.spec.specs.declared.Cover.{Cover}
 use Rattle.spec.specs.declared.Level.{Level}
 use Rattle.spec.specs.declared.Level.the-variants.{Stressed, First, Second}
@@ -201,7 +201,7 @@ module _ (m : List ℕ) (steady : Steady m) where
 
   -- the syllable of the letter at place i
   pub syllable-raw : (i : ℕ) → i < length m
-      → syllableOf (markedAt m i) (leftAt m i .p) (letterOf m i) (wordAt m (suc i))
+      → syllableOf (factsAt m i) (leftAt m i .p) (letterOf m i) (wordAt m (suc i))
       ≡ syllableBy (classBefore m i) (levelBy (beginsWithMark (drop (suc i) m)) (nextStressed (wordAt m (suc i))) (markedAt m i))
   unfolding syllableOf levelOf letterOf syllableBy levelBy
   syllable-raw i h = rw (cover-raw i (omega arith))
@@ -240,11 +240,14 @@ cond-same true k = refl
 cond-same false k = refl
 
 -- the vowels' codes are the first 13
-vowel-low : (hard : Bool) (p : ℕ) (level : Level) (b : ℕ) → vowelSound hard p level b ≤ 13
+vowel-low : (hard : Bool) (p : ℕ) (s : Syllable) (b : ℕ) → vowelSound hard p s b ≤ 13
 unfolding vowelSound byLevel byStress
-vowel-low hard p Stressed b = leb-true _ 13 (entry-low 13 _ b (simp (low-cond, cond-same)))
-vowel-low hard p First b = leb-true _ 13 (entry-low 13 _ b (simp (low-cond, cond-same)))
-vowel-low hard p Second b = leb-true _ 13 (entry-low 13 _ b (simp (low-cond, cond-same)))
+vowel-low hard p s b = by (s .level) refl
+  where
+    by : (level : Level) → s .level ≡ level → vowelSound hard p s b ≤ 13
+    by Stressed e = rw e (leb-true _ 13 (entry-low 13 _ b (simp (low-cond, cond-same))))
+    by First e = rw e (leb-true _ 13 (entry-low 13 _ b (simp (low-cond, cond-same))))
+    by Second e = rw e (leb-true _ 13 (entry-low 13 _ b (simp (low-cond, cond-same))))
 
 -- none of which voices or devoices
 low-tone : (c : ℕ) → c < 14 → toneBefore c ≡ asWritten
@@ -252,8 +255,8 @@ unfolding everything
 low-tone c h = below-same toneBefore (λ _. asWritten) 14 c refl h
 
 -- every code is below 64, so that it is a place of the table: a vowel's
-pub vowel-small : (hard : Bool) (p : ℕ) (level : Level) (b : ℕ) → vowelSound hard p level b < 64
-vowel-small hard p level b = omega (arith, vowel-low hard p level b)
+pub vowel-small : (hard : Bool) (p : ℕ) (s : Syllable) (b : ℕ) → vowelSound hard p s b < 64
+vowel-small hard p s b = omega (arith, vowel-low hard p s b)
 
 -- a consonant's hard one, which has another after it
 hard-low : (tone : Tone) (b : ℕ) → hardCode tone b ≤ 56
@@ -275,29 +278,29 @@ consonant-small b soft tone c = by (isSoft (record { letter = b; softened = soft
     by false h = omega arith
 
 -- the first of a word
-fused-small : (hard marked next : Bool) (p : ℕ) (w : List Letter) → firstCode (fusedFrom hard marked next p w) < 64
+fused-small : (hard : Bool) (facts : Facts) (next : Bool) (p : ℕ) (w : List Letter) → firstCode (fusedFrom hard facts next p w) < 64
 unfolding fusedFrom firstCode letterCodes vowelCodes
-fused-small hard marked next p [] = omega arith
-fused-small hard marked next p (l ∷ w) = by (elides p (l .byte) w) (isSign (l .byte)) (isVowel (l .byte)) (glides p (s .cover) (l .byte)) (fused-small false marked next (l .byte) w)
+fused-small hard facts next p [] = omega arith
+fused-small hard facts next p (l ∷ w) = by (elides p (l .byte) w) (isSign (l .byte)) (isVowel (l .byte)) (glides p (s .cover) (l .byte)) (fused-small false facts next (l .byte) w)
   where
     s : Syllable
-    s = syllableOf marked p l w
+    s = syllableOf facts p l w
 
     t : List ℕ
-    t = fusedFrom false marked next (l .byte) w
+    t = fusedFrom false facts next (l .byte) w
 
     v : ℕ
-    v = vowelSound hard p (s .level) (l .byte)
+    v = vowelSound hard p s (l .byte)
 
     c : ℕ
-    c = consonantCode (l .byte) (softens (firstByte w)) (toneIn next t) (firstCode t)
+    c = consonantCode (l .byte) (softens (firstByte w)) (toneOf next t) (firstCode t)
 
     by : (e x y g : Bool) → firstCode t < 64 → firstCode (cond e [] (cond x [] (cond y (cond g (J ∷ v ∷ []) (v ∷ [])) (c ∷ []))) ++ t) < 64
     by true x y g r = r
     by false true y g r = r
     by false false true true r = omega arith
-    by false false true false r = vowel-small hard p (s .level) (l .byte)
-    by false false false g r = consonant-small (l .byte) (softens (firstByte w)) (toneIn next t) (firstCode t)
+    by false false true false r = vowel-small hard p s (l .byte)
+    by false false false g r = consonant-small (l .byte) (softens (firstByte w)) (toneOf next t) (firstCode t)
 
 -- that after a place
 pub sound-small : (m : List ℕ) (i : ℕ) → soundAt m i < 64
@@ -305,8 +308,8 @@ unfolding soundAt tailWord
 sound-small m i = fused-small _ _ _ _ _
 
 -- a vowel leaves an obstruent before it as written
-pub vowel-tone : (hard : Bool) (p : ℕ) (level : Level) (b : ℕ) → toneBefore (vowelSound hard p level b) ≡ asWritten
-vowel-tone hard p level b = low-tone (vowelSound hard p level b) (omega (arith, vowel-low hard p level b))
+pub vowel-tone : (hard : Bool) (p : ℕ) (s : Syllable) (b : ℕ) → toneBefore (vowelSound hard p s b) ≡ asWritten
+vowel-tone hard p s b = low-tone (vowelSound hard p s b) (omega (arith, vowel-low hard p s b))
 
 -- a tone's number is at most 64
 pub tone-small : (t : Tone) → toneNo t ≤ 64

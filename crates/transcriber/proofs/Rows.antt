@@ -12,6 +12,7 @@ use Rattle.spec.specs.Tables.{among}
 use Rattle.spec.specs.Letters.{small, hardOnly, softOnly, isHardOnly, isSoftOnly}
 use Rattle.spec.specs.Refusals.{vowelByte}
 use Rattle.spec.specs.Vowels.{initial, vowelSound}
+use Rattle.spec.specs.declared.Cover.the-variants.{Covered}
 use Rattle.spec.specs.declared.Level.{Level}
 use Rattle.spec.specs.declared.Level.the-variants.{Stressed, First, Second}
 use Rattle.message.proofs.Bytes.{below-same}
@@ -68,9 +69,9 @@ all-asked p = by (eqb p 0) refl (isHardOnly p) refl (isSoftOnly p) refl
     by false d false e false f = rw (d, e, f) (sym other-asked)
 
 -- the sound after the sample is the sound after every letter of its kind
-pub sounds-like : (hard : Bool) (after : After) (level : Level) (b r : ℕ) → r ≡ vowelSound hard (sample after) level b → Sounds hard after level b r
+pub sounds-like : (hard : Bool) (after : After) (level : Level) (b r : ℕ) → r ≡ vowelSound hard (sample after) (record { cover = Covered; level = level }) b → Sounds hard after level b r
 unfolding vowelSound initial
-sounds-like hard after level b r e p a =
+sounds-like hard after level b r e p cover a =
     let l : asked p ≡ asked (sample after) = rw a at (all-asked p) in
     let x : eqb p 0 ≡ eqb (sample after) 0 = cc in
     let y : isHardOnly p ≡ isHardOnly (sample after) = cc in
@@ -113,7 +114,7 @@ digits row hard after = map (λ l. digitOf row (groupPlace hard after - levelPla
 
 -- the sounds that it should have
 abbrev pub sounds : ℕ → Bool → After → List ℕ
-sounds b hard after = map (λ l. vowelSound hard (sample after) l b) levels
+sounds b hard after = map (λ l. vowelSound hard (sample after) (record { cover = Covered; level = l }) b) levels
 
 -- all groups of a row
 abbrev pub groups : (Bool → After → List ℕ) → List (List (List ℕ))
@@ -123,7 +124,7 @@ groups f = map (λ h. map (f h) kinds) boundaries
 pub row-read : (b row : ℕ) → groups (digits row) ≡ groups (sounds b) → Row b row
 row-read b row e hard after level =
     sounds-like hard after level b (digitOf row (groupPlace hard after - levelPlace level))
-    (level-same (λ l. digitOf row (groupPlace hard after - levelPlace l)) (λ l. vowelSound hard (sample after) l b) level
+    (level-same (λ l. digitOf row (groupPlace hard after - levelPlace l)) (λ l. vowelSound hard (sample after) (record { cover = Covered; level = l }) b) level
     (kind-same (digits row hard) (sounds b hard) after (boundary-same (λ h. map (digits row h) kinds) (λ h. map (sounds b h) kinds) hard e)))
 
 -- the vowels that have an arm of their own in the code

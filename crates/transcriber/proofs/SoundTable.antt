@@ -10,9 +10,9 @@ use lib.ListN.{getD}
 use borrow.Author.Tests.{leb-true}
 use Rattle.spec.specs.Letters.{small}
 use Rattle.spec.specs.Refusals.{consonantByte}
-use Rattle.spec.specs.Voicing.{Tone, voiced, voiceless, asWritten, toneBefore}
+use Rattle.spec.specs.Voicing.{Tone, voiced, voiceless, asWritten}
 use Rattle.spec.specs.Palatalization.{isSoft}
-use Rattle.message.specs.Fused.{consonantCode}
+use Rattle.message.specs.Fused.{toneBefore, consonantCode}
 use Rattle.message.proofs.Bytes.{below-same, pairs-same}
 use Rattle.message.proofs.Computed.{everything}
 use Rattle.transcriber.specs.Sounds.{toneNo, toneBy, hardCode, letterGroup, soundGroup, groupOf, softIn, softNo, soundTable}

@@ -13,11 +13,11 @@ use Rattle.spec.specs.Codes.{J, markOf, isVoicing, isDevoicing}
 use Rattle.spec.specs.Elision.{elides}
 use Rattle.spec.specs.Syllables.{syllableOf}
 use Rattle.spec.specs.Vowels.{vowelSound, softens}
-use Rattle.spec.specs.Voicing.{Tone, voiced, voiceless, asWritten, toneBefore}
+use Rattle.spec.specs.Voicing.{Tone, voiced, voiceless, asWritten}
 use Rattle.spec.specs.Refusals.{vowelByte, signByte, consonantByte}
 use Rattle.message.specs.Scan.{classOf, isVowelClass, elidedAt}
-use Rattle.message.specs.Fused.{vowelCodes, consonantCode, letterCodes}
-use Rattle.message.specs.Places.{Steady, leftAt, letterOf, markBefore, markedAt, tapeAt, wordAt, toneAt, soundAt, codesAt, toneAfter, soundAfter}
+use Rattle.message.specs.Fused.{toneBefore, vowelCodes, consonantCode, letterCodes}
+use Rattle.message.specs.Places.{Steady, leftAt, letterOf, markBefore, factsAt, tapeAt, wordAt, toneAt, soundAt, codesAt, toneAfter, soundAfter}
 use Rattle.spec.specs.declared.Cover.{Cover}
 use Rattle.spec.specs.declared.Level.{Level}
 use Rattle.spec.specs.declared.Level.the-variants.{Stressed}
@@ -169,7 +169,7 @@ module _ (m : List ℕ) (steady : Steady m) (i : ℕ) (h : i < length m) where
 
   -- a vowel its sound, and the glide before it where it has one
   pub codes-vowel : Spelt (getD m i 0) false true → elidedAt m i ≡ false
-      → codesAt m i ≡ vowelCodes (leftAt m i .hard) (leftAt m i .p) (small (getD m i 0)) (syllableOf (markedAt m i) (leftAt m i .p) (letterOf m i) (wordAt m (suc i)))
+      → codesAt m i ≡ vowelCodes (leftAt m i .hard) (leftAt m i .p) (small (getD m i 0)) (syllableOf (factsAt m i) (leftAt m i .p) (letterOf m i) (wordAt m (suc i)))
   unfolding codesAt letterCodes letterOf signByte vowelByte
   codes-vowel p e = rw (elided-at m steady i h (p .break) (p .mark), e, p .sounds, p .sings)
 
@@ -283,24 +283,24 @@ glide-softens c k cover g = by (eqb c 10) refl
 
 module _ (m out : List ℕ) (i : ℕ) (r : Right) (a : Ready m out i r) (k vowel : ℕ) (hard : Bool) (s : Syllable) (f : Sung m i r k vowel hard s) where
   -- the sound is the vowel's in its word
-  sung-sound : vowel ≡ vowelSound (leftAt m i .hard) (leftAt m i .p) (s .level) (small (getD m i 0))
+  sung-sound : vowel ≡ vowelSound (leftAt m i .hard) (leftAt m i .p) s (small (getD m i 0))
   sung-sound =
       rw (hard-raw m (a .steady) i (omega (arith, a .within)), ← f .boundary)
-      (f .sound (leftAt m i .p) (after-raw m (a .steady) i (omega (arith, a .within)) ∙ ap afterClass (sym (f .before))))
+      (f .sound (leftAt m i .p) (s .cover) (after-raw m (a .steady) i (omega (arith, a .within)) ∙ ap afterClass (sym (f .before))))
 
   -- it is a small code
   pub sung-small : vowel < 64
-  sung-small = rw sung-sound (vowel-small (leftAt m i .hard) (leftAt m i .p) (s .level) (small (getD m i 0)))
+  sung-small = rw sung-sound (vowel-small (leftAt m i .hard) (leftAt m i .p) s (small (getD m i 0)))
 
   -- so is the syllable
-  sung-syllable : syllableOf (markedAt m i) (leftAt m i .p) (letterOf m i) (wordAt m (suc i)) ≡ s
+  sung-syllable : syllableOf (factsAt m i) (leftAt m i .p) (letterOf m i) (wordAt m (suc i)) ≡ s
   sung-syllable =
       rw (f .syllable, f .before) (levels-syllable m (a .steady) i (a .within) (f .letter) (a .stands .levels))
 
   -- it leaves an obstruent before it as written
   pub sung-tone : toneNo (toneBefore vowel) ≡ 0
   unfolding toneNo
-  sung-tone = rw (sung-sound, vowel-tone (leftAt m i .hard) (leftAt m i .p) (s .level) (small (getD m i 0)))
+  sung-tone = rw (sung-sound, vowel-tone (leftAt m i .hard) (leftAt m i .p) s (small (getD m i 0)))
 
   -- and its codes are the sound, and the glide before it where it has one
   pub sung-codes : codesAt m i ≡ cond (glideBy (classOf (getD m i 0)) (s .cover) k) (J ∷ vowel ∷ []) (vowel ∷ [])

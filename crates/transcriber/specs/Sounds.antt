@@ -11,7 +11,8 @@ use Rattle.spec.specs.Tables.{_gives_, entry}
 use Rattle.spec.specs.Letters.{between, isHardOnly, isSoftOnly, isObstruent}
 use Rattle.spec.specs.Codes.{Б', В', Г', Х1', Д', Ж', З', К', Л', М', Н', П', Р', С', Т', Ф', Х', Ч, Ч1, Щ, isVoicing}
 use Rattle.spec.specs.Vowels.{vowelSound, bare, writtenCode}
-use Rattle.spec.specs.Voicing.{Tone, voiced, voiceless, asWritten, toneBefore, toned}
+use Rattle.message.specs.Fused.{toneBefore}
+use Rattle.spec.specs.Voicing.{Tone, voiced, voiceless, asWritten, toned}
 use Rattle.message.specs.Scan.{classOf, isBreakClass, isSignClass, tabulate}
 use Rattle.spec.specs.declared.Cover.{Cover}
 use Rattle.spec.specs.declared.Cover.the-variants.{Bare, Covered}
@@ -39,7 +40,7 @@ coverClass k = cond (between 4 9 k) Covered Bare
 
 -- r is the sound of the vowel b after every letter of this kind
 abbrev pub Sounds : Bool → After → Level → ℕ → ℕ → Type 0
-Sounds hard after level b r = (p : ℕ) → afterOf p ≡ after → r ≡ vowelSound hard p level b
+Sounds hard after level b r = (p : ℕ) (cover : Cover) → afterOf p ≡ after → r ≡ vowelSound hard p (record { cover = cover; level = level }) b
 
 -- how many bits stand right of the first digit of a group of a vowel row, for each kind of letter before
 unfoldable pub groupPlace : Bool → After → ℕ

@@ -11,7 +11,7 @@ use Rattle.spec.specs.Syllables.{nextStressed, incomplete, nameOf, syllableOf}
 use Rattle.spec.specs.Vowels.{softens}
 use Rattle.spec.specs.Tape.{tape}
 use Rattle.spec.specs.Refusals.{vowelByte}
-use Rattle.message.specs.Places.{Steady, tapeAt, leftAt, letterOf, wordAt, toneAt, soundAt, markedAt, codesAt}
+use Rattle.message.specs.Places.{Steady, tapeAt, leftAt, letterOf, wordAt, toneAt, soundAt, markedAt, factsAt, codesAt}
 use Rattle.spec.specs.declared.Level.{Level}
 use Rattle.transcriber.specs.Sounds.{levelBy, farLevel, toneNo}
 use Rattle.transcriber.specs.declared.Right.{Right}
@@ -70,7 +70,7 @@ pub record MayWalk (m out : List ℕ) (start to : ℕ) (r : Right) : Type 0 wher
 unfoldable pub namePiece : List ℕ → ℕ → List ℕ
 namePiece m i =
     cond (isBreak (getD m i 0)) (incomplete (leftAt m i .p))
-    (cond (vowelByte (getD m i 0)) (nameOf (syllableOf (markedAt m i) (leftAt m i .p) (letterOf m i) (wordAt m (suc i))) ∷ []) [])
+    (cond (vowelByte (getD m i 0)) (nameOf (syllableOf (factsAt m i) (leftAt m i .p) (letterOf m i) (wordAt m (suc i))) ∷ []) [])
 
 pub record NameReady (m out : List ℕ) (i : ℕ) (v : Vowels) : Type 0 where
   pub within : i < length m
