@@ -13,6 +13,7 @@ pub mod elision;
 pub mod fence;
 pub mod fuzz;
 pub mod gen;
+pub mod input;
 pub mod joints;
 pub mod letters;
 pub mod message;

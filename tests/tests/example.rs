@@ -8,6 +8,7 @@ use std::sync::OnceLock;
 
 use govorun_tests::gen::damaged::{Spot, SPOTS};
 use govorun_tests::gen::{damaged, message, message_of_any_length, Rng};
+use govorun_tests::input::{directory, impatient};
 use govorun_tests::unit::ARCHIVE;
 use govorun_tests::{cp1251, expected_print};
 
@@ -88,6 +89,25 @@ fn daemon_at_the_end_of_its_input() {
     assert_eq!(run(b"\n"), "refused 1 at 0\n");
     assert_eq!(run(b"\xE0"), "7\n");
     assert_eq!(run(b"\xE0\n\n\xE0"), "7\nrefused 1 at 0\n7\n");
+}
+
+/// What the daemon prints for an input that can't be read to its end. It must say so.
+fn print_before_failing(input: Stdio) -> String {
+    let run = Command::new(daemon()).stdin(input).output();
+    let output = run.expect("the daemon starts");
+    assert_eq!(output.status.code(), Some(1));
+    let complaint = String::from_utf8_lossy(&output.stderr);
+    assert_eq!(complaint, "daemon: standard input could not be read\n");
+    String::from_utf8_lossy(&output.stdout).into_owned()
+}
+
+#[test]
+fn daemon_speaks_no_part_of_a_line() {
+    let (input, _end) = impatient(&cp1251("ду*б\nго*л"));
+    assert_eq!(print_before_failing(input), expected_print(&cp1251("ду*б")));
+    let (input, _end) = impatient(&cp1251("го*л"));
+    assert_eq!(print_before_failing(input), "");
+    assert_eq!(print_before_failing(directory()), "");
 }
 
 #[test]
