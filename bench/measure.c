@@ -45,6 +45,11 @@ static const char *const letter_words[] = {"к", "с", "в", "а", "у", "о", "
 /* Sixty-four vowels with the mark on the first: the level of the last is settled by the farthest byte. */
 static const char *const vowel_words[] = {"а*оуыэеёиюяаоуыэеёиюяаоуыэеёиюяаоуыэеёиюяаоуыэеёиюяаоуыэеёиюяаоуы"};
 
+/* The same vowels, a mark on each: every syllable is stressed, and every second byte is a mark. */
+static const char *const marked_words[] = {
+    "а*о*у*ы*э*е*ё*и*ю*я*а*о*у*ы*э*е*ё*и*ю*я*а*о*у*ы*э*е*ё*и*ю*я*а*о*у*ы*э*е*ё*и*ю*я*а*о*у*ы*э*е*ё*и*ю*я*а*о*у*ы*э*е*ё*и*ю*я*а*о*у*ы*",
+};
+
 /* One character of a UTF-8 text as a byte of Windows-1251; the text holds nothing but Russian letters and ASCII. */
 static uint8_t next_byte(const char **text)
 {
@@ -131,6 +136,7 @@ static const struct test_case cases[] = {
     {"one-letter words", 4096, LIST(letter_words), 1, NULL},
     {"chain of voice", 4096, LIST(chain_words), 0, "до"},
     {"64 vowels", 4096, LIST(vowel_words), 0, NULL},
+    {"64 marked vowels", 4096, LIST(marked_words), 0, NULL},
     {"clusters", 4096, LIST(cluster_words), 0, NULL},
 };
 

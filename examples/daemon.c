@@ -1,6 +1,7 @@
 /*
  * A polling daemon's loop over the C interface. Each line of standard input is a message in Windows-1251, without its newline. For each
- * one line is printed: the codes of the tape in decimal, or the refusal.
+ * one line is printed: the codes of the tape in decimal, or the refusal. Where the input can't be read any further, the daemon says so on
+ * standard error and ends with nothing spoken of that line.
  *
  *     cc -I include examples/daemon.c target/staticlib/libcapi.a -o daemon
  */
@@ -13,20 +14,21 @@
 static uint8_t line[4096 + 1];
 
 /*
- * Reads a line and gives how many bytes of it are kept; what does not fit is passed over. Gives 0 in *more when the input has no more
- * lines.
+ * Reads a line and gives how many bytes of it are kept; what does not fit is passed over. Gives 0 in *more when there is no line to
+ * speak: the input has ended, or could not be read, and then what came of the line is no message.
  */
 static size_t read_line(int *more)
 {
     size_t len = 0;
     int byte = getchar();
+    int ended = byte == EOF;
 
-    *more = byte != EOF;
     while (byte != EOF && byte != '\n') {
         if (len < sizeof line)
             line[len++] = (uint8_t)byte;
         byte = getchar();
     }
+    *more = !ended && !ferror(stdin);
     return len;
 }
 
@@ -77,5 +79,7 @@ int main(void)
         fflush(stdout);
         len = read_line(&more);
     }
+    if (ferror(stdin))
+        fputs("daemon: standard input could not be read\n", stderr);
     return ferror(stdin) || ferror(stdout) ? EXIT_FAILURE : EXIT_SUCCESS;
 }

@@ -6,7 +6,7 @@
  * Every function here is proved to do what it promises, but for the stack, for all bytes, lengths and outputs whatever:
  *   - it reads only msg[0 .. len) and cuts[0 .. n), and writes only out[0 .. cap);
  *   - it always returns; it allocates nothing, keeps nothing between calls and calls nothing outside;
- *   - it uses less than 4 KB of stack (measured by the tests on the worst messages, not proved);
+ *   - it uses at most 4,096 bytes of stack, its return address with them (measured by the tests on the worst messages, not proved);
  *   - a refusal leaves every byte of out as it was; on acceptance out begins with the answer and its other bytes are kept.
  * The caller sees to what a call in C can't show: each pointer points to that many bytes (or places), and out overlaps neither
  * msg nor cuts. Where a length is 0 the pointer may be anything but NULL. Calls from several threads don't disturb one another.

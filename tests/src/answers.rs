@@ -29,21 +29,6 @@ pub fn whole_join(msg: &[u8], cuts: &[usize]) -> Whole {
     join(msg, cuts, usize::MAX).map(|joined| (joined.tape, joined.live))
 }
 
-/// The answer of the naming operation, and the lent output afterwards.
-pub fn expected_names(msg: &[u8], before: &[u8]) -> (Answer, Vec<u8>) {
-    lent(&whole_names(msg), before)
-}
-
-/// The answer of the transcriber, and the lent output afterwards.
-pub fn expected_transcribe(msg: &[u8], before: &[u8]) -> (Answer, Vec<u8>) {
-    lent(&whole_tape(msg), before)
-}
-
-/// The answer of the joiner, and the lent output afterwards.
-pub fn expected_join(msg: &[u8], cuts: &[usize], before: &[u8]) -> (Answer, Vec<u8>) {
-    lent(&whole_join(msg, cuts), before)
-}
-
 /// An answer with an output lent to it, and the output afterwards.
 pub fn lent(whole: &Whole, before: &[u8]) -> (Answer, Vec<u8>) {
     let fitted = whole

@@ -2,9 +2,10 @@
 //! each operation must answer; it is plain rather than fast.
 //!
 //! The modules follow the paper's sections: letters, refusals, the five passes, codes, joints.
-//! Beside them stand `gen` with the messages to try, `unit` with the library under test, and what
-//! holds the two to each other.
+//! Beside them stand `gen` with the messages to try, `unit` and `program` with the library and the
+//! program under test, and what holds them to each other: `trial`, and `agreed` for the tests.
 
+pub mod agreed;
 pub mod answers;
 pub mod codes;
 pub mod demand3;
@@ -12,10 +13,12 @@ pub mod elision;
 pub mod fence;
 pub mod fuzz;
 pub mod gen;
+pub mod input;
 pub mod joints;
 pub mod letters;
 pub mod message;
 pub mod palatalization;
+pub mod program;
 pub mod refusals;
 pub mod syllables;
 pub mod text;
@@ -25,7 +28,7 @@ pub mod unit;
 pub mod voicing;
 pub mod vowels;
 
-pub use answers::{expected_join, expected_names, expected_print, expected_transcribe, Answer};
+pub use answers::{expected_print, Answer};
 pub use codes::spell;
 pub use refusals::Refusal;
 pub use text::{cp1251, hex, show};

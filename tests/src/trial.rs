@@ -130,8 +130,8 @@ impl<'a> Trial<'a> {
         Ok(())
     }
 
-    /// Tries the operation on this copy of the message and this output.
-    pub fn in_place(&self, msg: &[u8], out: &mut [u8]) -> Result<(), String> {
+    /// Tries the operation on this copy of the message and this output, and gives its answer.
+    pub fn in_place(&self, msg: &[u8], out: &mut [u8]) -> Result<unit::Answer, String> {
         let (expected, after) = lent(&self.whole, out);
         let expected = unit::Answer::from(expected);
         let given = self.operation.call(msg, out);
@@ -146,7 +146,7 @@ impl<'a> Trial<'a> {
         if msg != self.msg {
             return Err(self.told("changes the message"));
         }
-        Ok(())
+        Ok(given)
     }
 
     fn told(&self, wrong: &str) -> String {

@@ -16,6 +16,15 @@ pub struct Answer {
     pub live: u32,
 }
 
+impl Answer {
+    /// The refusal, unless the message was accepted.
+    pub fn refusal(self) -> Option<Refusal> {
+        let number = u8::try_from(self.number).expect("no number is above 12");
+        let place = self.place as usize;
+        (number != 0).then_some(Refusal { number, place })
+    }
+}
+
 /// `govorun_counts` of the header.
 #[repr(C)]
 #[derive(Clone, Copy, Debug, PartialEq, Eq)]

@@ -1,7 +1,8 @@
-//! Holds docs/CODES.md to the implementation: each row's message has that tape, and the tape has the row's code.
+//! Holds docs/CODES.md to the unit: each row's message has that tape, and the tape has the row's code.
 
+use govorun_tests::agreed::tape;
 use govorun_tests::codes::NAMES;
-use govorun_tests::{cp1251, spell, tape};
+use govorun_tests::{cp1251, spell};
 
 /// The cells of the table's rows, with `\|` in a cell read as `|`.
 fn rows() -> Vec<Vec<String>> {

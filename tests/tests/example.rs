@@ -1,15 +1,19 @@
 //! The daemon in C: it builds without a warning, answers as expected, and touches no memory that
 //! is not its own.
 
-use std::io::{ErrorKind, Write};
+use std::io::Write;
 use std::path::{Path, PathBuf};
 use std::process::{Command, Stdio};
 use std::sync::OnceLock;
 
 use govorun_tests::gen::damaged::{Spot, SPOTS};
 use govorun_tests::gen::{damaged, message, message_of_any_length, Rng};
+use govorun_tests::input::{directory, impatient};
 use govorun_tests::unit::ARCHIVE;
 use govorun_tests::{cp1251, expected_print};
+
+/// What to do about a missing tool.
+const SET_UP: &str = "tests/setup installs what is missing";
 
 /// The daemon, built once for all tests here.
 fn daemon() -> &'static Path {
@@ -25,7 +29,7 @@ fn build() -> PathBuf {
         .args([root.join("include"), root.join("examples/daemon.c")])
         .args([Path::new(ARCHIVE), Path::new("-o"), &daemon])
         .status()
-        .expect("gcc is installed");
+        .unwrap_or_else(|error| panic!("gcc: {error}; {SET_UP}"));
     assert!(built.success(), "the daemon builds");
     daemon
 }
@@ -33,7 +37,7 @@ fn build() -> PathBuf {
 /// What a command prints for its input, and that it ends well.
 fn output(command: &mut Command, input: &[u8]) -> String {
     let started = command.stdin(Stdio::piped()).stdout(Stdio::piped()).spawn();
-    let mut child = started.expect("the daemon starts");
+    let mut child = started.unwrap_or_else(|error| panic!("{command:?}: {error}; {SET_UP}"));
     let mut pipe = child.stdin.take().expect("a pipe was asked for");
     let input = input.to_vec();
     let writer = std::thread::spawn(move || pipe.write_all(&input));
@@ -87,13 +91,27 @@ fn daemon_at_the_end_of_its_input() {
     assert_eq!(run(b"\xE0\n\n\xE0"), "7\nrefused 1 at 0\n7\n");
 }
 
+/// What the daemon prints for an input that can't be read to its end. It must say so.
+fn print_before_failing(input: Stdio) -> String {
+    let run = Command::new(daemon()).stdin(input).output();
+    let output = run.expect("the daemon starts");
+    assert_eq!(output.status.code(), Some(1));
+    let complaint = String::from_utf8_lossy(&output.stderr);
+    assert_eq!(complaint, "daemon: standard input could not be read\n");
+    String::from_utf8_lossy(&output.stdout).into_owned()
+}
+
+#[test]
+fn daemon_speaks_no_part_of_a_line() {
+    let (input, _end) = impatient(&cp1251("ду*б\nго*л"));
+    assert_eq!(print_before_failing(input), expected_print(&cp1251("ду*б")));
+    let (input, _end) = impatient(&cp1251("го*л"));
+    assert_eq!(print_before_failing(input), "");
+    assert_eq!(print_before_failing(directory()), "");
+}
+
 #[test]
 fn daemon_under_valgrind() {
-    if let Err(error) = Command::new("valgrind").arg("--version").output() {
-        assert_eq!(error.kind(), ErrorKind::NotFound, "{error}");
-        println!("valgrind is not installed: the daemon was not run under it");
-        return;
-    }
     let mut command = Command::new("valgrind");
     command
         .args(["--tool=memcheck", "--quiet", "--error-exitcode=9"])

@@ -1,13 +1,14 @@
 //! The generators do what they promise: their accepted messages are accepted, their damaged ones
 //! refused as made, their lists of cuts good or bad as asked. This tries the check from both sides.
 
+use govorun_tests::agreed::{check, join, tape};
 use govorun_tests::gen::cuts::BAD_CUTS;
 use govorun_tests::gen::damaged::{Spot, SPOTS};
 use govorun_tests::gen::lexicon;
 use govorun_tests::gen::{
     bad_cuts, damaged, every_list, good_cuts, message, message_of_any_length, noise, Rng,
 };
-use govorun_tests::{check, cp1251, hex, join, show, tape, Refusal};
+use govorun_tests::{cp1251, hex, show, Refusal};
 
 #[test]
 fn listed_words_are_accepted() {

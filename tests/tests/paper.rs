@@ -1,13 +1,14 @@
 //! The examples of document 01, its refusal table, its words to prove, the mistakes it names, and
 //! the settled readings.
 
+use govorun_tests::agreed::{check, join, lent, names, print, tape};
 use govorun_tests::codes::NAMES;
-use govorun_tests::{
-    check, cp1251, expected_join, expected_names, expected_print, expected_transcribe, join, names,
-    spell, tape, Answer, Counts, Refusal,
-};
+use govorun_tests::trial::Operation::{Join, Name, Transcribe};
+use govorun_tests::unit::Answer;
+use govorun_tests::{cp1251, spell, Counts, Refusal};
 
 fn sounds(text: &str) -> String {
+    print(&cp1251(text));
     spell(&tape(&cp1251(text), usize::MAX).expect("an accepted message"))
 }
 
@@ -16,6 +17,7 @@ fn named(text: &str) -> Vec<u8> {
 }
 
 fn refused(text: &str) -> (u8, usize) {
+    print(&cp1251(text));
     let refusal = check(&cp1251(text)).expect_err("a refused message");
     (refusal.number, refusal.place)
 }
@@ -116,7 +118,7 @@ fn joins_to_prove() {
 
 #[test]
 fn program_example() {
-    let print = |text: &str| expected_print(&cp1251(text));
+    let print = |text: &str| print(&cp1251(text));
     assert_eq!(print("ду*б ра*д"), "24 6 39 0 41 1 45\n");
     assert_eq!(print("ду*б#ра*д"), "24 6 39 63 41 1 45\n");
     assert_eq!(print("ду*б\n"), "refused 3 at 4\n");
@@ -316,26 +318,26 @@ fn answers_and_lent_output() {
     let msg = cp1251("ду*б го*л");
     let taped = [24, 6, 16, 0, 20, 2, 33];
     assert_eq!(
-        expected_transcribe(&msg, &[9; 8]),
+        lent(Transcribe, &msg, &[9; 8]),
         (answer(0, 0, 7, 0), [&taped[..], &[9]].concat())
     );
     assert_eq!(
-        expected_transcribe(&msg, &[9; 6]),
+        lent(Transcribe, &msg, &[9; 6]),
         (answer(11, 7, 0, 0), vec![9; 6])
     );
     assert_eq!(
-        expected_names(&msg, &[9; 5]),
+        lent(Name, &msg, &[9; 5]),
         (answer(0, 0, 4, 0), vec![1, 7, 1, 7, 9])
     );
     assert_eq!(
-        expected_join(&msg, &[4], &[9; 7]),
+        lent(Join(&[4]), &msg, &[9; 7]),
         (answer(0, 0, 7, 1), vec![24, 6, 39, 0, 20, 2, 33])
     );
     assert_eq!(
-        expected_join(&msg, &[3], &[9; 7]),
+        lent(Join(&[3]), &msg, &[9; 7]),
         (answer(12, 0, 0, 0), vec![9; 7])
     );
-    assert_eq!(expected_names(b"7", &[]), (answer(3, 0, 0, 0), Vec::new()));
+    assert_eq!(lent(Name, b"7", &[]), (answer(3, 0, 0, 0), Vec::new()));
 }
 
 #[test]

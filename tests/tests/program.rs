@@ -1,64 +1,19 @@
-//! The built program beside the expected print, one process for each message. The environment
-//! variable GOVORUN_PROGRAM names another program to try.
+//! The built program beside the expected print.
 
-use std::env;
 use std::fs::File;
-use std::io::{ErrorKind, Write};
-use std::path::{Path, PathBuf};
-use std::process::{Child, Command, Stdio};
+use std::path::Path;
+use std::process::Stdio;
 use std::thread;
 use std::time::Duration;
 
+use govorun_tests::agreed::print;
 use govorun_tests::gen::damaged::SPOTS;
 use govorun_tests::gen::noise::{bytes, string};
 use govorun_tests::gen::{damaged, lexicon, message, message_of_any_length, word, Rng};
+use govorun_tests::program::{piped, printed, start};
 use govorun_tests::{cp1251, expected_print, hex};
 
 const WORKERS: usize = 2;
-
-fn program() -> PathBuf {
-    let given = env::var_os("GOVORUN_PROGRAM").unwrap_or_else(|| "../target/bin/govorun".into());
-    Path::new(env!("CARGO_MANIFEST_DIR")).join(given)
-}
-
-fn start(input: Stdio) -> Child {
-    let program = program();
-    let mut command = Command::new(&program);
-    let started = command.stdin(input).stdout(Stdio::piped()).spawn();
-    started.unwrap_or_else(|error| {
-        panic!(
-            "{}: {error}; `rt check govorun` builds it, or GOVORUN_PROGRAM names another",
-            program.display()
-        )
-    })
-}
-
-/// What the program printed, once it has ended as it should.
-fn printed(child: Child, input: &[u8]) -> String {
-    let output = child.wait_with_output().expect("the program ends");
-    assert!(output.status.success(), "{} {}", output.status, hex(input));
-    String::from_utf8_lossy(&output.stdout).into_owned()
-}
-
-/// What the program prints for an input that comes through a pipe, in pieces of this length.
-fn piped(input: &[u8], piece: usize, wait: Duration) -> String {
-    let mut child = start(Stdio::piped());
-    let mut pipe = child.stdin.take().expect("a pipe was asked for");
-    for part in input.chunks(piece) {
-        match pipe.write_all(part) {
-            Ok(()) => thread::sleep(wait),
-            // It may stop reading once it is clear that the message is too long.
-            Err(error) => assert_eq!(error.kind(), ErrorKind::BrokenPipe),
-        }
-    }
-    drop(pipe);
-    printed(child, input)
-}
-
-fn compare(msg: &[u8]) {
-    let given = piped(msg, msg.len().max(1), Duration::ZERO);
-    assert_eq!(given, expected_print(msg), "message {}", hex(msg));
-}
 
 /// Compares all messages; the workers take them in turns.
 fn compare_all(messages: &[Vec<u8>]) {
@@ -66,7 +21,7 @@ fn compare_all(messages: &[Vec<u8>]) {
     thread::scope(|scope| {
         for worker in 0..WORKERS {
             let mine = messages.iter().skip(worker).step_by(WORKERS);
-            scope.spawn(|| mine.for_each(|msg| compare(msg)));
+            scope.spawn(|| mine.map(|msg| print(msg)).for_each(drop));
         }
     });
 }
@@ -153,7 +108,7 @@ fn messages_over_the_longest_length() {
 #[test]
 fn an_end_of_line_is_a_foreign_byte() {
     for text in ["ду*б ра*д\n", "\n", "ду*б\r\n", "а\0"] {
-        compare(&cp1251(text));
+        print(&cp1251(text));
     }
 }
 

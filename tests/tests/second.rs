@@ -1,10 +1,11 @@
-//! Parts of the paper derived a second time, in another manner, and held to the library over all
-//! short strings of small alphabets and over random ones.
+//! Parts of the paper derived once more, in another manner, and held to the library and the second
+//! implementation over all short strings of small alphabets and over random ones.
 
+use govorun_tests::agreed::{check, names, tape};
 use govorun_tests::gen::noise::{every_string, string};
 use govorun_tests::gen::{message_of_any_length, Rng};
 use govorun_tests::letters::is_vowel;
-use govorun_tests::{check, cp1251, names, show, spell, tape, Refusal};
+use govorun_tests::{cp1251, show, spell, Refusal};
 
 /// What an automaton that reads from left to right remembers of the word so far.
 #[derive(Clone, Copy, PartialEq)]

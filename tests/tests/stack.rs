@@ -10,8 +10,14 @@ use govorun_tests::gen::{damaged, extreme_messages, noise, Rng};
 use govorun_tests::message::breaks;
 use govorun_tests::unit::raw;
 
-/// The most that a call may take, in bytes, its return address with it.
-const BOUND: usize = 4096;
+/// The most that a call may take, in bytes, its return address with it, as the header says it.
+fn bound() -> usize {
+    let header = include_str!("../../include/govorun.h");
+    let said = header.split_once("it uses at most ");
+    let said = said.and_then(|(_, rest)| rest.split_once(" bytes of stack, its return address"));
+    let (number, _) = said.expect("the header names a bound");
+    number.replace(',', "").parse().expect("a number of bytes")
+}
 
 /// A painted stack.
 struct Stack {
@@ -134,7 +140,7 @@ fn longest_messages() {
             }
         }
     }
-    deepest.at_most(BOUND);
+    deepest.at_most(bound());
 }
 
 #[test]
@@ -150,5 +156,5 @@ fn refused_messages() {
             }
         }
     }
-    deepest.at_most(BOUND);
+    deepest.at_most(bound());
 }

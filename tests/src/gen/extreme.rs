@@ -16,6 +16,7 @@ pub fn extreme_messages(rng: &mut Rng, random: usize) -> Vec<Vec<u8>> {
         ending_in(repeated(&"т".repeat(64), 62), " дья"),
         repeated(&("н".repeat(63) + "е"), 63),
         repeated(&"а*".repeat(31), 65),
+        repeated(&"а*".repeat(64), 31),
         repeated("стн", 1024),
         repeated("жь и", 800),
     ];
