@@ -7,4 +7,5 @@ pub mod Parts
 pub mod Cutting
 pub mod PartsAccepted
 pub mod Sizes
+pub mod Phrases
 pub mod Bounds

@@ -21,7 +21,7 @@ use Rattle.laws.proofs.Cuts.{break-within}
 use Rattle.laws.proofs.Parts.{part, Begins}
 
 -- the bytes before a part, nearest first: none, or a break is next
-abbrev Opens : List ℕ → Type 0
+abbrev pub Opens : List ℕ → Type 0
 Opens [] = Unit {0}
 Opens (d ∷ t) = isBreak d ≡ true
 
@@ -32,11 +32,11 @@ begins-opens m zero b = tt
 begins-opens m (suc c) b = b
 
 -- no break is of this class
-abbrev NoBreak : (ℕ → Bool) → Type 0
+abbrev pub NoBreak : (ℕ → Bool) → Type 0
 NoBreak class = (d : ℕ) → isBreak d ≡ true → class d ≡ false
 
 -- a class without the gap and the pause
-no-break : (class : ℕ → Bool) → class gap ≡ false → class pause ≡ false → NoBreak class
+pub no-break : (class : ℕ → Bool) → class gap ≡ false → class pause ≡ false → NoBreak class
 unfolding isBreak
 no-break class g p d e = by (eqb d gap) refl e
   where
@@ -45,17 +45,17 @@ no-break class g p d e = by (eqb d gap) refl e
     by false q e = rw (eqb-true d pause e) p
 
 -- a break is no mark
-break-mark : NoBreak isMark
+pub break-mark : NoBreak isMark
 unfolding everything
 break-mark = no-break isMark refl refl
 
 -- no vowel
-break-vowel : NoBreak vowelByte
+pub break-vowel : NoBreak vowelByte
 unfolding everything
 break-vowel = no-break vowelByte refl refl
 
 -- no sign
-break-sign : NoBreak signByte
+pub break-sign : NoBreak signByte
 unfolding everything
 break-sign = no-break signByte refl refl
 
@@ -107,31 +107,50 @@ letters-over [] o [] = refl
 letters-over (d ∷ t) o [] = rw o
 letters-over t o (b ∷ x) = rw (letters-over t o x)
 
--- an or that fails fails without its middle
-or-ends : (p q r : Bool) → (p || (q || r)) ≡ false → (p || r) ≡ false
-or-ends true q r e = e
-or-ends false true r e = absurd (true≢false e)
-or-ends false false r e = e
+-- alternatives in another order
+or-swap : (x y z : Bool) → (x || (y || z)) ≡ (y || (x || z))
+or-swap true true z = refl
+or-swap true false z = refl
+or-swap false y z = refl
 
--- So no row fits at a byte of a part, if none fits there in the message and no break stands last in the part: each number has its reason.
-clear-part : (x t : List ℕ) (b : ℕ) (after after′ : List ℕ) → Opens t → (isBreak b ≡ true → none after′ ≡ false) → Clear (x ++ t) b after → Clear x b after′
+-- So a row fits after the bytes of a part just when it fits after those and what stands before the part.
+pub rows-over : (k : ℕ) (x t : List ℕ) (b : ℕ) (after : List ℕ) → Opens t → fitsIn rows k (x ++ t) b after ≡ fitsIn rows k x b after
 unfolding fitsIn rows row3 row4 row5 row6 row7 row8 row9 row10
-clear-part x t b after after′ o n c k =
-    one 3 (c 3) (one 4 (by (isBreak b) refl) (one 5 (rw (first-over vowelByte break-vowel t o x) at (c 5))
-    (one 6 (rw (start-over t o x) at (c 6)) (one 7 (rw (near-over signByte break-sign t o x) at (c 7))
-    (one 8 (rw (near-over hardSignByte break-hard-sign t o x) at (c 8)) (one 9 (rw (adjacent-over vowelSign t o (sign-over t o) x) at (c 9))
-    (one 10 (rw (letters-over t o x) at (c 10)) refl)))))))
+rows-over k x t b after o =
+    rw (
+      or-swap (none (x ++ t)) (none after) (first isBreak (x ++ t)),
+      or-swap (none x) (none after) (first isBreak x),
+      start-over t o x,
+      first-over vowelByte break-vowel t o x,
+      near-over signByte break-sign t o x,
+      near-over hardSignByte break-hard-sign t o x,
+      adjacent-over vowelSign t o (sign-over t o) x,
+      letters-over t o x,
+    )
+
+-- Of the bytes after it a row asks only whether a break is last.
+pub rows-after : (k : ℕ) (x : List ℕ) (b : ℕ) (after after′ : List ℕ) → (isBreak b ≡ true → none after ≡ none after′) → fitsIn rows k x b after ≡ fitsIn rows k x b after′
+unfolding fitsIn rows row3 row4 row5 row6 row7 row8 row9 row10
+rows-after k x b after after′ n = by (isBreak b) refl
   where
-    by : (k : Bool) → isBreak b ≡ k → row4 x b after′ ≡ false
-    by true d = rw (d, n d, ← start-over t o x) (or-ends (none (x ++ t)) (none after) (first isBreak (x ++ t)) (rw d at (c 4)))
+    by : (t : Bool) → isBreak b ≡ t → fitsIn rows k x b after ≡ fitsIn rows k x b after′
+    by true d = rw (n d)
     by false d = rw d
 
-    one : (n : ℕ) {s r : Bool} → s ≡ false → r ≡ false → cond (eqb n k) s r ≡ false
-    one n e f = rw (e, f) (two (eqb n k))
-      where
-        two : (t : Bool) → cond t false false ≡ false
-        two true = refl
-        two false = refl
+-- a clear break is not last
+pub clear-followed : (x : List ℕ) (b : ℕ) (after : List ℕ) → Clear x b after → isBreak b ≡ true → none after ≡ false
+unfolding fitsIn rows row4
+clear-followed x b after c d = by (none x) (none after) (rw d at (c 4))
+  where
+    by : (p q : Bool) → (p || (q || first isBreak x)) ≡ false → q ≡ false
+    by true q e = absurd (true≢false e)
+    by false true e = absurd (true≢false e)
+    by false false e = refl
+
+-- a byte that is clear in a message is clear in a part, where no break is last
+clear-part : (x t : List ℕ) (b : ℕ) (after after′ : List ℕ) → Opens t → (isBreak b ≡ true → none after′ ≡ false) → Clear (x ++ t) b after → Clear x b after′
+clear-part x t b after after′ o n c k =
+    rows-after k x b after′ after (λ d. n d ∙ sym (clear-followed (x ++ t) b after c d)) ∙ sym (rows-over k x t b after o) ∙ c k
 
 module _ (m : List ℕ) (a e : ℕ) where
   -- a part has its length

@@ -1,0 +1,141 @@
+-- Two messages with a break between them: a pause splits the tape, any break the names, since nothing crosses them; and accepted messages with a break between, short enough, are an accepted one.
+-- Assumes nothing.
+use Prim.Native.Nat.{ℕ, zero, suc, _+_, _-_, _<_, _≤_}
+use mathlib.Core.Path.{_≡_, refl, sym, ap, _∙_}
+use mathlib.Core.Bool.{Bool, true, false, cond, _||_, true≢false}
+use mathlib.Core.List.{List, [], _∷_, _++_, append-assoc}
+use native.Mathlib.Omega.{arith}
+use native.Mathlib.Numerals.{add-one}
+use lib.Dec.{eqb, leb}
+use lib.ListN.{length, getD, drop, length-append, List·getD-append}
+use lib.Seq.{drop-append-le, drop-append-add, drop-length, getD-append-add, getD-at}
+use borrow.Author.Tests.{leb-true, leb-false}
+use Rattle.spec.specs.Alphabet.{pause}
+use Rattle.spec.specs.Letters.{Message, last, more, read, isBreak}
+use Rattle.spec.specs.Tape.{tape, wordNames, namesOf, names}
+use Rattle.spec.specs.Refusals.{letterByte, consonantByte, signByte, vowelByte, first, none, row3, row4, row5, row6, row7, row8, row9, row10, rows, fitsIn, beforeAt, NoneFits}
+use Rattle.spec.proofs.Computed.{everything}
+use Rattle.laws.proofs.Accepted.{Clear, ClearAt, Passes, passes-none, none-accepted, accepted-passes}
+use Rattle.laws.proofs.Stretch.{meet, read-join, segment-join}
+use Rattle.laws.proofs.PartsAccepted.{Opens, NoBreak, no-break, break-mark, break-vowel, break-sign, rows-over, rows-after, clear-followed}
+
+-- A pause splits a tape.
+pub tape-pause : (a b : List ℕ) → tape (a ++ (pause ∷ b)) ≡ tape a ++ (63 ∷ tape b)
+unfolding everything
+tape-pause a b = rw (read-join a b pause refl, segment-join false false (read a) pause (read b))
+
+-- A break of either kind splits the names.
+names-meet : (a : Message) (x : ℕ) (b : Message) → namesOf (meet a x b) ≡ namesOf a ++ namesOf b
+unfolding meet namesOf
+names-meet (last w) x b = refl
+names-meet (more w y r) x b = rw (names-meet r x b) (sym (append-assoc (wordNames w) (namesOf r) (namesOf b)))
+
+pub names-break : (a b : List ℕ) (x : ℕ) → isBreak x ≡ true → names (a ++ (x ∷ b)) ≡ names a ++ names b
+unfolding names
+names-break a b x e = rw (read-join a b x e) (names-meet (read a) x (read b))
+
+-- a break is no consonant
+break-consonant : NoBreak consonantByte
+unfolding everything
+break-consonant = no-break consonantByte refl refl
+
+-- a choice of the same
+cond-same : (t k : Bool) → cond t k k ≡ k
+cond-same true k = refl
+cond-same false k = refl
+
+-- no row fits at a break between two bytes of which neither is a break
+break-clear : (before : List ℕ) (x : ℕ) (after : List ℕ) → isBreak x ≡ true → none before ≡ false → first isBreak before ≡ false → none after ≡ false → Clear before x after
+unfolding fitsIn rows row3 row4 row5 row6 row7 row8 row9 row10 letterByte
+break-clear before x after d n f a k = rw (d, break-mark x d, break-vowel x d, break-sign x d, break-consonant x d, n, f, a) (simp cond-same)
+
+-- before a place within the first of two lists stand its bytes alone
+before-within : (a b : List ℕ) (i : ℕ) → i ≤ length a → beforeAt (a ++ b) i ≡ beforeAt a i
+unfolding beforeAt
+before-within a b zero h = refl
+before-within a b (suc i) h = rw (List·getD-append a b 0 i h, before-within a b i (omega arith))
+
+-- before a place in the second stand its bytes, then those of the first
+before-add : (a b : List ℕ) (j : ℕ) → beforeAt (a ++ b) (length a + j) ≡ beforeAt b j ++ beforeAt a (length a)
+unfolding beforeAt
+before-add a b zero = let z : length a + 0 ≡ length a = omega arith in rw z (before-within a b (length a) (omega arith))
+before-add a b (suc j) = let z : length a + suc j ≡ suc (length a + j) = omega arith in rw (z, getD-append-add a b j 0, before-add a b j)
+
+-- only an empty list has no byte
+none-append : (t s : List ℕ) (x : ℕ) → none (t ++ (x ∷ s)) ≡ false
+unfolding none
+none-append [] s x = refl
+none-append (y ∷ t) s x = refl
+
+none-some : (t : List ℕ) → 0 < length t → none t ≡ false
+unfolding none
+none-some [] h = absurd (omega arith)
+none-some (y ∷ t) h = refl
+
+-- before a place that is not the first a byte stands, and before the end of an accepted message it is no break
+before-some : (m : List ℕ) (n : ℕ) → 0 < n → none (beforeAt m n) ≡ false
+unfolding none beforeAt
+before-some m zero h = absurd (omega arith)
+before-some m (suc j) h = refl
+
+last-firm : (m : List ℕ) (n : ℕ) → Passes m → n ≡ length m → first isBreak (beforeAt m n) ≡ false
+unfolding first none beforeAt
+last-firm m zero p e = refl
+last-firm m (suc j) p e = by (isBreak (getD m j 0)) refl
+  where
+    by : (t : Bool) → isBreak (getD m j 0) ≡ t → t ≡ false
+    by true d = rw (e, drop-length m) at (clear-followed (beforeAt m j) (getD m j 0) (drop (suc j) m) (p .rows j (omega arith)) d)
+    by false d = refl
+
+-- what passes after a break passes behind whatever stands before it
+clear-behind : (a b : List ℕ) → Passes b → Opens (beforeAt a (length a)) → (j : ℕ) → j < length b → ClearAt (a ++ b) (length a + j)
+clear-behind a b q o j h k =
+    let e : suc (length a + j) ≡ length a + suc j = omega arith in
+    rw (before-add a b j, getD-append-add a b j 0, e, drop-append-add a b (suc j)) (rows-over k (beforeAt b j) (beforeAt a (length a)) (getD b j 0) (drop (suc j) b) o ∙ q .rows j h k)
+
+-- Accepted messages with a break between them.
+module _ (a : List ℕ) (x : ℕ) (b : List ℕ) (p : Passes a) (q : Passes b) (d : isBreak x ≡ true) where
+  -- no row fits at a place of the first
+  clear-first : (i : ℕ) → i < length a → ClearAt (a ++ (x ∷ b)) i
+  clear-first i h k =
+      rw (before-within a (x ∷ b) i (omega arith), List·getD-append a (x ∷ b) 0 i h, drop-append-le (suc i) a (x ∷ b) h)
+      (rows-after k (beforeAt a i) (getD a i 0) (drop (suc i) a ++ (x ∷ b)) (drop (suc i) a)
+      (λ e. none-append (drop (suc i) a) b x ∙ sym (clear-followed (beforeAt a i) (getD a i 0) (drop (suc i) a) (p .rows i h) e)) ∙ p .rows i h k)
+
+  -- at the break
+  clear-break : ClearAt (a ++ (x ∷ b)) (length a)
+  clear-break =
+      let e : suc (length a) ≡ length a + 1 = omega arith in
+      rw (before-within a (x ∷ b) (length a) (omega arith), getD-at a x b 0 (length a) refl, e, drop-append-add a (x ∷ b) 1)
+      (break-clear (beforeAt a (length a)) x b d (before-some a (length a) (p .some)) (last-firm a (length a) p refl) (none-some b (q .some)))
+
+  -- at a place of the second
+  clear-second : (j : ℕ) → j < length b → ClearAt (a ++ (x ∷ b)) (length a + suc j)
+  unfolding beforeAt
+  clear-second j h =
+      let f = a ++ (x ∷ []) in
+      let n : length f ≡ suc (length a) = omega (arith, length-append a (x ∷ [])) in
+      let e : length f + j ≡ length a + suc j = omega arith in
+      let o : Opens (beforeAt f (length f)) = rw (n, getD-at a x [] 0 (length a) refl) d in
+      rw (append-assoc a (x ∷ []) b, e) at (clear-behind f b q o j h)
+
+  pub passes-join : length (a ++ (x ∷ b)) ≤ 4096 → Passes (a ++ (x ∷ b))
+  passes-join s = record {
+    some = omega (arith, length-append a (x ∷ b));
+    short = s;
+    rows = λ i h. by i (leb (suc i) (length a)) refl (leb (suc (length a)) i) refl (omega (arith, length-append a (x ∷ b)));
+  }
+    where
+      by : (i : ℕ) (t : Bool) → leb (suc i) (length a) ≡ t → (u : Bool) → leb (suc (length a)) i ≡ u → i < length a + suc (length b) → ClearAt (a ++ (x ∷ b)) i
+      by i true e u f h = clear-first i (leb-true _ _ e)
+      by i false e true f h =
+          let g : length a + suc (i - suc (length a)) ≡ i = omega (arith, leb-true (suc (length a)) i f) in
+          rw g at (clear-second (i - suc (length a)) (omega (arith, leb-true (suc (length a)) i f)))
+      by i false e false f h =
+          let g : i ≡ length a = omega (arith, leb-false (suc i) (length a) e, leb-false (suc (length a)) i f) in
+          rw g clear-break
+
+-- Accepted messages with a break between them, short enough, are an accepted message.
+pub join-accepted : (a : List ℕ) (x : ℕ) (b : List ℕ) → NoneFits a → isBreak x ≡ true → NoneFits b → length (a ++ (x ∷ b)) ≤ 4096 → NoneFits (a ++ (x ∷ b))
+join-accepted a x b f d g s =
+    passes-none (a ++ (x ∷ b)) (passes-join a x b (accepted-passes a _ (none-accepted a f)) (accepted-passes b _ (none-accepted b g)) d s)
