@@ -7,7 +7,9 @@ use mathlib.Core.List.{List, [], _∷_, _++_, map}
 use lib.Dec.{eqb}
 use borrow.Author.Tests.{eqb-true}
 use Rattle.spec.specs.Tables.{among}
-use Rattle.spec.specs.Letters.{plainVowels, softeningVowels, isVowel, isObstruent, isPaired}
+use Rattle.spec.specs.Alphabet.{gap, pause}
+use Rattle.spec.specs.Letters.{isBreak, isMark, plainVowels, softeningVowels, isVowel, isObstruent, isPaired}
+use Rattle.spec.specs.Refusals.{vowelByte, signByte, hardSignByte, consonantByte}
 use Rattle.spec.proofs.Computed.{everything}
 
 -- two functions that agree on a list agree at each of its bytes
@@ -37,3 +39,41 @@ vowel-quiet b h = among-same isObstruent (λ _. false) (plainVowels ++ softening
 pub vowel-single : (b : ℕ) → isVowel b ≡ true → isPaired b ≡ false
 unfolding everything
 vowel-single b h = among-same isPaired (λ _. false) (plainVowels ++ softeningVowels) b refl h
+
+-- no break is of this class
+abbrev pub NoBreak : (ℕ → Bool) → Type 0
+NoBreak class = (d : ℕ) → isBreak d ≡ true → class d ≡ false
+
+-- a class without the gap and the pause
+no-break : (class : ℕ → Bool) → class gap ≡ false → class pause ≡ false → NoBreak class
+unfolding isBreak
+no-break class g p d e = by (eqb d gap) refl e
+  where
+    by : (t : Bool) → eqb d gap ≡ t → (t || eqb d pause) ≡ true → class d ≡ false
+    by true q e = rw (eqb-true d gap q) g
+    by false q e = rw (eqb-true d pause e) p
+
+-- a break is no mark
+pub break-mark : NoBreak isMark
+unfolding everything
+break-mark = no-break isMark refl refl
+
+-- no vowel
+pub break-vowel : NoBreak vowelByte
+unfolding everything
+break-vowel = no-break vowelByte refl refl
+
+-- no sign
+pub break-sign : NoBreak signByte
+unfolding everything
+break-sign = no-break signByte refl refl
+
+-- no ъ
+pub break-hard-sign : NoBreak hardSignByte
+unfolding everything
+break-hard-sign = no-break hardSignByte refl refl
+
+-- and no consonant
+pub break-consonant : NoBreak consonantByte
+unfolding everything
+break-consonant = no-break consonantByte refl refl

@@ -9,14 +9,12 @@ use native.Mathlib.Omega.{arith}
 use lib.Dec.{eqb}
 use lib.ListN.{length, take, drop, getD, length-take, length-drop}
 use lib.Seq.{drop-length, getD-take, getD-drop}
-use borrow.Author.Tests.{eqb-true}
-use Rattle.spec.specs.Alphabet.{gap, pause}
 use Rattle.spec.specs.Letters.{isBreak, isMark}
 use Rattle.spec.specs.Refusals.{vowelByte, signByte, hardSignByte, first, none, adjacent, vowelSign, lettersBefore, row3, row4, row5, row6, row7, row8, row9, row10, rows, fitsIn, beforeAt, checkOf}
 use Rattle.spec.specs.declared.Counts.{Counts}
 use Rattle.spec.specs.declared.Checked.the-variants.{Accepted}
 use Rattle.laws.proofs.Accepted.{countsOf, Clear, Passes, accepted-passes, passes-accepted}
-use Rattle.spec.proofs.Computed.{everything}
+use Rattle.laws.proofs.Classes.{NoBreak, break-mark, break-vowel, break-sign, break-hard-sign}
 use Rattle.laws.proofs.Cuts.{break-within}
 use Rattle.laws.proofs.Parts.{part, Begins}
 
@@ -30,39 +28,6 @@ begins-opens : (m : List ℕ) (a : ℕ) → Begins m a → Opens (beforeAt m a)
 unfolding beforeAt
 begins-opens m zero b = tt
 begins-opens m (suc c) b = b
-
--- no break is of this class
-abbrev pub NoBreak : (ℕ → Bool) → Type 0
-NoBreak class = (d : ℕ) → isBreak d ≡ true → class d ≡ false
-
--- a class without the gap and the pause
-pub no-break : (class : ℕ → Bool) → class gap ≡ false → class pause ≡ false → NoBreak class
-unfolding isBreak
-no-break class g p d e = by (eqb d gap) refl e
-  where
-    by : (t : Bool) → eqb d gap ≡ t → (t || eqb d pause) ≡ true → class d ≡ false
-    by true q e = rw (eqb-true d gap q) g
-    by false q e = rw (eqb-true d pause e) p
-
--- a break is no mark
-pub break-mark : NoBreak isMark
-unfolding everything
-break-mark = no-break isMark refl refl
-
--- no vowel
-pub break-vowel : NoBreak vowelByte
-unfolding everything
-break-vowel = no-break vowelByte refl refl
-
--- no sign
-pub break-sign : NoBreak signByte
-unfolding everything
-break-sign = no-break signByte refl refl
-
--- and no ъ
-break-hard-sign : NoBreak hardSignByte
-unfolding everything
-break-hard-sign = no-break hardSignByte refl refl
 
 -- Each test of the bytes before a byte stops at a break, so it says the same of the part's bytes x alone. First the byte right before.
 first-over : (class : ℕ → Bool) → NoBreak class → (t : List ℕ) → Opens t → (x : List ℕ) → first class (x ++ t) ≡ first class x

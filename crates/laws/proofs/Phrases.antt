@@ -17,7 +17,8 @@ use Rattle.spec.specs.Refusals.{letterByte, consonantByte, signByte, vowelByte,
 use Rattle.spec.proofs.Computed.{everything}
 use Rattle.laws.proofs.Accepted.{Clear, ClearAt, Passes, passes-none, none-accepted, accepted-passes}
 use Rattle.laws.proofs.Stretch.{meet, read-join, segment-join}
-use Rattle.laws.proofs.PartsAccepted.{Opens, NoBreak, no-break, break-mark, break-vowel, break-sign, rows-over, rows-after, clear-followed}
+use Rattle.laws.proofs.Classes.{break-mark, break-vowel, break-sign, break-consonant}
+use Rattle.laws.proofs.PartsAccepted.{Opens, rows-over, rows-after, clear-followed}
 
 -- A pause splits a tape.
 pub tape-pause : (a b : List ℕ) → tape (a ++ (pause ∷ b)) ≡ tape a ++ (63 ∷ tape b)
@@ -33,11 +34,6 @@ names-meet (more w y r) x b = rw (names-meet r x b) (sym (append-assoc (wordName
 pub names-break : (a b : List ℕ) (x : ℕ) → isBreak x ≡ true → names (a ++ (x ∷ b)) ≡ names a ++ names b
 unfolding names
 names-break a b x e = rw (read-join a b x e) (names-meet (read a) x (read b))
-
--- a break is no consonant
-break-consonant : NoBreak consonantByte
-unfolding everything
-break-consonant = no-break consonantByte refl refl
 
 -- a choice of the same
 cond-same : (t k : Bool) → cond t k k ≡ k

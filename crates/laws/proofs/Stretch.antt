@@ -17,6 +17,7 @@ use Rattle.spec.specs.Palatalization.{firstCode}
 use Rattle.spec.specs.Voicing.{voices}
 use Rattle.spec.specs.Tape.{wordTape, segment}
 use Rattle.spec.specs.Joints.{endsInObstruent, beginsWithIOrE}
+use Rattle.laws.proofs.Classes.{break-mark}
 use Rattle.laws.proofs.Word.{lastCodeFrom, lastCode, word-length, word-quiet, word-ends-differ, word-firm, word-starts-differ}
 
 -- the message a, the break x, and the message b, read as one
@@ -36,19 +37,10 @@ unfolding meet lastWord
 last-meet (last w) x b = refl
 last-meet (more w y r) x b = last-meet r x b
 
--- a break is no stress mark
-break-unmarked : (x : ℕ) → isBreak x ≡ true → isMark x ≡ false
-unfolding isBreak isMark
-break-unmarked x e = by (eqb x gap) refl e
-  where
-    by : (t : Bool) → eqb x gap ≡ t → (t || eqb x pause) ≡ true → eqb x mark ≡ false
-    by true g e = rw (eqb-true x gap g)
-    by false g e = rw (eqb-true x pause e)
-
--- so a break after bytes is no mark on their last letter
+-- a break after bytes is no stress mark on their last letter
 mark-before-break : (p s : List ℕ) (x : ℕ) → isBreak x ≡ true → beginsWithMark (p ++ (x ∷ s)) ≡ beginsWithMark p
 unfolding beginsWithMark
-mark-before-break [] s x e = break-unmarked x e
+mark-before-break [] s x e = break-mark x e
 mark-before-break (b ∷ p) s x e = refl
 
 -- a letter put before two messages is put before the first one
