@@ -13,7 +13,7 @@ use Rattle.spec.specs.Tape.{tape, segment}
 use Rattle.spec.specs.Joints.{joined, isLive, liveCount, markIndex, wordBefore, endsInObstruent}
 use Rattle.laws.proofs.Word.{lastCode}
 use Rattle.laws.proofs.Cuts.{Rising, CutOf, cut-break}
-use Rattle.laws.proofs.Parts.{voicedAt, changedBefore, changedAfter, CutAt, part-first, before-mark, after-mark, tape-cut, mark-index, code-after, live-here, onward-first, first-own, joined-length, joined-dead, cut-at}
+use Rattle.laws.proofs.Parts.{voicedAt, changedBefore, changedAfter, CutAt, part-first, before-mark, after-mark, tape-cut, mark-index, mark-there, code-after, live-here, onward-first, first-own, joined-length, joined-dead, cut-at}
 
 -- the code just before or just after the mark at index k differs, at the same index in both tapes
 abbrev pub DiffersAt : List ℕ → List ℕ → ℕ → Type 0
@@ -58,11 +58,7 @@ module _ (m cuts : List ℕ) (rising : Rising m cuts) (c : ℕ) (cut : CutOf c c
   unfolding markIndex
   size = here .size ∙ rw part-first
 
-  -- the mark in the whole tape
-  mark-whole : getD (tape m) (markIndex m c) 0 ≡ markOf (getD m c 0)
-  mark-whole = rw (tape-cut m c break) (getD-at (segment false (voicedAt m c) (read (take c m))) _ _ 0 (markIndex m c) (mark-index m c break))
-
-  -- and in that of the parts
+  -- the mark in the tape of the parts
   mark-parts : getD (joined m cuts) (markIndex m c) 0 ≡ markOf (getD m c 0)
   mark-parts = rw (here .split) (getD-at (here .front) _ _ 0 (markIndex m c) size)
 
@@ -92,6 +88,6 @@ cutting m cuts r = record {
   lengths = joined-length m 0 cuts tt r ∙ ap length (onward-first m);
   dead = λ n. joined-dead m 0 cuts tt r (first-own m) n ∙ onward-first m;
   alive = λ e. none-live m cuts (λ c i l. differ-nowhere (tape m) (joined m cuts) (markIndex m c) e (differs m cuts r c i l));
-  marks = λ c i. (mark-whole m cuts r c i, mark-parts m cuts r c i);
+  marks = λ c i. (mark-there m c (cut-break m c 0 cuts r i), mark-parts m cuts r c i);
   live = differs m cuts r;
 }

@@ -6,5 +6,6 @@ pub mod Stretch
 pub mod Parts
 pub mod Cutting
 pub mod PartsAccepted
+pub mod Marks
 pub mod Sizes
 pub mod Bounds

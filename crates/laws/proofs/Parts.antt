@@ -7,7 +7,7 @@ use mathlib.Core.Logic.{⊎-elim, _≢_}
 use mathlib.Core.List.{List, [], _∷_, _++_, append-assoc}
 use native.Mathlib.Omega.{arith}
 use lib.ListN.{length, take, drop, getD, length-append, take-append-drop}
-use lib.Seq.{drop-cons, drop-drop, take-add}
+use lib.Seq.{drop-cons, drop-drop, take-add, getD-at}
 use Rattle.spec.specs.Letters.{Message, read, firstWord, lastWord, isGap, isBreak}
 use Rattle.spec.specs.Codes.{markOf, isVoicing}
 use Rattle.spec.specs.Vowels.{endsHard}
@@ -171,6 +171,10 @@ module _ (m : List ℕ) where
     pub mark-index : length (segment false (voicedAt m c) (read (take c m))) ≡ markIndex m c
     unfolding markIndex tape
     mark-index = segment-length false false (voicedAt m c) false (read (take c m))
+
+    -- where the break's mark stands
+    pub mark-there : getD (tape m) (markIndex m c) 0 ≡ markOf (getD m c 0)
+    mark-there = rw tape-cut (getD-at (segment false (voicedAt m c) (read (take c m))) _ _ 0 (markIndex m c) mark-index)
 
     -- the first sound after the cut in the whole message's tape
     pub code-after : getD (tape m) (suc (markIndex m c)) 0 ≡ firstCode (onward m (suc c))

@@ -24,6 +24,16 @@ joined m cuts = joinedFrom m 0 cuts
 unfoldable pub markIndex : List ℕ → ℕ → ℕ
 markIndex m c = length (tape (take c m))
 
+-- the marks of gaps and pauses on a tape, in order
+unfoldable pub marksOf : List ℕ → List ℕ
+marksOf [] = []
+marksOf (c ∷ t) = cond (eqb c 0 || eqb c 63) (c ∷ marksOf t) (marksOf t)
+
+-- the marks of a message's breaks, in order
+unfoldable pub breakMarks : List ℕ → List ℕ
+breakMarks [] = []
+breakMarks (b ∷ m) = cond (isBreak b) (markOf b ∷ breakMarks m) (breakMarks m)
+
 -- the words on both sides of a cut at place c
 unfoldable pub wordBefore : List ℕ → ℕ → List Letter
 wordBefore m c = lastWord (read (take c m))
