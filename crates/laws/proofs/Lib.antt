@@ -1,6 +1,7 @@
 pub mod Accepted
 pub mod Classes
 pub mod Word
+pub mod Codes
 pub mod Cuts
 pub mod Stretch
 pub mod Parts
@@ -9,3 +10,5 @@ pub mod PartsAccepted
 pub mod Marks
 pub mod Sizes
 pub mod Bounds
+pub mod Promises
+pub mod Demands

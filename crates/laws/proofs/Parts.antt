@@ -13,9 +13,10 @@ use Rattle.spec.specs.Codes.{markOf, isVoicing}
 use Rattle.spec.specs.Vowels.{endsHard}
 use Rattle.spec.specs.Palatalization.{firstCode}
 use Rattle.spec.specs.Tape.{segment, tape}
-use Rattle.spec.specs.Joints.{joinedFrom, markIndex, wordBefore, wordAfter, endsInObstruent, beginsWithIOrE, liveByVoice, liveByHardness, isLive, liveCount}
+use Rattle.spec.specs.Joints.{RisingFrom, CutOf, joinedFrom, markIndex, marksOf, breakMarks, wordBefore, wordAfter, endsInObstruent, beginsWithIOrE, liveByVoice, liveByHardness, isLive, liveCount}
 use Rattle.laws.proofs.Word.{lastCodeFrom, lastCode}
-use Rattle.laws.proofs.Cuts.{RisingFrom, CutOf, break-within, cut-above}
+use Rattle.laws.proofs.Codes.{Spells, marks-mark, bytes-marks, marks-append, breaks-append}
+use Rattle.laws.proofs.Cuts.{break-within, cut-above}
 use Rattle.laws.proofs.Stretch.{first-meet, last-meet, read-join, segment-join, segment-length, segment-quiet, segment-ends-differ, segment-firm, first-differ, segment-starts-differ, last-append}
 
 -- the bytes from place a up to place c
@@ -254,6 +255,7 @@ pub record CutAt (m : List ℕ) (a c : ℕ) (t : List ℕ) : Type 0 where
   pub back : List ℕ
   pub split : t ≡ front ++ (markOf (getD m c 0) ∷ back)
   pub size : length front ≡ length (tape (part m a c))
+  pub own : ((p n : ℕ) → Spells (read (take n (drop p m)))) → marksOf front ≡ breakMarks (part m a c)
   pub ends : (h : Bool) (x y : ℕ) → endsInObstruent (wordBefore m c) ≡ true
       → lastCodeFrom x (segment h true (read (part m a c))) ≡ lastCodeFrom y front → ⊥
   pub starts : changedAfter m (suc c) ≡ true → firstCode (onward m (suc c)) ≡ firstCode back → ⊥
@@ -267,6 +269,7 @@ module _ (m : List ℕ) where
     back = joinedFrom m (suc c) cuts;
     split = refl;
     size = refl;
+    own = λ s. bytes-marks false false (part m a c) (s a (c - a));
     ends = λ h x y q. segment-ends-differ h false x y (read (part m a c)) (rw (word-before m a c b (r .0) (break-within m c (r .1))) q);
     starts = joined-starts m (suc c) cuts (r .1) (r .2);
   }
@@ -274,7 +277,7 @@ module _ (m : List ℕ) where
   -- at a later one
   cut-later : (a c d : ℕ) (cuts : List ℕ) → RisingFrom m a (d ∷ cuts) → suc d ≤ c → CutAt m (suc d) c (joinedFrom m (suc d) cuts)
       → CutAt m a c (joinedFrom m a (d ∷ cuts))
-  unfolding joinedFrom tape
+  unfolding joinedFrom tape breakMarks
   cut-later a c d cuts r lt k = record {
     front = tape (part m a d) ++ (markOf (getD m d 0) ∷ k .front);
     back = k .back;
@@ -287,6 +290,8 @@ module _ (m : List ℕ) where
         rw (part-cut m false false a d c (r .0) lt (r .1))
         (simp length-append
         (omega (arith, k .size, segment-length false false false (isGap g && isVoicing (firstCode (segment hard false s))) p, segment-length hard false false false s)));
+    own = λ s.
+        rw (part-split m a d c (r .0) lt (break-within m d (r .1)), marks-append, marks-mark, bytes-marks false false (part m a d) (s a (d - a)), k .own s, breaks-append, r .1);
     ends = λ h x y q e. k .ends _ _ _ q (simp last-append at (rw (part-cut m h true a d c (r .0) lt (r .1)) at e));
     starts = k .starts;
   }
