@@ -17,7 +17,7 @@ use Rattle.spec.specs.Palatalization.{firstCode}
 use Rattle.spec.specs.Tape.{tape, segment}
 use Rattle.message.specs.Places.{Steady, tapeAt, wordAt}
 use Rattle.spec.specs.Refusals.{checkOf}
-use Rattle.spec.specs.Joints.{joinedFrom, joined, liveCount}
+use Rattle.spec.specs.Joints.{RisingFrom, Rising, joinedFrom, joined, liveCount}
 use Rattle.spec.specs.declared.Counts.{Counts}
 use Rattle.spec.specs.declared.Checked.the-variants.{Accepted}
 use Rattle.laws.proofs.Accepted.{countsOf}
@@ -27,7 +27,7 @@ use Rattle.message.proofs.Tail.{start-tape, marked-after, tape-start, tape-end,
 use Rattle.transcriber.specs.Walk.{Stands, Put, MayWalk, Walked}
 use Rattle.transcriber.specs.declared.Right.{Right}
 use Rattle.transcriber.proofs.Putting.{put-length, put-rest}
-use Rattle.laws.proofs.Cuts.{RisingFrom, Rising, break-within}
+use Rattle.laws.proofs.Cuts.{break-within}
 use Rattle.laws.proofs.Parts.{part, Begins, hardAt, onward, voicedAt, changedAfter, changedBefore, onward-cut, part-first, part-own, before-here, onward-first, onward-alone, joined-length}
 use Rattle.laws.proofs.PartsAccepted.{part-accepted}
 use Rattle.laws.proofs.Bounds.{live-bound}

@@ -2,6 +2,5 @@ pub mod Answering
 pub mod Arms
 pub mod BadCuts
 pub mod Counting
-pub mod Demand3
 pub mod Laying
 pub mod Sides

@@ -5,7 +5,7 @@ ghost use lib.ListN.{length, getD};
 ghost use Rattle.message.specs.Scan.{classes};
 ghost use Rattle.spec.specs.Tape.{tape};
 ghost use Rattle.spec.specs.Joints.{badCut, row12, joined, liveCount};
-ghost use Rattle.spec.specs.Answers.{Answered, joinAnswer};
+ghost use Rattle.spec.specs.Answers.{JoinPromise};
 ghost use Rattle.transcriber.specs.Sounds.{soundTable};
 ghost use Rattle.transcriber.specs.Walk.{Put};
 ghost use Rattle.joiner.specs.Writing.{TapeDue, PartDue};
@@ -104,7 +104,7 @@ fn write_joined(m: &[u8], cuts: &[usize], out: &mut [u8], t: &[u8; 256], s: &[u8
 
 // The joiner (paper 01, 'Joints'): writes the tape of the message's parts at the start of the lent output, or refuses and leaves every byte.
 pub fn join(m: &[u8], cuts: &[usize], out: &mut [u8]) -> Answer
-    ensures { λ r. ⌜ Answered (joinAnswer (now (m .entry)) (now (cuts .entry)) (length (now (out .entry)))) (joined (now (m .entry)) (now (cuts .entry))) (now (out .entry)) (now (out .exit)) r ⌝ }
+    ensures { λ r. ⌜ JoinPromise (now (m .entry)) (now (cuts .entry)) (now (out .entry)) (now (out .exit)) r ⌝ }
 {
     let checked = check(m);
     let Checked::Accepted(counts) = checked else {

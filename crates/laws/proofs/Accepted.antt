@@ -8,7 +8,7 @@ use mathlib.Core.List.{List, [], _∷_}
 use native.Mathlib.Omega.{arith}
 use lib.Dec.{eqb, leb}
 use lib.ListN.{length, getD, drop, length-drop}
-use lib.Seq.{drop-cons, drop-length}
+use lib.Seq.{drop-cons}
 use borrow.Author.Tests.{eqb-true, eqb-false, eq-eqb, ne-eqb, leb-true, leb-false, le-leb, lt-leb}
 use Rattle.spec.specs.Tape.{tape, names}
 use Rattle.spec.specs.Refusals.{Row, _when_, rows, firstFit, faultAt, refusal, scan, checkOf, fitsIn, beforeAt, fits, indexIn, rank, NoneFits, Earlier, Given}
@@ -355,6 +355,9 @@ none-accepted m f = by (checkOf m) (check-finds m)
     by : (d : Checked) → Finds m d → d ≡ Accepted (countsOf m)
     by d (nothing p) = refl
     by d (fault n p g) = absurd (none-given m n p f g)
+
+pub none-passes : (m : List ℕ) → NoneFits m → Passes m
+none-passes m f = accepted-passes m (countsOf m) (none-accepted m f)
 
 -- Given: refused so.
 pub given-refused : (m : List ℕ) (n p : ℕ) → Given m n p → checkOf m ≡ Refused (refusal n p)

@@ -1,11 +1,15 @@
 pub mod Accepted
 pub mod Classes
 pub mod Word
+pub mod Codes
 pub mod Cuts
 pub mod Stretch
 pub mod Parts
 pub mod Cutting
 pub mod PartsAccepted
+pub mod Marks
 pub mod Sizes
 pub mod Phrases
 pub mod Bounds
+pub mod Promises
+pub mod Demands

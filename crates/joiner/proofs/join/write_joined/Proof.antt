@@ -13,7 +13,8 @@ use borrow.Author.Needs.{needs}
 use Rattle.spec.specs.Codes.{markOf}
 use Rattle.message.specs.Places.{Steady}
 use Rattle.message.proofs.Steadiness.{accepted-steady}
-use Rattle.laws.proofs.Cuts.{Rising, rising-of}
+use Rattle.spec.specs.Joints.{Rising}
+use Rattle.laws.proofs.Cuts.{rising-of}
 use Rattle.laws.proofs.Parts.{changedAfter, or-false, part-first, after-here, code-after, first-own}
 use Rattle.joiner.proofs.Laying.{Laid, Next, laid-none, next-cut, next-first, part-within, part-may, walk-place, part-code, part-due, laid-more, laid-few, laid-all}
 use Rattle.joiner.proofs.join.write_joined.Statement.{statement}
