@@ -8,20 +8,21 @@ use mathlib.Core.List.{List, [], _∷_, _++_, append-nil}
 use native.Mathlib.Omega.{arith}
 use lib.Dec.{eqb}
 use lib.ListN.{length, take, drop, getD, length-take, length-drop}
-use lib.Seq.{getD-take, getD-drop}
+use lib.Seq.{take-length, getD-take, getD-drop}
 use borrow.Author.Tests.{eqb-true}
 use Rattle.spec.specs.Alphabet.{pause}
 use Rattle.spec.specs.Letters.{Letter, Message, last, more, read, putLetter, beginsWithMark, small, hardOnly, paired, softOnly, plainVowels, softeningVowels, obstruents, isGap, isBreak, isMark, isPaired, isConsonant, isSign, isVowel, isObstruent}
-use Rattle.spec.specs.Codes.{J, markOf, isSound}
+use Rattle.spec.specs.Codes.{J, markOf, isMarkCode, isSound, isCode}
 use Rattle.spec.specs.Elision.{elides, elideFrom, elide}
-use Rattle.spec.specs.Syllables.{Facts, factsOf, syllableOf}
+use Rattle.spec.specs.Syllables.{Facts, factsOf, syllableOf, nameIn, nameOf, isName, incomplete, namesFrom}
 use Rattle.spec.specs.Vowels.{Phone, vowelSound, glides, writtenCode, vowelPhones, phonesOf, phonesFrom, endsHard}
 use Rattle.spec.specs.Voicing.{Tone, voiced, voiceless, asWritten, voicedCode, voicelessCode, voices, toneOf, toned, codesOf, voiceOne, voice}
 use Rattle.spec.specs.Palatalization.{isSoft, palatalize, firstCode}
-use Rattle.spec.specs.Tape.{wordTape, segment}
+use Rattle.spec.specs.Tape.{wordTape, segment, tape, wordNames, namesOf, names}
 use Rattle.spec.specs.Refusals.{consonantByte, signByte, vowelByte, letterByte, row3, rows, fitsIn}
-use Rattle.spec.specs.Joints.{marksOf, breakMarks}
-use Rattle.spec.specs.declared.Cover.the-variants.{Bare}
+use Rattle.spec.specs.Joints.{joinedFrom, joined, marksOf, breakMarks}
+use Rattle.spec.specs.declared.Cover.{Cover}
+use Rattle.spec.specs.declared.Cover.the-variants.{Bare, Covered}
 use Rattle.spec.specs.declared.Syllable.{Syllable}
 use Rattle.spec.specs.declared.Level.{Level}
 use Rattle.spec.specs.declared.Level.the-variants.{Stressed, First, Second}
@@ -30,10 +31,23 @@ use Rattle.laws.proofs.Classes.{among-same, vowel-single}
 use Rattle.laws.proofs.Word.{shape}
 use Rattle.laws.proofs.Accepted.{Passes}
 
--- every code of a tape is a sound
-abbrev pub Sounds : List ℕ → Type 0
-Sounds [] = Unit {0}
-Sounds (c ∷ t) = (isSound c ≡ true) × Sounds t
+-- a claim on each code of a tape, or on each name
+abbrev pub Each : (ℕ → Bool) → List ℕ → Type 0
+Each f [] = Unit {0}
+Each f (c ∷ t) = (f c ≡ true) × Each f t
+
+pub each-at : (f : ℕ → Bool) (t : List ℕ) (j : ℕ) → Each f t → j < length t → f (getD t j 0) ≡ true
+each-at f [] j s h = absurd (omega arith)
+each-at f (c ∷ t) zero s h = s .0
+each-at f (c ∷ t) (suc j) s h = each-at f t j (s .1) (omega arith)
+
+each-append : (f : ℕ → Bool) (s t : List ℕ) → Each f s → Each f t → Each f (s ++ t)
+each-append f [] t a b = b
+each-append f (c ∷ s) t a b = (a .0, each-append f s t (a .1) b)
+
+each-more : (f g : ℕ → Bool) → ((c : ℕ) → f c ≡ true → g c ≡ true) → (t : List ℕ) → Each f t → Each g t
+each-more f g h [] s = tt
+each-more f g h (c ∷ t) s = (h c (s .0), each-more f g h t (s .1))
 
 -- a letter of the alphabet
 unfoldable pub spells : ℕ → Bool
@@ -147,13 +161,13 @@ soft-sound x c f = by (isPaired (x .letter)) _ (and-eq-true-iff (isSound (x .cod
     by true false e = e .0
     by false t e = e .0
 
-palatalize-sounds : (xs : List Phone) → Fine xs → Sounds (palatalize xs)
+palatalize-sounds : (xs : List Phone) → Fine xs → Each isSound (palatalize xs)
 unfolding palatalize
 palatalize-sounds [] f = tt
 palatalize-sounds (x ∷ xs) f = (soft-sound x (firstCode (palatalize xs)) (f .0), palatalize-sounds xs (f .1))
 
 -- Every code of a word of the alphabet's letters is a sound.
-pub word-sounds : (hard next : Bool) (w : List Letter) → Spelled w → Sounds (wordTape hard next w)
+pub word-sounds : (hard next : Bool) (w : List Letter) → Spelled w → Each isSound (wordTape hard next w)
 unfolding wordTape elide
 word-sounds hard next w s = palatalize-sounds _ (voice-fine next _ (phones-fine hard (factsOf w) 0 (elideFrom 0 w) (elide-spelled 0 w s)))
 
@@ -192,8 +206,8 @@ part-spells m p a n =
     rw (getD-take n (drop a m) i 0 (omega arith), getD-drop) (p .rows (a + i) (omega arith) 3))
 
 -- a sound is no mark of a break
-sound-unmarked : (c : ℕ) → isSound c ≡ true → (eqb c 0 || eqb c 63) ≡ false
-unfolding isSound
+sound-unmarked : (c : ℕ) → isSound c ≡ true → isMarkCode c ≡ false
+unfolding isSound isMarkCode
 sound-unmarked c s = by (eqb c 0) refl (eqb c 63) refl
   where
     by : (t : Bool) → eqb c 0 ≡ t → (u : Bool) → eqb c 63 ≡ u → (t || u) ≡ false
@@ -202,14 +216,14 @@ sound-unmarked c s = by (eqb c 0) refl (eqb c 63) refl
     by false q false r = refl
 
 -- so sounds add no mark
-marks-sounds : (s t : List ℕ) → Sounds s → marksOf (s ++ t) ≡ marksOf t
+marks-sounds : (s t : List ℕ) → Each isSound s → marksOf (s ++ t) ≡ marksOf t
 unfolding marksOf
 marks-sounds [] t h = refl
 marks-sounds (c ∷ s) t h = rw (sound-unmarked c (h .0)) (marks-sounds s t (h .1))
 
 -- and a break's mark is one
 pub marks-mark : (x : ℕ) (t : List ℕ) → marksOf (markOf x ∷ t) ≡ markOf x ∷ marksOf t
-unfolding marksOf markOf
+unfolding marksOf markOf isMarkCode
 marks-mark x t = by (eqb x pause)
   where
     by : (b : Bool) → marksOf (cond b 63 0 ∷ t) ≡ cond b 63 0 ∷ marksOf t
@@ -254,7 +268,7 @@ bytes-marks h n p s = segment-marks h n (read p) s ∙ read-marks p
 pub marks-append : (s t : List ℕ) → marksOf (s ++ t) ≡ marksOf s ++ marksOf t
 unfolding marksOf
 marks-append [] t = refl
-marks-append (c ∷ s) t = by (eqb c 0 || eqb c 63) (marks-append s t)
+marks-append (c ∷ s) t = by (isMarkCode c) (marks-append s t)
   where
     by : (b : Bool) → marksOf (s ++ t) ≡ marksOf s ++ marksOf t
         → cond b (c ∷ marksOf (s ++ t)) (marksOf (s ++ t)) ≡ cond b (c ∷ marksOf s) (marksOf s) ++ marksOf t
@@ -273,7 +287,7 @@ breaks-append (b ∷ p) q = by (isBreak b) (breaks-append p q)
     by false e = e
 
 -- a stretch without a break is one word, so its codes are sounds
-pub segment-sounds : (h n : Bool) (r : Message) → Spells r → marksIn r ≡ [] → Sounds (segment h n r)
+pub segment-sounds : (h n : Bool) (r : Message) → Spells r → marksIn r ≡ [] → Each isSound (segment h n r)
 unfolding segment marksIn
 segment-sounds h n (last w) s e = word-sounds h n w s
 segment-sounds h n (more w x r) s e = absurd (omega (arith, ap length e))
@@ -284,8 +298,67 @@ unfolding breakMarks
 unbroken [] n = refl
 unbroken (b ∷ p) n = rw (n 0 (omega arith)) (unbroken p (λ i l. n (suc i) (omega arith)))
 
--- the codes of a tape of sounds
-pub sounds-at : (t : List ℕ) (j : ℕ) → Sounds t → j < length t → isSound (getD t j 0) ≡ true
-sounds-at [] j s h = absurd (omega arith)
-sounds-at (c ∷ t) zero s h = s .0
-sounds-at (c ∷ t) (suc j) s h = sounds-at t j (s .1) (omega arith)
+-- a break's mark is one
+mark-code : (x : ℕ) → isCode (markOf x) ≡ true
+unfolding isCode isSound isMarkCode markOf
+mark-code x = by (eqb x pause)
+  where
+    by : (t : Bool) → isCode (cond t 63 0) ≡ true
+    by true = refl
+    by false = refl
+
+segment-codes : (h n : Bool) (r : Message) → Spells r → Each isCode (segment h n r)
+unfolding segment isCode
+segment-codes h n (last w) s = each-more isSound isCode (λ c e. rw e) (wordTape h n w) (word-sounds h n w s)
+segment-codes h n (more w x r) s =
+    let v = isGap x && voices (segment (isGap x && endsHard w) n r) in
+    each-append isCode (wordTape h v w) _ (each-more isSound isCode (λ c e. rw e) (wordTape h v w) (word-sounds h v w (s .0))) (mark-code x, segment-codes _ n r (s .1))
+
+-- the codes of each tape of an accepted message, whole or in parts
+module _ (m : List ℕ) (p : Passes m) where
+  stretch-codes : (a n : ℕ) → Each isCode (tape (take n (drop a m)))
+  unfolding tape
+  stretch-codes a n = segment-codes false false (read (take n (drop a m))) (part-spells m p a n)
+
+  joined-codes : (a : ℕ) (cuts : List ℕ) → Each isCode (joinedFrom m a cuts)
+  unfolding joinedFrom
+  joined-codes a [] = rw (take-length (drop a m)) at (stretch-codes a (length (drop a m)))
+  joined-codes a (c ∷ cuts) = each-append isCode (tape (take (c - a) (drop a m))) _ (stretch-codes a (c - a)) (mark-code (getD m c 0), joined-codes (suc c) cuts)
+
+  -- Every code that the joiner writes, and so the transcriber, is a sound or a mark.
+  pub codes-written : (cuts : List ℕ) (i : ℕ) → i < length (joined m cuts) → isCode (getD (joined m cuts) i 0) ≡ true
+  unfolding joined
+  codes-written cuts i h = each-at isCode (joined m cuts) i (joined-codes 0 cuts) h
+
+-- each name of a syllable
+name-in : (cover : Cover) (level : Level) → isName (nameIn cover level) ≡ true
+unfolding isName nameIn
+name-in Covered Stressed = refl
+name-in Bare Stressed = refl
+name-in Covered First = refl
+name-in Bare First = refl
+name-in Covered Second = refl
+name-in Bare Second = refl
+
+names-each : (facts : Facts) (p : ℕ) (w : List Letter) → Each isName (namesFrom facts p w)
+unfolding namesFrom incomplete nameOf isName
+names-each facts p [] = by (isConsonant p || isSign p)
+  where
+    by : (t : Bool) → Each isName (cond t (7 ∷ []) [])
+    by true = (refl, tt)
+    by false = tt
+names-each facts p (l ∷ w) = by (isVowel (l .byte)) (names-each facts (l .byte) w)
+  where
+    by : (t : Bool) → Each isName (namesFrom facts (l .byte) w) → Each isName (cond t (nameOf (syllableOf facts p l w) ∷ namesFrom facts (l .byte) w) (namesFrom facts (l .byte) w))
+    by true r = (name-in _ _, r)
+    by false r = r
+
+names-of-each : (r : Message) → Each isName (namesOf r)
+unfolding namesOf wordNames
+names-of-each (last w) = names-each (factsOf w) 0 (elide w)
+names-of-each (more w x r) = each-append isName (namesFrom (factsOf w) 0 (elide w)) _ (names-each (factsOf w) 0 (elide w)) (names-of-each r)
+
+-- Every name is 1 to 7.
+pub names-written : (m : List ℕ) (i : ℕ) → i < length (names m) → isName (getD (names m) i 0) ≡ true
+unfolding names
+names-written m i h = each-at isName (names m) i (names-of-each (read m)) h

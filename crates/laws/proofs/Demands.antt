@@ -13,7 +13,7 @@ use Rattle.spec.specs.Tape.{tape, names}
 use Rattle.spec.specs.Refusals.{refusal, rows, fitsIn, fits, checkOf, NoneFits, Given}
 use Rattle.spec.specs.Joints.{Rising, joined, liveCount, badCutFrom, badCut}
 use Rattle.spec.specs.Answers.{numberOf, placeOf, lengthOf, liveOf, checkedNumber, checkedPlace, checkedCodes, checkedNames, within, afterCheck, outputAfter, nameAnswer, tapeAnswer, joinAnswer, Promise, CheckPromise}
-use Rattle.spec.specs.Demands.{Due, turnedAway, wrongCut, tooShort, CarriedOut, Settled, Exactly, Demand1, Demand2, Demand3}
+use Rattle.spec.specs.Demands.{Due, turnedAway, wrongCut, tooShort, CarriedOut, Settled, CheckTurnedAway, Exactly, Demand1, Demand2, Demand3}
 use Rattle.spec.specs.declared.Checked.{Checked}
 use Rattle.spec.specs.declared.Answer.{Answer}
 use Rattle.spec.specs.declared.Answer.the-variants.{Written, Refused}
@@ -129,14 +129,13 @@ module _ (m cuts text : List ℕ) (count : ℕ) (out out′ : List ℕ) (r : Ans
 -- The check.
 module _ (m : List ℕ) (r : Checked) (kept : CheckPromise m r) where
   -- it accepts, or gives a number and a place
-  check-settled : (checkedNumber r ≡ 0) ⊎ ((1 ≤ checkedNumber r) × (checkedNumber r ≤ 10) × Given m (checkedNumber r) (checkedPlace r))
-  unfolding checkedNumber checkedPlace
-  check-settled = by (checkOf m) (check-finds m) (kept .number) (kept .place)
+  check-settled : (checkedNumber r ≡ 0) ⊎ CheckTurnedAway m r
+  unfolding checkedNumber checkedPlace checkedCodes checkedNames
+  check-settled = by (checkOf m) (check-finds m) (kept .answer)
     where
-      by : (d : Checked) → Finds m d → checkedNumber r ≡ checkedNumber d → checkedPlace r ≡ checkedPlace d
-          → (checkedNumber r ≡ 0) ⊎ ((1 ≤ checkedNumber r) × (checkedNumber r ≤ 10) × Given m (checkedNumber r) (checkedPlace r))
-      by d (nothing p) e f = inl e
-      by d (fault n p g) e f = inr (rw (e, f) (given-some m n p g, given-small m n p g, g))
+      by : (d : Checked) → Finds m d → r ≡ d → (checkedNumber r ≡ 0) ⊎ CheckTurnedAway m r
+      by d (nothing p) e = inl (rw e)
+      by d (fault n p g) e = inr (rw e (record { number = (given-some m n p g, given-small m n p g); place = g; codes = refl; names = refl }))
 
   -- accepted: nothing fits; and the other way round
   check-accepts : (checkedNumber r ≡ 0) ↔ NoneFits m

@@ -13,7 +13,6 @@ use borrow.Author.Tests.{leb-true}
 use Rattle.spec.specs.Letters.{read, isGap, isBreak}
 use Rattle.spec.specs.Codes.{markOf, isSound}
 use Rattle.spec.specs.Voicing.{voices}
-use Rattle.spec.specs.Palatalization.{firstCode}
 use Rattle.spec.specs.Tape.{segment, tape}
 use Rattle.spec.specs.Refusals.{checkOf}
 use Rattle.spec.specs.Joints.{markIndex}
@@ -25,14 +24,14 @@ use Rattle.laws.proofs.Stretch.{read-join, segment-join, segment-length
 use Rattle.laws.proofs.Parts.{part, Begins, hardAt, onward, voicedAt, onward-cut, onward-first, tape-cut, mark-index}
 use Rattle.laws.proofs.PartsAccepted.{part-length, part-at}
 use Rattle.laws.proofs.Accepted.{accepted-passes}
-use Rattle.laws.proofs.Codes.{Sounds, part-spells, read-marks, segment-sounds, unbroken, sounds-at}
+use Rattle.laws.proofs.Codes.{Each, part-spells, read-marks, segment-sounds, unbroken, each-at}
 
 -- a code within sounds that stand on a tape
-inside : (front s rest : List ℕ) (j : ℕ) → Sounds s → length front ≤ j → j < length front + length s → isSound (getD (front ++ (s ++ rest)) j 0) ≡ true
+inside : (front s rest : List ℕ) (j : ℕ) → Each isSound s → length front ≤ j → j < length front + length s → isSound (getD (front ++ (s ++ rest)) j 0) ≡ true
 inside front s rest j h lo hi =
     let k = j - length front in
     let e : j ≡ length front + k = omega arith in
-    rw (e, getD-append-add front (s ++ rest) k 0, List·getD-append s rest 0 k (omega arith)) (sounds-at s k h (omega arith))
+    rw (e, getD-append-add front (s ++ rest) k 0, List·getD-append s rest 0 k (omega arith)) (each-at isSound s k h (omega arith))
 
 -- no bytes have no codes
 segment-none : (h n : Bool) → segment h n (read []) ≡ []
@@ -76,7 +75,7 @@ module _ (m : List ℕ) where
 module _ (m : List ℕ) (counts : Counts) (accepted : checkOf m ≡ Accepted counts) (a e : ℕ) (begins : Begins m a) (le : a ≤ e)
     (within : e ≤ length m) (ends : (isBreak (getD m e 0) ≡ true) ⊎ (e ≡ length m)) (unbroken-here : (i : ℕ) → a ≤ i → i < e → isBreak (getD m i 0) ≡ false) where
   -- the word from a up to e has sounds only, whatever stands around it
-  word-here : (h n : Bool) → Sounds (segment h n (read (part m a e)))
+  word-here : (h n : Bool) → Each isSound (segment h n (read (part m a e)))
   word-here h n =
       segment-sounds h n (read (part m a e)) (part-spells m (accepted-passes m counts accepted) a (e - a))
       (read-marks (part m a e) ∙ unbroken (part m a e) (λ i l.

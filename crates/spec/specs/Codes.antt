@@ -182,9 +182,16 @@ abbrev pub Щ : ℕ
 unfoldable pub markOf : ℕ → ℕ
 markOf b = cond (eqb b pause) 63 0
 
+unfoldable pub isMarkCode : ℕ → Bool
+isMarkCode c = eqb c 0 || eqb c 63
+
 -- the sounds that arise: О and Е, 14 and 15, never do yet
 unfoldable pub isSound : ℕ → Bool
 isSound c = between А* Э2 c || between Б Щ c
+
+-- what can stand on a tape
+unfoldable pub isCode : ℕ → Bool
+isCode c = isSound c || isMarkCode c
 
 -- in the code list a palatalized sound stands right after its hard one
 abbrev pub palatalized : ℕ → ℕ

@@ -43,10 +43,16 @@ pub record Settled (Number : ℕ → ℕ → Type 0) (text : List ℕ) (count : 
   pub ended : CarriedOut text count out out′ r ⊎ TurnedAway Number out out′ r
   pub size : length out′ ≡ length out
 
+-- The check's refusal holds no counts, and it is lent nothing.
+pub record CheckTurnedAway (m : List ℕ) (r : Checked) : Type 0 where
+  pub number : (1 ≤ checkedNumber r) × (checkedNumber r ≤ 10)
+  pub place : Given m (checkedNumber r) (checkedPlace r)
+  pub codes : checkedCodes r ≡ 0
+  pub names : checkedNames r ≡ 0
+
 -- Demand 1, for any bytes m: whatever is lent, every operation is carried out, or refused with a number and a place.
 pub record Demand1 (m : List ℕ) : Type 0 where
-  pub check : (r : Checked) → CheckPromise m r
-      → (checkedNumber r ≡ 0) ⊎ ((1 ≤ checkedNumber r) × (checkedNumber r ≤ 10) × Given m (checkedNumber r) (checkedPlace r))
+  pub check : (r : Checked) → CheckPromise m r → (checkedNumber r ≡ 0) ⊎ CheckTurnedAway m r
   pub naming : (out out′ : List ℕ) (r : Answer) → NamePromise m out out′ r
       → Settled (Due m [] (length (names m)) (length out)) (names m) 0 out out′ r
   pub transcriber : (out out′ : List ℕ) (r : Answer) → TranscribePromise m out out′ r

@@ -9,7 +9,7 @@ use lib.Dec.{eqb, leb}
 use lib.ListN.{length, take, drop, getD}
 use Rattle.spec.specs.Alphabet.{«и», «э»}
 use Rattle.spec.specs.Letters.{Letter, read, firstWord, lastWord, isGap, isBreak, isSign, isObstruent}
-use Rattle.spec.specs.Codes.{markOf}
+use Rattle.spec.specs.Codes.{markOf, isMarkCode}
 use Rattle.spec.specs.Voicing.{voices}
 use Rattle.spec.specs.Vowels.{endsHard}
 use Rattle.spec.specs.Tape.{tape}
@@ -60,7 +60,7 @@ markIndex m c = length (tape (take c m))
 -- the marks of gaps and pauses on a tape, in order
 unfoldable pub marksOf : List ℕ → List ℕ
 marksOf [] = []
-marksOf (c ∷ t) = cond (eqb c 0 || eqb c 63) (c ∷ marksOf t) (marksOf t)
+marksOf (c ∷ t) = cond (isMarkCode c) (c ∷ marksOf t) (marksOf t)
 
 -- the marks of a message's breaks, in order
 unfoldable pub breakMarks : List ℕ → List ℕ

@@ -3,7 +3,7 @@
 use Prim.Native.Nat.{ℕ}
 use mathlib.Core.Bool.{Bool, false, cond, _||_, not}
 use mathlib.Core.List.{List, [], _∷_}
-use Rattle.spec.specs.Letters.{Letter, isVowel, isConsonant, isSign}
+use Rattle.spec.specs.Letters.{between, Letter, isVowel, isConsonant, isSign}
 use Rattle.spec.specs.declared.Cover.{Cover}
 use Rattle.spec.specs.declared.Cover.the-variants.{Bare, Covered}
 use Rattle.spec.specs.declared.Level.{Level}
@@ -54,6 +54,10 @@ nameOf s = nameIn (s .cover) (s .level)
 -- name 7: letters are left after the last vowel, so the last letter, p, is a consonant or a sign
 unfoldable pub incomplete : ℕ → List ℕ
 incomplete p = cond (isConsonant p || isSign p) (7 ∷ []) []
+
+-- what can stand among the names
+unfoldable pub isName : ℕ → Bool
+isName n = between 1 7 n
 
 -- the names of w, the rest of a word whose letter before is p
 unfoldable pub namesFrom : Facts → ℕ → List Letter → List ℕ
