@@ -195,6 +195,13 @@ long-given m h = record { holds = rw (lt-leb (length m) 4096 h); first = λ k q.
         last true l = omega arith
         last false l = omega arith
 
+-- the bytes from a place on begin with the byte that stands there
+pub rest-first : (m : List ℕ) (i b : ℕ) (r : List ℕ) → drop i m ≡ b ∷ r → (i < length m) × (getD m i 0 ≡ b) × (drop (suc i) m ≡ r)
+rest-first m i b r e =
+    let h : i < length m = omega (arith, length-drop i m, ap length e) in
+    let s = sym (drop-cons m i 0 h) ∙ e in
+    (h, cc s, cc s)
+
 -- In a message of 1 to 4,096 bytes only rows can fit.
 module _ (m : List ℕ) (z : 0 < length m) (s : length m ≤ 4096) where
   -- a row that fits at a place or not
@@ -246,16 +253,13 @@ module _ (m : List ℕ) (z : 0 < length m) (s : length m ≤ 4096) where
   scan-finds (b ∷ r) i e h c = by (eqb (faultAt (beforeAt m i) b r) 0) refl (scan-finds r (suc i) tail within)
     where
       within : i < length m
-      within = omega (arith, length-drop i m, ap length e)
-
-      split : getD m i 0 ∷ drop (suc i) m ≡ b ∷ r
-      split = sym (drop-cons m i 0 within) ∙ e
+      within = rest-first m i b r e .0
 
       head : getD m i 0 ≡ b
-      head = cc split
+      head = rest-first m i b r e .1
 
       tail : drop (suc i) m ≡ r
-      tail = cc split
+      tail = rest-first m i b r e .2
 
       by : (t : Bool) → eqb (faultAt (beforeAt m i) b r) 0 ≡ t
           → (((j : ℕ) → j < suc i → ClearAt m j) → Finds m (scan (Accepted (countsOf m)) (getD m i 0 ∷ beforeAt m i) r))

@@ -19,7 +19,7 @@ use Rattle.spec.specs.Vowels.{Phone, vowelSound, glides, writtenCode, vowelPhon
 use Rattle.spec.specs.Voicing.{Tone, voiced, voiceless, asWritten, voicedCode, voicelessCode, voices, toneOf, toned, codesOf, voiceOne, voice}
 use Rattle.spec.specs.Palatalization.{isSoft, palatalize, firstCode}
 use Rattle.spec.specs.Tape.{wordTape, segment, tape, wordNames, namesOf, names}
-use Rattle.spec.specs.Refusals.{consonantByte, signByte, vowelByte, letterByte, row3, rows, fitsIn}
+use Rattle.spec.specs.Refusals.{consonantByte, signByte, vowelByte, letterByte, row3, rows, fitsIn, NoneFits}
 use Rattle.spec.specs.Joints.{joinedFrom, joined, marksOf, breakMarks}
 use Rattle.spec.specs.declared.Cover.{Cover}
 use Rattle.spec.specs.declared.Cover.the-variants.{Bare, Covered}
@@ -29,7 +29,7 @@ use Rattle.spec.specs.declared.Level.the-variants.{Stressed, First, Second}
 use Rattle.spec.proofs.Computed.{everything}
 use Rattle.laws.proofs.Classes.{among-same, vowel-single}
 use Rattle.laws.proofs.Word.{shape}
-use Rattle.laws.proofs.Accepted.{Passes}
+use Rattle.laws.proofs.Accepted.{Passes, none-passes}
 
 -- a claim on each code of a tape, or on each name
 abbrev pub Each : (ℕ → Bool) → List ℕ → Type 0
@@ -325,10 +325,10 @@ module _ (m : List ℕ) (p : Passes m) where
   joined-codes a [] = rw (take-length (drop a m)) at (stretch-codes a (length (drop a m)))
   joined-codes a (c ∷ cuts) = each-append isCode (tape (take (c - a) (drop a m))) _ (stretch-codes a (c - a)) (mark-code (getD m c 0), joined-codes (suc c) cuts)
 
-  -- Every code that the joiner writes, and so the transcriber, is a sound or a mark.
-  pub codes-written : (cuts : List ℕ) (i : ℕ) → i < length (joined m cuts) → isCode (getD (joined m cuts) i 0) ≡ true
-  unfolding joined
-  codes-written cuts i h = each-at isCode (joined m cuts) i (joined-codes 0 cuts) h
+-- Every code that the joiner writes for an accepted message is a sound or a mark, and with no cuts that is the transcriber's tape.
+pub codes-written : (m cuts : List ℕ) (i : ℕ) → NoneFits m → i < length (joined m cuts) → isCode (getD (joined m cuts) i 0) ≡ true
+unfolding joined
+codes-written m cuts i f h = each-at isCode (joined m cuts) i (joined-codes m (none-passes m f) 0 cuts) h
 
 -- each name of a syllable
 name-in : (cover : Cover) (level : Level) → isName (nameIn cover level) ≡ true

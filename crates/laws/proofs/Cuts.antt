@@ -9,9 +9,9 @@ use native.Mathlib.Omega.{arith}
 use lib.Dec.{eqb, leb}
 use borrow.Author.Tests.{eqb-true, eqb-false, leb-true, leb-false, le-leb}
 use lib.ListN.{length, drop, getD, length-drop, List·getD-eq-default}
-use lib.Seq.{drop-cons}
 use Rattle.spec.specs.Letters.{isBreak}
 use Rattle.spec.specs.Joints.{RisingFrom, Rising, CutOf, breaksFrom, breaks, row12, badCutFrom, badCut, leastAt, FirstBadFrom, FirstBad}
+use Rattle.laws.proofs.Accepted.{rest-first}
 
 -- a break stands within the message
 pub break-within : (m : List ℕ) (c : ℕ) → isBreak (getD m c 0) ≡ true → c < length m
@@ -149,14 +149,7 @@ module _ (m : List ℕ) where
   unfolding badCut
   first-bad cuts i f = first-bad-from 0 cuts i f
 
-  -- The full list.
-  -- the byte at a place, and those after it
-  drop-first : (k b : ℕ) (r : List ℕ) → drop k m ≡ b ∷ r → (getD m k 0 ≡ b) × (drop (suc k) m ≡ r)
-  drop-first k b r e =
-      let s = sym (drop-cons m k 0 (omega (arith, length-drop k m, ap length e))) ∙ e in
-      (cc s, cc s)
-
-  -- a list that rises from a place on rises from the one before
+  -- The full list. A list that rises from a place on rises from the one before
   rising-lower : (k : ℕ) (cuts : List ℕ) → RisingFrom m (suc k) cuts → RisingFrom m k cuts
   rising-lower k [] r = tt
   rising-lower k (c ∷ cuts) r = (omega (arith, r .0), r .1, r .2)
@@ -164,7 +157,7 @@ module _ (m : List ℕ) where
   full-from : (k : ℕ) (r : List ℕ) → drop k m ≡ r → RisingFrom m k (breaksFrom k r)
   unfolding breaksFrom
   full-from k [] e = tt
-  full-from k (b ∷ r) e = let s = drop-first k b r e in by (isBreak b) refl (s .0) (full-from (suc k) r (s .1))
+  full-from k (b ∷ r) e = let s = rest-first m k b r e in by (isBreak b) refl (s .1) (full-from (suc k) r (s .2))
     where
       by : (t : Bool) → isBreak b ≡ t → getD m k 0 ≡ b → RisingFrom m (suc k) (breaksFrom (suc k) r) → RisingFrom m k (cond t (k ∷ breaksFrom (suc k) r) (breaksFrom (suc k) r))
       by true q h f = (omega arith, rw h q, f)
@@ -173,7 +166,7 @@ module _ (m : List ℕ) where
   every-from : (k : ℕ) (r : List ℕ) → drop k m ≡ r → (c : ℕ) → k ≤ c → isBreak (getD m c 0) ≡ true → CutOf c (breaksFrom k r)
   unfolding breaksFrom
   every-from k [] e c le q = absurd (omega (arith, break-within m c q, length-drop k m, ap length e))
-  every-from k (b ∷ r) e c le q = let s = drop-first k b r e in by (isBreak b) refl (s .0) (eqb c k) refl (every-from (suc k) r (s .1) c)
+  every-from k (b ∷ r) e c le q = let s = rest-first m k b r e in by (isBreak b) refl (s .1) (eqb c k) refl (every-from (suc k) r (s .2) c)
     where
       by : (t : Bool) → isBreak b ≡ t → getD m k 0 ≡ b → (u : Bool) → eqb c k ≡ u → (suc k ≤ c → isBreak (getD m c 0) ≡ true → CutOf c (breaksFrom (suc k) r))
           → CutOf c (cond t (k ∷ breaksFrom (suc k) r) (breaksFrom (suc k) r))

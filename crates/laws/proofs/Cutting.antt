@@ -94,7 +94,7 @@ equal-lengths m cuts r = joined-length m 0 cuts tt r ∙ ap length (onward-first
 pub equal-tapes : (m cuts : List ℕ) → Rising m cuts → (joined m cuts ≡ tape m) ↔ NoneLive m cuts
 unfolding joined
 equal-tapes m cuts r =
-    (λ e c i. by c i e (isLive m c) refl, λ f. joined-dead m 0 cuts tt r (first-own m) (counts-none m cuts .1 f) ∙ onward-first m)
+    (λ e c i. by c i e (isLive m c) refl, λ f. joined-dead m 0 cuts tt r (first-own m) f ∙ onward-first m)
   where
     by : (c : ℕ) → CutOf c cuts → joined m cuts ≡ tape m → (t : Bool) → isLive m c ≡ t → t ≡ false
     by c i e true l = absurd (differ-nowhere (tape m) (joined m cuts) (markIndex m c) e (differs m cuts r c i l))

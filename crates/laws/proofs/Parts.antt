@@ -2,8 +2,8 @@
 -- Assumes nothing.
 use Prim.Native.Nat.{ℕ, zero, suc, _+_, _-_, _<_, _≤_}
 use mathlib.Core.Path.{_≡_, refl, sym, ap, _∙_}
-use mathlib.Core.Bool.{Bool, true, false, cond, _&&_, _||_, and-comm, and-eq-true-iff, true≢false}
-use mathlib.Core.Logic.{⊎-elim, _≢_}
+use mathlib.Core.Bool.{Bool, true, false, _&&_, _||_, and-comm, and-eq-true-iff, true≢false}
+use mathlib.Core.Logic.{inl, inr, ⊎-elim, _≢_}
 use mathlib.Core.List.{List, [], _∷_, _++_, append-assoc}
 use native.Mathlib.Omega.{arith}
 use lib.ListN.{length, take, drop, getD, length-append, take-append-drop}
@@ -14,7 +14,7 @@ use Rattle.spec.specs.Voicing.{voices}
 use Rattle.spec.specs.Vowels.{endsHard}
 use Rattle.spec.specs.Palatalization.{firstCode}
 use Rattle.spec.specs.Tape.{segment, tape}
-use Rattle.spec.specs.Joints.{RisingFrom, CutOf, joinedFrom, markIndex, marksOf, breakMarks, wordBefore, wordAfter, endsInObstruent, beginsWithIOrE, liveByVoice, liveByHardness, isLive, liveCount}
+use Rattle.spec.specs.Joints.{RisingFrom, CutOf, joinedFrom, markIndex, marksOf, breakMarks, wordBefore, wordAfter, endsInObstruent, beginsWithIOrE, liveByVoice, liveByHardness, isLive, NoneLive}
 use Rattle.laws.proofs.Word.{lastCodeFrom, lastCode}
 use Rattle.laws.proofs.Codes.{Spells, marks-mark, bytes-marks, marks-append, breaks-append}
 use Rattle.laws.proofs.Cuts.{break-within, cut-above}
@@ -84,11 +84,6 @@ drop-past (y ∷ s) x t k e = rw (← e) (drop-past s x t (length s) refl)
 pub or-false : (s t : Bool) → (s || t) ≡ false → (s ≡ false) × (t ≡ false)
 or-false true t e = absurd (true≢false e)
 or-false false t e = (refl, e)
-
--- a count of none has not counted this one
-none-counted : (t : Bool) (k : ℕ) → cond t (suc k) k ≡ 0 → (t ≡ false) × (k ≡ 0)
-none-counted true k e = absurd (omega arith)
-none-counted false k e = (refl, e)
 
 -- 'a gap, and this or that' is 'a gap and this, or a gap and that'
 and-or : (g s t : Bool) → (g && (s || t)) ≡ ((g && s) || (g && t))
@@ -236,14 +231,13 @@ module _ (m : List ℕ) where
       (omega (arith, segment-length false (hardAt m a) false (voicedAt m c) (read (part m a c)), joined-length (suc c) cuts (r .1) (r .2))))
 
   -- Without a live cut they are equal, if nothing changes what stands at place a.
-  pub joined-dead : (a : ℕ) (cuts : List ℕ) → Begins m a → RisingFrom m a cuts → changedAfter m a ≡ false → liveCount m cuts ≡ 0
+  pub joined-dead : (a : ℕ) (cuts : List ℕ) → Begins m a → RisingFrom m a cuts → changedAfter m a ≡ false → NoneLive m cuts
       → joinedFrom m a cuts ≡ onward m a
-  unfolding joinedFrom liveCount
+  unfolding joinedFrom
   joined-dead a [] b r q n = onward-alone a q
   joined-dead a (c ∷ cuts) b r q n =
-      let l = none-counted (isLive m c) (liveCount m cuts) n in
-      let o = or-false (changedBefore m c) (changedAfter m (suc c)) (sym (live-here c (r .1)) ∙ l .0) in
-      rw (onward-cut a c b (r .0) (r .1), part-own a c b (r .0) (r .1) q (o .0), joined-dead (suc c) cuts (r .1) (r .2) (o .1) (l .1))
+      let o = or-false (changedBefore m c) (changedAfter m (suc c)) (sym (live-here c (r .1)) ∙ n c (inl refl)) in
+      rw (onward-cut a c b (r .0) (r .1), part-own a c b (r .0) (r .1) q (o .0), joined-dead (suc c) cuts (r .1) (r .2) (o .1) (λ d i. n d (inr i)))
 
   -- At place a the first codes differ if something changes what stands there, whatever the cuts.
   joined-starts : (a : ℕ) (cuts : List ℕ) → Begins m a → RisingFrom m a cuts → changedAfter m a ≡ true

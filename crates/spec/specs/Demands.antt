@@ -22,7 +22,7 @@ pub data Due (m cuts : List ℕ) (size room : ℕ) : ℕ → ℕ → Type 0 wher
   wrongCut : (i : ℕ) → NoneFits m → FirstBad m cuts i → Due m cuts size room 12 i
   tooShort : NoneFits m → Rising m cuts → room < size → Due m cuts size room 11 size
 
--- An operation is carried out: the output begins with its text and keeps its other bytes.
+-- An operation is carried out: the output begins with its text and keeps its other bytes, and the answer tells the text's length and how many cuts are live.
 pub record CarriedOut (text : List ℕ) (count : ℕ) (out out′ : List ℕ) (r : Answer) : Type 0 where
   pub output : out′ ≡ text ++ drop (length text) out
   pub number : numberOf r ≡ 0
@@ -30,7 +30,7 @@ pub record CarriedOut (text : List ℕ) (count : ℕ) (out out′ : List ℕ) (r
   pub length : lengthOf r ≡ length text
   pub live : liveOf r ≡ count
 
--- It is refused with a number of the table and the place that belongs to it, and the output keeps every byte.
+-- It is refused with a number of the table and the place that belongs to it; the refusal holds nothing else, and the output keeps every byte.
 pub record TurnedAway (Number : ℕ → ℕ → Type 0) (out out′ : List ℕ) (r : Answer) : Type 0 where
   pub output : out′ ≡ out
   pub number : (1 ≤ numberOf r) × (numberOf r ≤ 12)
@@ -38,7 +38,7 @@ pub record TurnedAway (Number : ℕ → ℕ → Type 0) (out out′ : List ℕ) 
   pub length : lengthOf r ≡ 0
   pub live : liveOf r ≡ 0
 
--- Either, and no other: the output is as long as it was.
+-- One or the other, and nothing is put outside the output: it is as long as it was.
 pub record Settled (Number : ℕ → ℕ → Type 0) (text : List ℕ) (count : ℕ) (out out′ : List ℕ) (r : Answer) : Type 0 where
   pub ended : CarriedOut text count out out′ r ⊎ TurnedAway Number out out′ r
   pub size : length out′ ≡ length out
@@ -50,9 +50,11 @@ pub record CheckTurnedAway (m : List ℕ) (r : Checked) : Type 0 where
   pub codes : checkedCodes r ≡ 0
   pub names : checkedNames r ≡ 0
 
--- Demand 1, for any bytes m: whatever is lent, every operation is carried out, or refused with a number and a place.
+-- Demand 1, for any bytes m and whatever is lent.
 pub record Demand1 (m : List ℕ) : Type 0 where
+  -- the check accepts, or refuses with a number and a place
   pub check : (r : Checked) → CheckPromise m r → (checkedNumber r ≡ 0) ⊎ CheckTurnedAway m r
+  -- and so each operation that is lent an output: carried out, or refused with every byte left
   pub naming : (out out′ : List ℕ) (r : Answer) → NamePromise m out out′ r
       → Settled (Due m [] (length (names m)) (length out)) (names m) 0 out out′ r
   pub transcriber : (out out′ : List ℕ) (r : Answer) → TranscribePromise m out out′ r
@@ -60,31 +62,36 @@ pub record Demand1 (m : List ℕ) : Type 0 where
   pub joiner : (cuts out out′ : List ℕ) (r : Answer) → JoinPromise m cuts out out′ r
       → Settled (Due m cuts (length (joined m cuts)) (length out)) (joined m cuts) (liveCount m cuts) out out′ r
 
--- An operation refuses just what it must: Accepted is what it accepts if it is lent enough for its text.
+-- An operation accepts exactly what it must, where Accepted says what that is, and refuses exactly as it must.
 pub record Exactly (Accepted : Type 0) (Number : ℕ → ℕ → Type 0) (text : List ℕ) (count : ℕ) (out out′ : List ℕ) (r : Answer) : Type 0 where
+  -- lent an output long enough, it accepts exactly this
   pub accepts : length text ≤ length out → (numberOf r ≡ 0) ↔ Accepted
+  -- and then gives exactly its text
   pub gives : length text ≤ length out → Accepted → CarriedOut text count out out′ r
   -- a number is given exactly where it is due, however much is lent
   pub refuses : (n p : ℕ) → 1 ≤ n → ((numberOf r ≡ n) × (placeOf r ≡ p)) ↔ Number n p
 
--- Demand 2, for any bytes m: accepted is exactly what none of numbers 1 to 10 fits, and then the tape and the names are those of the passes.
+-- Demand 2, for any bytes m.
 pub record Demand2 (m : List ℕ) : Type 0 where
+  -- the check accepts exactly what none of numbers 1 to 10 fits anywhere, and gives each number exactly where it is due
   pub accepts : (r : Checked) → CheckPromise m r → (checkedNumber r ≡ 0) ↔ NoneFits m
   pub refuses : (r : Checked) → CheckPromise m r → (n p : ℕ) → 1 ≤ n → ((checkedNumber r ≡ n) × (checkedPlace r ≡ p)) ↔ Given m n p
-  -- the check tells how much must be lent
+  -- it tells how much must be lent
   pub counts : (r : Checked) → CheckPromise m r → NoneFits m → (checkedCodes r ≡ length (tape m)) × (checkedNames r ≡ length (names m))
+  -- the transcriber accepts exactly the same and gives the tape that the passes define, and the naming operation the names
   pub transcriber : (out out′ : List ℕ) (r : Answer) → TranscribePromise m out out′ r
       → Exactly (NoneFits m) (Due m [] (length (tape m)) (length out)) (tape m) 0 out out′ r
   pub naming : (out out′ : List ℕ) (r : Answer) → NamePromise m out out′ r
       → Exactly (NoneFits m) (Due m [] (length (names m)) (length out)) (names m) 0 out out′ r
-  -- the joiner's list of cuts is judged as exactly
+  -- the joiner judges its list of cuts as exactly
   pub joiner : (cuts out out′ : List ℕ) (r : Answer) → JoinPromise m cuts out out′ r
       → Exactly (NoneFits m × Rising m cuts) (Due m cuts (length (joined m cuts)) (length out)) (joined m cuts) (liveCount m cuts) out out′ r
 
 -- The first tape is the whole message's, `tape m`; the second is its parts', laid end to end with the marks of the cuts, `joined m cuts`.
 pub record TwoTapes (m cuts : List ℕ) : Type 0 where
-  -- each part is a message of its own
+  -- each part is an accepted message of its own
   pub parts : EachPart NoneFits m cuts
+  -- the two have equal length, whatever the list
   pub lengths : length (joined m cuts) ≡ length (tape m)
   -- they are equal exactly when no cut of the list is a live joint
   pub equal : (joined m cuts ≡ tape m) ↔ NoneLive m cuts
