@@ -11,3 +11,4 @@ pub mod Tape
 pub mod Refusals
 pub mod Joints
 pub mod Answers
+pub mod Printed
