@@ -9,6 +9,7 @@ use libc::EINTR;
 use libc::STDERR_FILENO;
 use libc::STDIN_FILENO;
 use libc::STDOUT_FILENO;
+use text::TEXT;
 use text::print_message;
 
 // What came of standard input: so many bytes, or a read failed.
@@ -64,7 +65,7 @@ fn main() {
         );
         return;
     };
-    let mut text = [0u8; 32769];
+    let mut text = [0u8; TEXT];
     let end = print_message(&message[..n], &mut text);
     io::write_all(STDOUT_FILENO, &text[..end]);
 }
