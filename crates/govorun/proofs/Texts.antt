@@ -7,7 +7,7 @@ use native.Mathlib.Numerals.{add-one}
 use mathlib.Core.Path.{_≡_, refl, sym, ap, _∙_}
 use mathlib.Core.Bool.{Bool, true, false, cond}
 use mathlib.Core.List.{List, [], _∷_, _++_, append-assoc, append-nil}
-use lib.Dec.{leb, ltb}
+use lib.Dec.{leb}
 use lib.ListN.{length, take, drop, set, getD, length-append, length-drop, drop-of-length-le}
 use lib.Seq.{take-suc-set, take-at, drop-cons}
 use borrow.Author.Tests.{le-leb, lt-leb, lt-ltb, le-ltb, leb-true, leb-false}
@@ -61,7 +61,7 @@ decimal-large n h = rw (lt-leb n 9 (omega arith), enough n (suc (n / 10)) (n / 1
 pub decimal-longer : (n : ℕ) → 10 ≤ n → length (decimal n) ≡ length (decimal (n / 10)) + 1
 decimal-longer n h = ap length (decimal-large n h) ∙ length-append (decimal (n / 10)) ((48 + n % 10) ∷ [])
 
--- a number below 10 to the k has at most k digits
+-- a number below a power of ten has at most as many digits as the power says
 pub decimal-size : (k n : ℕ) → n < 10 ^ suc k → length (decimal n) ≤ suc k
 decimal-size zero n h = omega (arith, ap length (decimal-small n h))
 decimal-size (suc k) n h = by (leb n 9) refl (decimal-size k (n / 10))

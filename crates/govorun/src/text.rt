@@ -1,6 +1,6 @@
 // The text that the program prints, made in a lent buffer.
 ghost use mathlib.Core.Path.{_≡_};
-ghost use mathlib.Core.List.{[], _∷_, _++_};
+ghost use mathlib.Core.List.{[], _∷_};
 ghost use Prim.Native.Nat.{_+_, _*_, _<_, _≤_};
 ghost use lib.ListN.{length, take};
 ghost use Rattle.io.specs.Counts.{Counts};
@@ -11,6 +11,12 @@ ghost use Rattle.govorun.specs.Putting.{Put, codeAt};
 use spec::Answer;
 use spec::Refusal;
 use transcriber::tape::transcribe;
+
+// A tape has at most two codes for each byte of the longest message.
+const CODES: usize = 8192;
+
+// A code is a byte: at most three digits, and a space after it. A newline ends the text.
+pub const TEXT: usize = 4 * CODES + 1;
 
 // Puts a byte at place at, and answers the place after it.
 fn put(text: &mut [u8], at: usize, byte: u8) -> usize
@@ -26,7 +32,7 @@ fn put_decimal(text: &mut [u8], at: usize, n: usize) -> usize
     requires { ⌜ at + length (decimal n) ≤ length (now text) ⌝ }
     ensures { λ r. ⌜ Put (decimal n) (now (text .entry)) (now (text .exit)) at r ⌝ }
 {
-    let digit = 48 + (n % 10) as u8;
+    let digit = b'0' + (n % 10) as u8;
     if n < 10 {
         return put(text, at, digit);
     }
@@ -34,6 +40,7 @@ fn put_decimal(text: &mut [u8], at: usize, n: usize) -> usize
     put(text, end, digit)
 }
 
+// Puts a text as it stands.
 fn put_bytes(text: &mut [u8], at: usize, bytes: &[u8]) -> usize
     requires { ⌜ at + length (now bytes) ≤ length (now text) ⌝ }
     ensures { λ r. ⌜ Put (now (bytes .entry)) (now (text .entry)) (now (text .exit)) at r ⌝ }
@@ -59,7 +66,7 @@ fn put_code(codes: &[u8], i: usize, text: &mut [u8], at: usize) -> usize
     end
 }
 
-// A code is a byte: three digits at most, and a space.
+// Puts the codes from the text's start on.
 fn put_codes(codes: &[u8], text: &mut [u8]) -> usize
     requires { ⌜ 4 * length (now codes) ≤ length (now text) ⌝ }
     ensures { λ r. ⌜ Put (printedCodes (now (codes .entry))) (now (text .entry)) (now (text .exit)) 0 r ⌝ }
@@ -74,6 +81,7 @@ fn put_codes(codes: &[u8], text: &mut [u8]) -> usize
     at
 }
 
+// Puts a refusal at the text's start.
 fn put_refusal(r: Refusal, text: &mut [u8]) -> usize
     requires { ⌜ length (printedAnswer (Answer.Refused r) []) ≤ length (now text) ⌝ }
     ensures { λ end. ⌜ Put (printedAnswer (Answer.Refused r) []) (now (text .entry)) (now (text .exit)) 0 end ⌝ }
@@ -86,21 +94,21 @@ fn put_refusal(r: Refusal, text: &mut [u8]) -> usize
     put_decimal(text, end, place)
 }
 
-// A tape has at most two codes for each byte of the longest message.
+// Puts what the transcriber answers, which is lent room for every tape.
 fn put_answer(m: &[u8], text: &mut [u8]) -> usize
     requires { ⌜ 32768 ≤ length (now text) ⌝ }
     ensures { λ r. ⌜ Put (printedAnswer (tapeAnswer (now (m .entry)) 8192) (tape (now (m .entry)))) (now (text .entry)) (now (text .exit)) 0 r ⌝ }
     ensures { λ r. ⌜ r ≤ 32768 ⌝ }
 {
-    let mut codes = [0u8; 8192];
+    let mut codes = [0u8; CODES];
     match transcribe(m, &mut codes) {
         Answer::Written { length, live: _ } => put_codes(&codes[..length], text),
         Answer::Refused(r) => put_refusal(r, text),
     }
 }
 
-// Puts the text for a message at the start of the lent buffer, and answers its length. A code has at most three digits, and one byte more after it.
-pub fn print_message(m: &[u8], text: &mut [u8; 32769]) -> usize
+// Puts the whole text for a message, and answers how long it is.
+pub fn print_message(m: &[u8], text: &mut [u8; TEXT]) -> usize
     ensures { λ r. ⌜ Counts r (now (text .exit)) ⌝ }
     ensures { λ r. ⌜ take r (now (text .exit)) ≡ printed (now (m .entry)) ⌝ }
 {
