@@ -18,6 +18,7 @@ enum Input {
     Failed,
 }
 
+// Did a read that answered so fail only because a signal came?
 fn is_interrupted(got: isize) -> bool {
     if got < 0 {
         return os::errno() == EINTR;
