@@ -5,7 +5,6 @@ ghost use Rattle.govorun.specs.Reading.{readOf};
 
 mod text;
 
-use libc::EINTR;
 use libc::STDERR_FILENO;
 use libc::STDIN_FILENO;
 use libc::STDOUT_FILENO;
@@ -18,32 +17,13 @@ enum Input {
     Failed,
 }
 
-// Did a read that answered so fail only because a signal came?
-fn is_interrupted(got: isize) -> bool {
-    if got < 0 {
-        return os::errno() == EINTR;
-    }
-    false
-}
-
-// Reads once. A read that a signal interrupted before a byte came is tried again; the tries are counted from a number that no run uses up, since a proved loop has to end.
-fn read_once(part: &mut [u8]) -> isize {
-    let mut got = libc::read(STDIN_FILENO, part);
-    let mut tries = u64::MAX;
-    while 0 < tries && is_interrupted(got) {
-        tries -= 1;
-        got = libc::read(STDIN_FILENO, part);
-    }
-    got
-}
-
 // Reads until the input ends or the buffer is full. A read that fails is told from the end, so that no part of a message passes for the whole.
 fn read_input(message: &mut [u8]) -> Input
     ensures { λ r. ⌜ readOf r ≤ length (now (message .exit)) ⌝ }
 {
     let mut n = 0;
     while n < message.len() {
-        let got = read_once(&mut message[n..]);
+        let got = libc::read(STDIN_FILENO, &mut message[n..]);
         if got < 0 {
             return Input::Failed;
         }
@@ -68,5 +48,11 @@ fn main() {
     };
     let mut text = [0u8; TEXT];
     let end = print_message(&message[..n], &mut text);
-    io::write_all(STDOUT_FILENO, &text[..end]);
+    if io::write_all(STDOUT_FILENO, &text[..end]) {
+        return;
+    }
+    io::write_all(
+        STDERR_FILENO,
+        b"govorun: standard output could not be written\n",
+    );
 }

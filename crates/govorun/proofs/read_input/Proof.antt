@@ -16,17 +16,17 @@ abbrev μ-loop : tie.MeasureT-loop
 loop-holds : tie.Need-loop-holds Inv-loop μ-loop
 loop-holds c = omega arith
 
-sub-read-once : tie.Need-sub-read-once Inv-loop μ-loop
-sub-read-once c = omega arith
+sub-read : tie.Need-sub-read Inv-loop μ-loop
+sub-read c = omega arith
 
-part-read-once-start : tie.Need-part-read-once-start Inv-loop μ-loop
-part-read-once-start c = omega arith
+part-read-start : tie.Need-part-read-start Inv-loop μ-loop
+part-read-start c = omega arith
 
-part-read-once-end : tie.Need-part-read-once-end Inv-loop μ-loop
-part-read-once-end c = omega arith
+part-read-end : tie.Need-part-read-end Inv-loop μ-loop
+part-read-end c = omega arith
 
-read-once-requires : tie.Need-read-once-requires Inv-loop μ-loop
-read-once-requires c κs = tt
+read-requires : tie.Need-read-requires Inv-loop μ-loop
+read-requires c κs = tt
 
 same-length : tie.Need-same-length Inv-loop μ-loop
 same-length c = omega arith
@@ -74,10 +74,10 @@ read-input-spec =
     Inv-loop
     μ-loop
     loop-holds
-    sub-read-once
-    part-read-once-start
-    part-read-once-end
-    read-once-requires
+    sub-read
+    part-read-start
+    part-read-end
+    read-requires
     same-length
     returns
     sub-count
