@@ -11,7 +11,7 @@ ghost use Rattle.transcriber.specs.Walk.{Put};
 ghost use Rattle.joiner.specs.Writing.{TapeDue, PartDue};
 use crate::joints::changes_at;
 use message::check::check;
-use message::tables::class_table;
+use message::classify::class_table;
 use spec::Answer;
 use spec::Checked;
 use spec::Refusal;

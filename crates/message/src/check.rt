@@ -7,20 +7,13 @@ ghost use Rattle.spec.specs.Refusals.{checkOf};
 ghost use Rattle.message.specs.Scan.{classes, steps, classOf, packed, elidedAt, kindAt, lettersAt, limitAt, Sees, Here, Judged, finishOf};
 use crate::Seen;
 use crate::Step;
+use crate::classify::class_of;
+use crate::classify::class_table;
 use crate::letters::is_elided;
-use crate::tables::class_table;
 use crate::tables::step_table;
 use spec::Checked;
 use spec::Counts;
 use spec::Refusal;
-
-// The class of a byte.
-pub fn class_of(b: u8, t: &[u8; 256]) -> usize
-    requires { ⌜ now t ≡ classes ⌝ }
-    ensures { λ r. ⌜ r ≡ classOf b ⌝ }
-{
-    t[b as usize] as usize
-}
 
 // What the table has for the byte at the place: the sum to add, and the next row in its highest byte.
 fn look_up(m: &[u8], at: usize, row: usize, t: &[u8; 256], s: &[u32; 240]) -> usize

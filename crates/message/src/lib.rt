@@ -1,4 +1,6 @@
 pub mod check;
+pub mod classes;
+pub mod classify;
 pub mod letters;
 pub mod tables;
 

@@ -93,12 +93,12 @@ pub record TwoTapes (m cuts : List ℕ) : Type 0 where
   pub parts : EachPart NoneFits m cuts
   -- the two have equal length, whatever the list
   pub lengths : length (joined m cuts) ≡ length (tape m)
-  -- they are equal exactly when no cut of the list is a live joint
+  -- a live cut of the list makes them differ, and nothing else does
   pub equal : (joined m cuts ≡ tape m) ↔ NoneLive m cuts
   -- each cut of the list has its mark in both tapes, at one and the same index
   pub whole : (c : ℕ) → CutOf c cuts → SplitAt m c (tape m)
   pub pieces : (c : ℕ) → CutOf c cuts → SplitAt m c (joined m cuts)
-  -- at every live one the code just before or just after that mark differs
+  -- and a live one is heard there: a code beside that mark is another
   pub differs : (c : ℕ) → CutOf c cuts → isLive m c ≡ true → DiffersAt (tape m) (joined m cuts) (markIndex m c)
 
 -- The joiner writes exactly the second tape, and the two tapes are equal exactly when the count that it gives is 0.
@@ -114,6 +114,6 @@ pub record Demand3 (m : List ℕ) : Type 0 where
   pub every : (c : ℕ) → isBreak (getD m c 0) ≡ true → CutOf c (breaks m)
   -- one claim over the whole list
   pub tapes : (cuts : List ℕ) → Rising m cuts → TwoTapes m cuts
-  -- the joiner, lent an output long enough, whatever it held
+  -- the joiner, with room for the second tape, whatever stood there before
   pub joiner : (cuts : List ℕ) → Rising m cuts → (out out′ : List ℕ) (r : Answer) → length (joined m cuts) ≤ length out
       → JoinPromise m cuts out out′ r → Joins m cuts out out′ r

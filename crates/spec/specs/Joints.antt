@@ -36,7 +36,7 @@ breaksFrom k (b ∷ m) = cond (isBreak b) (k ∷ breaksFrom (suc k) m) (breaksFr
 unfoldable pub breaks : List ℕ → List ℕ
 breaks m = breaksFrom 0 m
 
--- the parts of a message from place a on, cut at the places of the list, each transcribed as a message of its own, with the marks of the cuts between them
+-- the tapes of the parts from place a on, as if nothing stood around each, and between two of them the mark of the cut that parts them
 unfoldable pub joinedFrom : List ℕ → ℕ → List ℕ → List ℕ
 joinedFrom m a [] = tape (drop a m)
 joinedFrom m a (c ∷ cuts) = tape (take (c - a) (drop a m)) ++ (markOf (getD m c 0) ∷ joinedFrom m (suc c) cuts)

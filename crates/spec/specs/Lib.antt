@@ -12,3 +12,4 @@ pub mod Refusals
 pub mod Joints
 pub mod Answers
 pub mod Demands
+pub mod Printed

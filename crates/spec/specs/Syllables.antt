@@ -31,7 +31,7 @@ pub record Facts : Type 0 where
 abbrev pub factsOf : List Letter → Facts
 factsOf w = record { marked = hasMark w }
 
--- the level of the vowel l before w: S, 1, 2 are Stressed, First, Second; in a word with no mark all vowels are level 1
+-- the level of the vowel l before w: S, 1, 2 are Stressed, First, Second; where the word has no mark there is no level 2
 unfoldable pub levelOf : Facts → Letter → List Letter → Level
 levelOf facts l w = cond (l .stressed) Stressed (cond (nextStressed w || not (facts .marked)) First Second)
 

@@ -14,7 +14,7 @@ pub fn class_before(m: &[u8], i: usize, t: &[u8; 256]) -> usize
     if i == 0 {
         return 3;
     }
-    message::check::class_of(m[i - 1], t)
+    message::classify::class_of(m[i - 1], t)
 }
 
 // Does the word before a gap at place i - 1 end so that a hard boundary stands at i? k is the class of the byte before.

@@ -1,106 +1,44 @@
--- `message::letters::is_elided` meets its contract: the bytes are those beside the place, and nothing is silent at the start or end of a message.
+-- The four letters are those that the definition takes.
 -- Assumes nothing.
-use Prim.Native.Nat.{ℕ, _+_, _≤_}
-use mathlib.Core.Bool.{and-false}
-use native.Mathlib.Omega.{arith}
-use lib.ListN.{length, List·getD-eq-default}
-use Rattle.spec.specs.Letters.{small}
-use Rattle.spec.specs.Elision.{elidesT, elidesD, elidesAmong}
-use Rattle.message.specs.Scan.{letterAt, letterBefore, elidedAt}
-use Rattle.message.proofs.ScanTable.{before-at}
+use Rattle.message.specs.Scan.{elidedAt}
 use borrow.Author.Needs.{needs}
 use Rattle.message.proofs.letters.is_elided.Statement.{statement}
 use Rattle.message.proofs.letters.is_elided.Tie as tie
 
-returns : tie.Need-returns
-unfolding elidedAt elidesAmong elidesT elidesD letterBefore
-returns c = rw (c .if1 .taken) (simp and-false)
+letter-before-requires : tie.Need-letter-before-requires
+letter-before-requires c κs = search needs
 
-add-if2 : tie.Need-add-if2
-add-if2 c = search needs
+letter-at-requires : tie.Need-letter-at-requires
+letter-at-requires c κs = search needs
 
-returns-2 : tie.Need-returns-2
-unfolding elidedAt elidesAmong elidesT elidesD letterAt small
-returns-2 c = rw (List·getD-eq-default {A = ℕ} _ 0 (c .if2 .taken)) (simp and-false)
+add-letter-at : tie.Need-add-letter-at
+add-letter-at c = search needs
 
-add-if3 : tie.Need-add-if3
-add-if3 c = search needs
+letter-at-requires-2 : tie.Need-letter-at-requires-2
+letter-at-requires-2 c κs = search needs
 
-sub-elides : tie.Need-sub-elides
-sub-elides c = search needs
+add-letter-at-2 : tie.Need-add-letter-at-2
+add-letter-at-2 c = search needs
 
-shared-slice-read-elides : tie.Need-shared-slice-read-elides
-shared-slice-read-elides c = search needs
-
-shared-slice-read-elides-2 : tie.Need-shared-slice-read-elides-2
-shared-slice-read-elides-2 c = search needs
-
-add-elides : tie.Need-add-elides
-add-elides c = search needs
-
-shared-slice-read-elides-3 : tie.Need-shared-slice-read-elides-3
-shared-slice-read-elides-3 c = search needs
+letter-at-requires-3 : tie.Need-letter-at-requires-3
+letter-at-requires-3 c κs = search needs
 
 elides-requires : tie.Need-elides-requires
 elides-requires c κs = search needs
 
-returns-3 : tie.Need-returns-3
-unfolding elidedAt letterAt
-returns-3 c =
-    let t = c .before .before .before .before in
-    let s = t .before .before .before .before in
-    let e : length (s .args .m .now) ≤ s .args .i + 2 = omega (arith, t .if3 .taken) in
-    rw (← before-at _ _ (t .before .before .if1 .left), List·getD-eq-default {A = ℕ} _ 0 e) (c .elides .ensures)
-
-sub-elides-2 : tie.Need-sub-elides-2
-sub-elides-2 c = search needs
-
-shared-slice-read-elides-4 : tie.Need-shared-slice-read-elides-4
-shared-slice-read-elides-4 c = search needs
-
-shared-slice-read-elides-5 : tie.Need-shared-slice-read-elides-5
-shared-slice-read-elides-5 c = search needs
-
-add-elides-2 : tie.Need-add-elides-2
-add-elides-2 c = search needs
-
-shared-slice-read-elides-6 : tie.Need-shared-slice-read-elides-6
-shared-slice-read-elides-6 c = search needs
-
-add-elides-3 : tie.Need-add-elides-3
-add-elides-3 c = search needs
-
-shared-slice-read-elides-7 : tie.Need-shared-slice-read-elides-7
-shared-slice-read-elides-7 c = search needs
-
-elides-requires-2 : tie.Need-elides-requires-2
-elides-requires-2 c κs = search needs
-
-returns-4 : tie.Need-returns-4
-unfolding elidedAt letterAt
-returns-4 c = rw (← before-at _ _ (c .before .before .before .before .before .before .before .if1 .left)) (c .elides2 .ensures)
+returns : tie.Need-returns
+unfolding elidedAt
+returns c = rw (← c .before .before .before .before .letter-before .ensures, ← c .before .before .before .letter-at .ensures, ← c .before .before .letter-at2 .ensures, ← c .before .letter-at3 .ensures) (c .elides .ensures)
 
 pub is-elided-spec : {M : Type 1} → statement M
 is-elided-spec =
     tie.close
     (tie.spec
-    returns
-    add-if2
-    returns-2
-    add-if3
-    sub-elides
-    shared-slice-read-elides
-    shared-slice-read-elides-2
-    add-elides
-    shared-slice-read-elides-3
+    letter-before-requires
+    letter-at-requires
+    add-letter-at
+    letter-at-requires-2
+    add-letter-at-2
+    letter-at-requires-3
     elides-requires
-    returns-3
-    sub-elides-2
-    shared-slice-read-elides-4
-    shared-slice-read-elides-5
-    add-elides-2
-    shared-slice-read-elides-6
-    add-elides-3
-    shared-slice-read-elides-7
-    elides-requires-2
-    returns-4)
+    returns)

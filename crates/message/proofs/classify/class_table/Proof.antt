@@ -2,8 +2,8 @@
 -- Assumes nothing.
 use mathlib.Core.Path.{refl}
 use Rattle.message.proofs.Computed.{everything}
-use Rattle.message.proofs.tables.class_table.Statement.{statement}
-use Rattle.message.proofs.tables.class_table.Tie as tie
+use Rattle.message.proofs.classify.class_table.Statement.{statement}
+use Rattle.message.proofs.classify.class_table.Tie as tie
 
 returns : tie.Need-returns
 unfolding everything

@@ -5,8 +5,8 @@ use native.Mathlib.Omega.{arith}
 use borrow.Author.Needs.{needs}
 use Rattle.message.proofs.Bytes.{by-class}
 use Rattle.message.proofs.ScanTable.{class-read}
-use Rattle.message.proofs.check.class_of.Statement.{statement}
-use Rattle.message.proofs.check.class_of.Tie as tie
+use Rattle.message.proofs.classify.class_of.Statement.{statement}
+use Rattle.message.proofs.classify.class_of.Tie as tie
 
 element-copy-out-result : tie.Need-element-copy-out-result
 element-copy-out-result c = search needs
