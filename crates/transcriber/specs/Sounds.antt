@@ -12,7 +12,7 @@ use Rattle.spec.specs.Letters.{between, isHardOnly, isSoftOnly, isObstruent}
 use Rattle.spec.specs.Codes.{Б', В', Г', Х1', Д', Ж', З', К', Л', М', Н', П', Р', С', Т', Ф', Х', Ч, Ч1, Щ, isVoicing}
 use Rattle.spec.specs.Vowels.{vowelSound, bare, writtenCode}
 use Rattle.spec.specs.Voicing.{Tone, voiced, voiceless, asWritten, toneBefore, toned}
-use Rattle.message.specs.Scan.{classOf, isBreakClass, isSignClass, tabulate}
+use Rattle.message.specs.Classes.{classOf, isBreakClass, isSignClass, tabulate}
 use Rattle.spec.specs.declared.Cover.{Cover}
 use Rattle.spec.specs.declared.Cover.the-variants.{Bare, Covered}
 use Rattle.spec.specs.declared.Level.{Level}
