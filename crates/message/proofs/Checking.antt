@@ -475,71 +475,70 @@ module _ (m : List ℕ) (bytes : (j : ℕ) → getD m j 0 < 256) (s : Seen) (w :
 add-rest : (x y : ℕ) → x % 0x20000 + y % 0x20000 < 0x20000 → (x + y) % 0x20000 ≡ x % 0x20000 + y % 0x20000
 add-rest x y h = omega (arith, h)
 
--- Four bytes that need only be added: x is the sum of their entries.
-pub record Four (m : List ℕ) (s : Seen) : Type 0 where
-  pub enough : silentFour m (s .at) ≤ fourAt m (s .at) (s .kind) % 0x20000
-  pub plain : fourAt m (s .at) (s .kind) < 0x20000 → silentFour m (s .at) ≡ 0
-  pub seen : (sum : ℕ) → sum + silentFour m (s .at) ≡ s .sum + fourAt m (s .at) (s .kind) % 0x20000
-      → Sees m (record { at = s .at + 4; kind = classAt m (s .at + 3); from = s .from; limit = s .limit; sum = sum })
+-- n bytes from place i on, the first after kind k: the sum of their entries, the codes they lose, the kind after them
+unfoldable sums : List ℕ → ℕ → ℕ → ℕ → ℕ
+sums m k i zero = 0
+sums m k i (suc n) = packed k (classAt m i) + sums m (classAt m i) (suc i) n
+
+unfoldable losses : List ℕ → ℕ → ℕ → ℕ
+losses m i zero = 0
+losses m i (suc n) = silentAt m i + losses m (suc i) n
+
+unfoldable kindPast : List ℕ → ℕ → ℕ → ℕ → ℕ
+kindPast m k i zero = k
+kindPast m k i (suc n) = kindPast m (classAt m i) (suc i) n
+
+-- They need only be added: x is the sum of their entries, and has the codes that they lose.
+pub record Adds (m : List ℕ) (s : Seen) (n x lost k : ℕ) : Type 0 where
+  pub enough : lost ≤ x % 0x20000
+  pub plain : x < 0x20000 → lost ≡ 0
+  pub small : x % 0x20000 ≤ 0x4002 * n
+  pub seen : (sum : ℕ) → sum + lost ≡ s .sum + x % 0x20000 → Sees m (record { at = s .at + n; kind = k; from = s .from; limit = s .limit; sum = sum })
 
 -- one after the other
-pub sees-four : (m : List ℕ) → ((j : ℕ) → getD m j 0 < 256) → (s : Seen) → Sees m s → s .at + 4 ≤ length m → s .at + 4 ≤ s .limit → fourAt m (s .at) (s .kind) < 0x100000 → Four m s
-sees-four m bytes s w h l p = record {
-  enough = omega (arith, g₀ .enough, g₁ .enough, g₂ .enough, g₃ .enough, total);
-  plain = λ q. omega (arith, g₀ .plain (omega (arith, q)), g₁ .plain (omega (arith, q)), g₂ .plain (omega (arith, q)), g₃ .plain (omega (arith, q)));
-  seen = λ sum e. sees-plain m bytes (at 3 c₂ x₃) w₃ (omega (arith, h)) (i + 4) sum (omega arith) (omega (arith, l)) (omega (arith, p)) (omega (arith, e, total, g₀ .enough, g₁ .enough, g₂ .enough));
+adds-up : (m : List ℕ) → ((j : ℕ) → getD m j 0 < 256) → (n : ℕ) → n ≤ 7 → (s : Seen) → Sees m s → s .at + n ≤ length m → s .at + n ≤ s .limit → sums m (s .kind) (s .at) n < 0x100000
+    → Adds m s n (sums m (s .kind) (s .at) n) (losses m (s .at) n) (kindPast m (s .kind) (s .at) n)
+unfolding sums losses kindPast
+adds-up m bytes zero l s w h u p = record {
+  enough = omega arith;
+  plain = λ q. refl;
+  small = omega arith;
+  seen = λ sum e. let z : s .at + 0 ≡ s .at = omega arith in let d : sum ≡ s .sum = omega (arith, e) in rw (z, d) w;
 }
+adds-up m bytes (suc n) l s w h u p = by (adds-up m bytes n (omega arith) next seen (omega (arith, h)) (omega (arith, u)) (omega (arith, p)))
   where
-    i : ℕ
-    i = s .at
+    g : Gives m bytes s w (omega (arith, h))
+    g = gives m bytes s w (omega (arith, h))
 
-    c₀ : ℕ
-    c₀ = classAt m i
+    next : Seen
+    next = record { at = suc (s .at); kind = classAt m (s .at); from = s .from; limit = s .limit; sum = s .sum + packed (s .kind) (classAt m (s .at)) % 0x20000 - silentAt m (s .at) }
 
-    c₁ : ℕ
-    c₁ = classAt m (i + 1)
+    seen : Sees m next
+    seen = sees-plain m bytes s w (omega (arith, h)) (suc (s .at)) _ (omega arith) (omega (arith, u)) (omega (arith, p)) (omega (arith, g .enough))
 
-    c₂ : ℕ
-    c₂ = classAt m (i + 2)
+    by : Adds m next n (sums m (next .kind) (next .at) n) (losses m (next .at) n) (kindPast m (next .kind) (next .at) n)
+        → Adds m s (suc n) (sums m (s .kind) (s .at) (suc n)) (losses m (s .at) (suc n)) (kindPast m (s .kind) (s .at) (suc n))
+    by r =
+        let a = add-rest (packed (s .kind) (classAt m (s .at))) (sums m (classAt m (s .at)) (suc (s .at)) n) (omega (arith, g .small, r .small, l)) in
+        record {
+          enough = omega (arith, a, g .enough, r .enough);
+          plain = λ q. omega (arith, g .plain (omega (arith, q)), r .plain (omega (arith, q)));
+          small = omega (arith, a, g .small, r .small);
+          seen = λ sum e. let z : s .at + suc n ≡ suc (s .at) + n = omega arith in rw z (r .seen sum (omega (arith, a, e, g .enough)));
+        }
 
-    c₃ : ℕ
-    c₃ = classAt m (i + 3)
+-- four of them as the code has them
+fours : (m : List ℕ) (k i : ℕ) → (fourAt m i k ≡ sums m k i 4) × (silentFour m i ≡ losses m i 4) × (classAt m (i + 3) ≡ kindPast m k i 4)
+unfolding sums losses kindPast
+fours m k i =
+    let a : i + 1 ≡ suc i = omega arith in
+    let b : i + 2 ≡ suc (suc i) = omega arith in
+    let c : i + 3 ≡ suc (suc (suc i)) = omega arith in
+    rw (a, b, c) (omega arith, omega arith, refl)
 
-    at : ℕ → ℕ → ℕ → Seen
-    at j k x = record { at = i + j; kind = k; from = s .from; limit = s .limit; sum = x }
-
-    g₀ : Gives m bytes s w (omega (arith, h))
-    g₀ = gives m bytes s w (omega (arith, h))
-
-    x₁ : ℕ
-    x₁ = s .sum + packed (s .kind) c₀ % 0x20000 - silentAt m i
-
-    w₁ : Sees m (at 1 c₀ x₁)
-    w₁ = sees-plain m bytes s w (omega (arith, h)) (i + 1) x₁ refl (omega (arith, l)) (omega (arith, p)) (omega (arith, g₀ .enough))
-
-    g₁ : Gives m bytes (at 1 c₀ x₁) w₁ (omega (arith, h))
-    g₁ = gives m bytes (at 1 c₀ x₁) w₁ (omega (arith, h))
-
-    x₂ : ℕ
-    x₂ = x₁ + packed c₀ c₁ % 0x20000 - silentAt m (i + 1)
-
-    w₂ : Sees m (at 2 c₁ x₂)
-    w₂ = sees-plain m bytes (at 1 c₀ x₁) w₁ (omega (arith, h)) (i + 2) x₂ (omega arith) (omega (arith, l)) (omega (arith, p)) (omega (arith, g₁ .enough))
-
-    g₂ : Gives m bytes (at 2 c₁ x₂) w₂ (omega (arith, h))
-    g₂ = gives m bytes (at 2 c₁ x₂) w₂ (omega (arith, h))
-
-    x₃ : ℕ
-    x₃ = x₂ + packed c₁ c₂ % 0x20000 - silentAt m (i + 2)
-
-    w₃ : Sees m (at 3 c₂ x₃)
-    w₃ = sees-plain m bytes (at 2 c₁ x₂) w₂ (omega (arith, h)) (i + 3) x₃ (omega arith) (omega (arith, l)) (omega (arith, p)) (omega (arith, g₂ .enough))
-
-    g₃ : Gives m bytes (at 3 c₂ x₃) w₃ (omega (arith, h))
-    g₃ = gives m bytes (at 3 c₂ x₃) w₃ (omega (arith, h))
-
-    total : fourAt m i (s .kind) % 0x20000 ≡ packed (s .kind) c₀ % 0x20000 + packed c₀ c₁ % 0x20000 + packed c₁ c₂ % 0x20000 + packed c₂ c₃ % 0x20000
-    total =
-        let a = add-rest (packed (s .kind) c₀) (packed c₀ c₁) (omega (arith, g₀ .small, g₁ .small)) in
-        let b = add-rest (packed (s .kind) c₀ + packed c₀ c₁) (packed c₁ c₂) (omega (arith, a, g₀ .small, g₁ .small, g₂ .small)) in
-        add-rest (packed (s .kind) c₀ + packed c₀ c₁ + packed c₁ c₂) (packed c₂ c₃) (omega (arith, a, b, g₀ .small, g₁ .small, g₂ .small, g₃ .small)) ∙ omega (arith, a, b)
+-- four need only be added where their sum has no stop
+pub sees-four : (m : List ℕ) → ((j : ℕ) → getD m j 0 < 256) → (s : Seen) → Sees m s → s .at + 4 ≤ length m → s .at + 4 ≤ s .limit → fourAt m (s .at) (s .kind) < 0x100000
+    → Adds m s 4 (fourAt m (s .at) (s .kind)) (silentFour m (s .at)) (classAt m (s .at + 3))
+sees-four m bytes s w h l p =
+    let f = fours m (s .kind) (s .at) in
+    rw (f .0, f .1, f .2) (adds-up m bytes 4 (omega arith) s w h l (rw (f .0) at p))

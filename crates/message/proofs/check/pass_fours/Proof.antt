@@ -1,11 +1,12 @@
 -- Four bytes without a stop are seen one after the other; at the first stop, or at the end, what is seen stays true.
 -- Assumes nothing.
-use Prim.Native.Nat.{ℕ, _-_, _<_, _≤_}
+use Prim.Native.Nat.{ℕ, _+_, _-_, _<_, _≤_}
 use native.Mathlib.Omega.{arith}
 use lib.ListN.{getD}
+use Rattle.message.specs.Classes.{classAt}
 use Rattle.message.specs.declared.Seen.{Seen}
-use Rattle.message.specs.Steps.{Sees}
-use Rattle.message.proofs.Checking.{kind-small, sum-small, Four, sees-four}
+use Rattle.message.specs.Steps.{Sees, fourAt, silentFour}
+use Rattle.message.proofs.Checking.{kind-small, sum-small, Adds, sees-four}
 use Rattle.message.proofs.check.pass_fours.Statement.{statement}
 use Rattle.message.proofs.check.pass_fours.Tie as tie
 
@@ -24,7 +25,7 @@ abbrev seen : tie.At-loop Inv-loop μ-loop → Seen
 seen l = record { at = l .loop .at; kind = l .loop .kind; from = l .before .before .args .seen .from; limit = l .before .before .args .seen .limit; sum = l .loop .sum }
 
 -- four bytes without a stop
-four : (c : tie.Else1 Inv-loop μ-loop) → let l = c .before .before .before in Four (l .before .before .args .m .now) (seen l)
+four : (c : tie.Else1 Inv-loop μ-loop) → let l = c .before .before .before in let m = l .before .before .args .m .now in let i = l .loop .at in Adds m (seen l) 4 (fourAt m i (l .loop .kind)) (silentFour m i) (classAt m (i + 3))
 four c =
     let l = c .before .before .before in
     let s = l .before .before in
