@@ -13,7 +13,7 @@ use Rattle.spec.specs.Alphabet.{mark, «ж», «и», «ц», «ш», «э»}
 use Rattle.spec.specs.Tables.{among}
 use Rattle.spec.specs.Letters.{Letter, Message, last, more, putLetter, read, firstWord, lastWord, beginsWithMark, small, plainVowels, softeningVowels, signs, isMark, isBreak, isVowel, isSign, isConsonant, isHardOnly, isPaired, isObstruent}
 use Rattle.spec.specs.Vowels.{hardEnd, endsHardFrom, endsHard}
-use Rattle.message.specs.Scan.{letterAt, letterBefore}
+use Rattle.message.specs.Classes.{letterAt, letterBefore}
 use Rattle.message.specs.Places.{leftAt, letterOf, Steady}
 use Rattle.spec.specs.Joints.{wordBefore, wordAfter, endsInObstruentFrom, endsInObstruent, beginsWithIOrE}
 use Rattle.message.proofs.Bytes.{below-same, not-both, break-vowel}

@@ -2,7 +2,7 @@
 ghost use mathlib.Core.Path.{_≡_};
 ghost use Prim.Native.Nat.{_-_};
 ghost use lib.ListN.{length, getD};
-ghost use Rattle.message.specs.Scan.{classes};
+ghost use Rattle.message.specs.Classes.{classes};
 ghost use Rattle.spec.specs.Tape.{tape};
 ghost use Rattle.spec.specs.Joints.{badCut, row12, joined, liveCount};
 ghost use Rattle.spec.specs.Answers.{JoinPromise};

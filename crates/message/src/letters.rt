@@ -4,7 +4,7 @@ ghost use Prim.Native.Nat.{_<_};
 ghost use lib.ListN.{length};
 ghost use Rattle.spec.specs.Letters.{small};
 ghost use Rattle.spec.specs.Elision.{elidesT, elidesD, elidesAmong};
-ghost use Rattle.message.specs.Scan.{letterAt, letterBefore, elidedAt};
+ghost use Rattle.message.specs.Classes.{letterAt, letterBefore, elidedAt, followsElided};
 use crate::classes::CAPITAL_YO;
 use crate::classes::CASE_STEP;
 use crate::classes::CHE;
@@ -75,15 +75,21 @@ fn elides(p: u8, b: u8, c: u8, d: u8) -> bool
     (b == DE) & elides_d(p, c, d)
 }
 
+// Does the letter stand after some silent letter? It does not in most words, and then nothing else is asked.
+fn follows_elided(c: u8) -> bool
+    ensures { λ r. ⌜ r ≡ followsElided c ⌝ }
+{
+    (c == EN) | ((c == ES) | ((c == TSE) | ((c == CHE) | (c == SHA))))
+}
+
 // Is the letter at place i silent?
 pub fn is_elided(m: &[u8], i: usize) -> bool
     requires { ⌜ i < length (now m) ⌝ }
     ensures { λ r. ⌜ r ≡ elidedAt (now (m .entry)) i ⌝ }
 {
-    elides(
-        letter_before(m, i),
-        letter_at(m, i),
-        letter_at(m, i + 1),
-        letter_at(m, i + 2),
-    )
+    let c = letter_at(m, i + 1);
+    if follows_elided(c) {
+        return elides(letter_before(m, i), letter_at(m, i), c, letter_at(m, i + 2));
+    }
+    false
 }

@@ -4,7 +4,7 @@ ghost use mathlib.Core.Bool.{true};
 ghost use mathlib.Core.List.{_++_};
 ghost use Prim.Native.Nat.{_<_, _≤_};
 ghost use lib.ListN.{length, drop, getD};
-ghost use Rattle.message.specs.Scan.{classes, classOf, isVowelClass};
+ghost use Rattle.message.specs.Classes.{classes, classOf, isVowelClass};
 ghost use Rattle.spec.specs.Syllables.{incomplete};
 ghost use Rattle.spec.specs.Tape.{names};
 ghost use Rattle.message.specs.Places.{Steady, leftAt};

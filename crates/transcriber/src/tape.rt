@@ -4,7 +4,7 @@ ghost use mathlib.Core.Bool.{true, false, cond};
 ghost use mathlib.Core.List.{[], _∷_};
 ghost use Prim.Native.Nat.{_+_, _%_, _<_, _≤_};
 ghost use lib.ListN.{length, getD};
-ghost use Rattle.message.specs.Scan.{classes, classOf, isBreakClass, isConsonantClass, isVowelClass, elidedAt};
+ghost use Rattle.message.specs.Classes.{classes, classOf, isBreakClass, isConsonantClass, isVowelClass, elidedAt};
 ghost use Rattle.spec.specs.Tape.{tape};
 ghost use Rattle.message.specs.Places.{Steady};
 ghost use Rattle.spec.specs.Answers.{afterCheck, TranscribePromise};

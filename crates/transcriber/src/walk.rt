@@ -2,7 +2,7 @@
 ghost use mathlib.Core.Path.{_≡_};
 ghost use Prim.Native.Nat.{_≤_};
 ghost use lib.ListN.{length};
-ghost use Rattle.message.specs.Scan.{classes};
+ghost use Rattle.message.specs.Classes.{classes};
 ghost use Rattle.message.specs.Places.{Steady, markBefore};
 ghost use Rattle.transcriber.specs.Sounds.{classBefore, hardBefore};
 

@@ -9,7 +9,7 @@ use lib.ListN.{length}
 use borrow.Author.Needs.{needs}
 use borrow.Author.Tests.{ne-eqb}
 use Rattle.spec.specs.Alphabet.{mark, «и», «э»}
-use Rattle.message.specs.Scan.{letterAt}
+use Rattle.message.specs.Classes.{letterAt}
 use Rattle.spec.specs.Joints.{wordAfter, beginsWithIOrE}
 use Rattle.laws.proofs.Cuts.{break-within}
 use Rattle.joiner.proofs.Sides.{begins-after}

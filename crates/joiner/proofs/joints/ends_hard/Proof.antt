@@ -11,7 +11,7 @@ use Rattle.spec.specs.Alphabet.{«ь»}
 use Rattle.spec.specs.Tables.{among}
 use Rattle.spec.specs.Letters.{isHardOnly, isPaired}
 use Rattle.spec.specs.Vowels.{hardEnd, endsHard}
-use Rattle.message.specs.Scan.{letterBefore}
+use Rattle.message.specs.Classes.{letterBefore}
 use Rattle.spec.specs.Joints.{wordBefore}
 use Rattle.joiner.proofs.Sides.{hard-before}
 use Rattle.joiner.proofs.joints.ends_hard.Statement.{statement}

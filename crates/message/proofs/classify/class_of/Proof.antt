@@ -4,7 +4,7 @@ use Prim.Native.Nat.{_<_}
 use native.Mathlib.Omega.{arith}
 use borrow.Author.Needs.{needs}
 use Rattle.message.proofs.Bytes.{by-class}
-use Rattle.message.proofs.ScanTable.{class-read}
+use Rattle.message.proofs.StepTable.{class-read}
 use Rattle.message.proofs.classify.class_of.Statement.{statement}
 use Rattle.message.proofs.classify.class_of.Tie as tie
 
