@@ -6,7 +6,8 @@ use lib.ListN.{getD}
 use Rattle.message.specs.Classes.{classAt}
 use Rattle.message.specs.declared.Seen.{Seen}
 use Rattle.message.specs.Steps.{Sees, fourAt, silentFour}
-use Rattle.message.proofs.Checking.{kind-small, sum-small, Adds, sees-four}
+use Rattle.message.proofs.Checking.{sum-small, Adds, sees-four}
+use Rattle.message.proofs.Faults.{kind-small}
 use Rattle.message.proofs.check.pass_fours.Statement.{statement}
 use Rattle.message.proofs.check.pass_fours.Tie as tie
 

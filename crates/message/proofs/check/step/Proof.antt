@@ -8,7 +8,8 @@ use lib.ListN.{length, getD}
 use Rattle.message.specs.Classes.{classAt, silentAt}
 use Rattle.message.specs.Steps.{packed}
 use Rattle.message.proofs.Bytes.{by-class}
-use Rattle.message.proofs.Checking.{kind-small, sum-small, sees-more, stop-here, full-here, clear-other, gives}
+use Rattle.message.proofs.Checking.{sum-small, sees-more, stop-here, full-here, clear-other, gives}
+use Rattle.message.proofs.Faults.{kind-small}
 use borrow.Author.Needs.{needs}
 use Rattle.message.proofs.check.step.Statement.{statement}
 use Rattle.message.proofs.check.step.Tie as tie

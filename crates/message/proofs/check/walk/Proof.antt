@@ -6,7 +6,8 @@ use native.Mathlib.Omega.{arith}
 use lib.ListN.{length, getD}
 use borrow.Author.Needs.{needs}
 use Rattle.message.specs.Steps.{Sees}
-use Rattle.message.proofs.Checking.{kind-small, sees-none, seen-fault, seen-all}
+use Rattle.message.proofs.Checking.{sees-none, seen-all}
+use Rattle.message.proofs.Faults.{kind-small, seen-fault}
 use Rattle.message.proofs.check.walk.Statement.{statement}
 use Rattle.message.proofs.check.walk.Tie as tie
 
