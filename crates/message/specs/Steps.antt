@@ -158,6 +158,12 @@ pub record Counted (m : List ℕ) (i : ℕ) (s : Seen) : Type 0 where
   pub place : s .at ≡ i
   pub full : s .limit ≤ i → lettersAt m i ≡ 64
 
+-- The check begins: there is a byte, and not too many.
+pub record Begins (m t s : List ℕ) : Type 0 where
+  pub tables : Tables t s
+  pub some : 0 < length m
+  pub short : length m ≤ 4096
+
 -- The check stands at a byte.
 pub record Stands (m t s : List ℕ) (seen : Seen) : Type 0 where
   pub tables : Tables t s

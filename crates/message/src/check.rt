@@ -6,7 +6,7 @@ ghost use lib.Dec.{leb};
 ghost use lib.ListN.{length};
 ghost use Rattle.spec.specs.Refusals.{checkOf};
 ghost use Rattle.message.specs.Classes.{classes, isLetterClass, classAt, silentAt};
-ghost use Rattle.message.specs.Steps.{nextKind, packed, tailNames, lettersAt, Sees, Tables, Reads, fourAt, silentFour, Weighs, FoursTo, Goes, Counted, Stands, Judged, finishOf};
+ghost use Rattle.message.specs.Steps.{nextKind, packed, tailNames, lettersAt, Sees, Begins, Reads, fourAt, silentFour, Weighs, FoursTo, Goes, Counted, Stands, Judged, finishOf};
 use crate::Seen;
 use crate::Step;
 use crate::classes::AFTER_VOWEL_STEP;
@@ -263,7 +263,7 @@ fn finish(n: usize, seen: Seen) -> Checked
 
 // All bytes from the left, until the first fault.
 fn walk(m: &[u8], t: &[u8; BYTES], s: &[u32; PAIRS_SIZE]) -> Checked
-    requires { ⌜ Tables (now t) (now s) × (0 < length (now m)) × (length (now m) ≤ 4096) ⌝ }
+    requires { ⌜ Begins (now m) (now t) (now s) ⌝ }
     ensures { λ r. ⌜ r ≡ checkOf (now (m .entry)) ⌝ }
 {
     let mut seen = Seen {
