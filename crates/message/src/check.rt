@@ -15,6 +15,7 @@ use crate::classes::BYTES;
 use crate::classes::COLUMNS;
 use crate::classes::FIRST_LETTER;
 use crate::classes::GAP;
+use crate::classes::HARD_ONLY;
 use crate::classes::HARD_SIGN;
 use crate::classes::HARD_SIGN_AFTER_VOWEL;
 use crate::classes::LETTERS_MAX;
@@ -26,6 +27,7 @@ use crate::classes::PAUSE;
 use crate::classes::PLAIN_VOWEL;
 use crate::classes::SOFT_ONLY;
 use crate::classes::SOFT_SIGN;
+use crate::classes::SOFT_SIGN_AFTER_VOWEL;
 use crate::classes::STOP;
 use crate::classes::T_OR_D;
 use crate::classes::VOWEL_I;
@@ -235,10 +237,12 @@ fn fours_to(n: usize) -> usize
 
 // How many names an incomplete syllable before the end of a word makes, k being the last kind.
 fn tail_names(k: usize) -> usize
-    requires { ⌜ k < 16 ⌝ }
     ensures { λ r. ⌜ (r ≡ tailNames k) × (r ≤ 1) ⌝ }
 {
-    if (HARD_SIGN <= k) & (k <= SOFT_ONLY) | (HARD_SIGN_AFTER_VOWEL <= k) {
+    let consonant = (HARD_ONLY <= k) & (k <= SOFT_ONLY);
+    let sign = ((HARD_SIGN <= k) & (k <= SOFT_SIGN))
+        | ((HARD_SIGN_AFTER_VOWEL <= k) & (k <= SOFT_SIGN_AFTER_VOWEL));
+    if consonant | sign {
         return 1;
     }
     0
@@ -246,7 +250,7 @@ fn tail_names(k: usize) -> usize
 
 // A message of n bytes, when all have been seen: a break last is a fault, a word's last syllable may be incomplete.
 fn finish(n: usize, seen: Seen) -> Checked
-    requires { ⌜ (0 < n) × (seen .kind < 16) ⌝ }
+    requires { ⌜ 0 < n ⌝ }
     ensures { λ r. ⌜ r ≡ finishOf n seen ⌝ }
 {
     let kind = seen.kind;

@@ -7,7 +7,7 @@ use lib.ListN.{length, getD}
 use borrow.Author.Needs.{needs}
 use Rattle.message.specs.Steps.{Sees}
 use Rattle.message.proofs.Checking.{sees-none, seen-all}
-use Rattle.message.proofs.Faults.{kind-small, seen-fault}
+use Rattle.message.proofs.Faults.{seen-fault}
 use Rattle.message.proofs.check.walk.Statement.{statement}
 use Rattle.message.proofs.check.walk.Tie as tie
 
@@ -75,9 +75,7 @@ loop-again-2 : tie.Need-loop-again-2 Inv-loop μ-loop
 loop-again-2 c = c .before .before .pass-fours .ensures .0
 
 finish-requires : tie.Need-finish-requires Inv-loop μ-loop
-finish-requires c κs = let l = c .before .before in
-    let s = l .before .before in
-    (s .pre .some, rw (l .loop .inv .kind) (kind-small (s .args .m .now) (bytes l) (l .loop .seen .at)))
+finish-requires c κs = c .before .before .before .before .pre .some
 
 returns-2 : tie.Need-returns-2 Inv-loop μ-loop
 returns-2 c = let e = c .before in
