@@ -11,7 +11,7 @@ use lib.ListN.{length, getD}
 use borrow.Author.Tests.{eqb-true, eqb-false, leb-true, leb-false, ne-eqb}
 use Rattle.spec.specs.Refusals.{refusal, checkOf}
 use Rattle.message.specs.Classes.{isBreakClass, isLetterClass, classAt, silentAt}
-use Rattle.message.specs.Steps.{nextKind, faultIn, widthIn, namesIn, askIn, tailNames, packed, kindAt, widthAt, codesTo, namesTo, lettersAt, faultHere, Sees, fourAt, silentFour, Counted, finishOf}
+use Rattle.message.specs.Steps.{nextKind, faultIn, widthIn, namesIn, askIn, tailNames, packed, kindAt, widthAt, codesTo, namesTo, lettersAt, faultHere, Sees, fourAt, silentFour, Counted, finishOf, nameUnit, askUnit, stopUnit}
 use Rattle.spec.specs.declared.Checked.the-variants.{Accepted, Refused}
 use Rattle.message.specs.declared.Seen.{Seen}
 use Rattle.laws.proofs.Accepted.{countsOf}
@@ -33,13 +33,13 @@ seen-all m s bytes z l w e = rw (rw e at (w .kind), codes, names) (by (isBreakCl
     up : (codesTo m n ≤ 2 * n) × (namesTo m n ≤ n)
     up = counts-up m bytes n
 
-    sum : s .sum ≡ codesTo m n + 0x4000 * namesTo m n
+    sum : s .sum ≡ codesTo m n + nameUnit * namesTo m n
     sum = rw e at (w .sum)
 
-    codes : s .sum % 0x4000 ≡ codesTo m n
+    codes : s .sum % nameUnit ≡ codesTo m n
     codes = omega (arith, sum, up .0)
 
-    names : s .sum / 0x4000 ≡ namesTo m n
+    names : s .sum / nameUnit ≡ namesTo m n
     names = omega (arith, sum, up .0)
 
     by : (t : Bool) → isBreakClass (kindAt m n) ≡ t
@@ -87,7 +87,7 @@ unfolding kindAt codesTo namesTo lettersAt
 sees-none m = record { within = omega arith; clear = λ j h. absurd (omega arith); kind = refl; sum = refl; from = omega arith; limit = refl }
 
 -- a sum is small
-pub sum-small : (m : List ℕ) → ((j : ℕ) → getD m j 0 < 256) → (s : Seen) → Sees m s → s .sum ≤ 0x4002 * s .at
+pub sum-small : (m : List ℕ) → ((j : ℕ) → getD m j 0 < 256) → (s : Seen) → Sees m s → s .sum ≤ (nameUnit + 2) * s .at
 sum-small m bytes s w = let u = counts-up m bytes (s .at) in omega (arith, w .sum, u .0, u .1)
 
 -- before the limit a word has room for a letter
@@ -116,11 +116,11 @@ module _ (m : List ℕ) (bytes : (j : ℕ) → getD m j 0 < 256) (s : Seen) (w :
   entry-here = rw (w .kind) (entry-at m bytes (s .at))
 
   -- what it adds, with what it loses, is what its entry has
-  adds : widthAt m (s .at) (kindAt m (s .at)) + silentAt m (s .at) + 0x4000 * namesIn (kindAt m (s .at)) (classAt m (s .at)) ≡ packed (s .kind) (classAt m (s .at)) % 0x20000
+  adds : widthAt m (s .at) (kindAt m (s .at)) + silentAt m (s .at) + nameUnit * namesIn (kindAt m (s .at)) (classAt m (s .at)) ≡ packed (s .kind) (classAt m (s .at)) % askUnit
   adds = rw (w .kind) (omega (arith, width-silent m (s .at) bytes, unpacks _ _ (entry-at m bytes (s .at)) .counts))
 
   -- it is passed where it has no fault
-  pub sees-more : (sum : ℕ) → faultHere m (s .at) ≡ 0 → sum + silentAt m (s .at) ≡ s .sum + packed (s .kind) (classAt m (s .at)) % 0x20000
+  pub sees-more : (sum : ℕ) → faultHere m (s .at) ≡ 0 → sum + silentAt m (s .at) ≡ s .sum + packed (s .kind) (classAt m (s .at)) % askUnit
       → Sees m (record { at = suc (s .at); kind = nextKind (s .kind) (classAt m (s .at)); from = s .from; limit = s .limit; sum = sum })
   unfolding kindAt codesTo namesTo
   sees-more sum f e = record {
@@ -143,20 +143,20 @@ module _ (m : List ℕ) (bytes : (j : ℕ) → getD m j 0 < 256) (s : Seen) (w :
       clear-here m (s .at) (rw (w .kind) at f) (rw (z, and-false (isLetterClass (classAt m (s .at)))))
 
   -- a second stop is the byte's fault
-  pub stop-here : 0x200000 ≤ packed (s .kind) (classAt m (s .at)) → let n = packed (s .kind) (classAt m (s .at)) / 0x100000 - 1 in (faultHere m (s .at) ≡ n) × (n ≡ 0 → ⊥)
+  pub stop-here : 2 * stopUnit ≤ packed (s .kind) (classAt m (s .at)) → let n = packed (s .kind) (classAt m (s .at)) / stopUnit - 1 in (faultHere m (s .at) ≡ n) × (n ≡ 0 → ⊥)
   unfolding faultHere
   stop-here l =
       let u = unpacks _ _ entry-here .stop in
-      let f : packed (s .kind) (classAt m (s .at)) / 0x100000 ≡ suc (faultIn (s .kind) (classAt m (s .at))) = u ∙ stop-fault (s .kind) (classAt m (s .at)) (λ e. omega (arith, u, e)) in
+      let f : packed (s .kind) (classAt m (s .at)) / stopUnit ≡ suc (faultIn (s .kind) (classAt m (s .at))) = u ∙ stop-fault (s .kind) (classAt m (s .at)) (λ e. omega (arith, u, e)) in
       let z : faultIn (s .kind) (classAt m (s .at)) ≡ 0 → ⊥ = λ e. omega (arith, f, e) in
       (rw (← w .kind, ne-eqb (faultIn (s .kind) (classAt m (s .at))) 0 z) (omega (arith, f)), λ e. omega (arith, f, z, e))
 
   -- before it the byte has no fault but as a 65th letter
-  first-here : packed (s .kind) (classAt m (s .at)) < 0x200000 → faultIn (kindAt m (s .at)) (classAt m (s .at)) ≡ 0
+  first-here : packed (s .kind) (classAt m (s .at)) < 2 * stopUnit → faultIn (kindAt m (s .at)) (classAt m (s .at)) ≡ 0
   first-here l = rw (← w .kind) (first-stop (s .kind) (classAt m (s .at)) (omega (arith, unpacks _ _ entry-here .stop)))
 
   -- a letter at the limit, where that is counted, is one
-  pub full-here : packed (s .kind) (classAt m (s .at)) < 0x200000 → (s .limit ≤ s .at → lettersAt m (s .at) ≡ 64) → (isLetterClass (classAt m (s .at)) && leb (s .limit) (s .at)) ≡ true
+  pub full-here : packed (s .kind) (classAt m (s .at)) < 2 * stopUnit → (s .limit ≤ s .at → lettersAt m (s .at) ≡ 64) → (isLetterClass (classAt m (s .at)) && leb (s .limit) (s .at)) ≡ true
       → faultHere m (s .at) ≡ 10
   unfolding faultHere
   full-here l q e =
@@ -164,7 +164,7 @@ module _ (m : List ℕ) (bytes : (j : ℕ) → getD m j 0 < 256) (s : Seen) (w :
       rw (first-here l, b .0, q (leb-true _ _ (b .1)))
 
   -- any other byte is none
-  pub clear-other : packed (s .kind) (classAt m (s .at)) < 0x200000 → (isLetterClass (classAt m (s .at)) && leb (s .limit) (s .at)) ≡ false → faultHere m (s .at) ≡ 0
+  pub clear-other : packed (s .kind) (classAt m (s .at)) < 2 * stopUnit → (isLetterClass (classAt m (s .at)) && leb (s .limit) (s .at)) ≡ false → faultHere m (s .at) ≡ 0
   clear-other l e = clear-here m (s .at) (first-here l) (by (isLetterClass (classAt m (s .at))) (leb (s .limit) (s .at)) refl e)
     where
       by : (t u : Bool) → leb (s .limit) (s .at) ≡ u → (t && u) ≡ false → (t && eqb (lettersAt m (s .at)) 64) ≡ false
@@ -173,8 +173,8 @@ module _ (m : List ℕ) (bytes : (j : ℕ) → getD m j 0 < 256) (s : Seen) (w :
       by false u d z = refl
 
   -- where it is enough to add, its class is the next kind; j is the next place
-  pub sees-plain : (j sum : ℕ) → s .at + 1 ≡ j → s .at < s .limit → packed (s .kind) (classAt m (s .at)) < 0x100000
-      → sum + silentAt m (s .at) ≡ s .sum + packed (s .kind) (classAt m (s .at)) % 0x20000
+  pub sees-plain : (j sum : ℕ) → s .at + 1 ≡ j → s .at < s .limit → packed (s .kind) (classAt m (s .at)) < stopUnit
+      → sum + silentAt m (s .at) ≡ s .sum + packed (s .kind) (classAt m (s .at)) % askUnit
       → Sees m (record { at = j; kind = classAt m (s .at); from = s .from; limit = s .limit; sum = sum })
   sees-plain j sum d l p e =
       let u = unpacks _ _ entry-here in
@@ -184,9 +184,9 @@ module _ (m : List ℕ) (bytes : (j : ℕ) → getD m j 0 < 256) (s : Seen) (w :
 
   -- What the entry has: as many codes as the byte loses, no ask where it loses none, and not much.
   pub record Gives : Type 0 where
-    pub enough : silentAt m (s .at) ≤ packed (s .kind) (classAt m (s .at)) % 0x20000
-    pub plain : packed (s .kind) (classAt m (s .at)) < 0x20000 → silentAt m (s .at) ≡ 0
-    pub small : packed (s .kind) (classAt m (s .at)) % 0x20000 ≤ 0x4002
+    pub enough : silentAt m (s .at) ≤ packed (s .kind) (classAt m (s .at)) % askUnit
+    pub plain : packed (s .kind) (classAt m (s .at)) < askUnit → silentAt m (s .at) ≡ 0
+    pub small : packed (s .kind) (classAt m (s .at)) % askUnit ≤ nameUnit + 2
 
   -- it has
   pub gives : Gives
@@ -198,7 +198,7 @@ module _ (m : List ℕ) (bytes : (j : ℕ) → getD m j 0 < 256) (s : Seen) (w :
       record { enough = omega (arith, c, u .counts); plain = λ q. omega (arith, b, u .ask q); small = omega (arith, u .counts, entry-here .width, entry-here .names) }
 
 -- remainders that are small add up
-add-rest : (x y : ℕ) → x % 0x20000 + y % 0x20000 < 0x20000 → (x + y) % 0x20000 ≡ x % 0x20000 + y % 0x20000
+add-rest : (x y : ℕ) → x % askUnit + y % askUnit < askUnit → (x + y) % askUnit ≡ x % askUnit + y % askUnit
 add-rest x y h = omega (arith, h)
 
 -- n bytes from place i on, the first after kind k: the sum of their entries, the codes they lose, the kind after them
@@ -216,13 +216,13 @@ kindPast m k i (suc n) = kindPast m (classAt m i) (suc i) n
 
 -- They need only be added: x is the sum of their entries, and has the codes that they lose.
 pub record Adds (m : List ℕ) (s : Seen) (n x lost k : ℕ) : Type 0 where
-  pub enough : lost ≤ x % 0x20000
-  pub plain : x < 0x20000 → lost ≡ 0
-  pub small : x % 0x20000 ≤ 0x4002 * n
-  pub seen : (sum : ℕ) → sum + lost ≡ s .sum + x % 0x20000 → Sees m (record { at = s .at + n; kind = k; from = s .from; limit = s .limit; sum = sum })
+  pub enough : lost ≤ x % askUnit
+  pub plain : x < askUnit → lost ≡ 0
+  pub small : x % askUnit ≤ (nameUnit + 2) * n
+  pub seen : (sum : ℕ) → sum + lost ≡ s .sum + x % askUnit → Sees m (record { at = s .at + n; kind = k; from = s .from; limit = s .limit; sum = sum })
 
 -- one after the other
-adds-up : (m : List ℕ) → ((j : ℕ) → getD m j 0 < 256) → (n : ℕ) → n ≤ 7 → (s : Seen) → Sees m s → s .at + n ≤ length m → s .at + n ≤ s .limit → sums m (s .kind) (s .at) n < 0x100000
+adds-up : (m : List ℕ) → ((j : ℕ) → getD m j 0 < 256) → (n : ℕ) → n ≤ 7 → (s : Seen) → Sees m s → s .at + n ≤ length m → s .at + n ≤ s .limit → sums m (s .kind) (s .at) n < stopUnit
     → Adds m s n (sums m (s .kind) (s .at) n) (losses m (s .at) n) (kindPast m (s .kind) (s .at) n)
 unfolding sums losses kindPast
 adds-up m bytes zero l s w h u p = record {
@@ -237,7 +237,7 @@ adds-up m bytes (suc n) l s w h u p = by (adds-up m bytes n (omega arith) next s
     g = gives m bytes s w (omega (arith, h))
 
     next : Seen
-    next = record { at = suc (s .at); kind = classAt m (s .at); from = s .from; limit = s .limit; sum = s .sum + packed (s .kind) (classAt m (s .at)) % 0x20000 - silentAt m (s .at) }
+    next = record { at = suc (s .at); kind = classAt m (s .at); from = s .from; limit = s .limit; sum = s .sum + packed (s .kind) (classAt m (s .at)) % askUnit - silentAt m (s .at) }
 
     seen : Sees m next
     seen = sees-plain m bytes s w (omega (arith, h)) (suc (s .at)) _ (omega arith) (omega (arith, u)) (omega (arith, p)) (omega (arith, g .enough))
@@ -263,7 +263,7 @@ fours m k i =
     rw (a, b, c) (omega arith, omega arith, refl)
 
 -- four need only be added where their sum has no stop
-pub sees-four : (m : List ℕ) → ((j : ℕ) → getD m j 0 < 256) → (s : Seen) → Sees m s → s .at + 4 ≤ length m → s .at + 4 ≤ s .limit → fourAt m (s .at) (s .kind) < 0x100000
+pub sees-four : (m : List ℕ) → ((j : ℕ) → getD m j 0 < 256) → (s : Seen) → Sees m s → s .at + 4 ≤ length m → s .at + 4 ≤ s .limit → fourAt m (s .at) (s .kind) < stopUnit
     → Adds m s 4 (fourAt m (s .at) (s .kind)) (silentFour m (s .at)) (classAt m (s .at + 3))
 sees-four m bytes s w h l p =
     let f = fours m (s .kind) (s .at) in

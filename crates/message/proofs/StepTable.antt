@@ -13,7 +13,7 @@ use Rattle.spec.specs.Tables.{among}
 use Rattle.spec.specs.Letters.{small}
 use Rattle.spec.specs.Elision.{elidesT, elidesD, elidesAmong}
 use Rattle.message.specs.Classes.{classOf, classAt, tabulate, classes, letterAt, letterBefore, elidedAt, silentAt}
-use Rattle.message.specs.Steps.{nextKind, faultIn, widthIn, namesIn, askIn, stopIn, packed, pairs, kindAt, widthAt}
+use Rattle.message.specs.Steps.{nextKind, faultIn, widthIn, namesIn, askIn, stopIn, packed, pairs, kindAt, widthAt, nameUnit, askUnit, stopUnit}
 use Rattle.message.proofs.Bytes.{below, pairs-same, by-class, not-both}
 use Rattle.laws.proofs.Classes.{among-none}
 use Rattle.message.proofs.Computed.{everything}
@@ -103,10 +103,10 @@ entry-holds k c h l = record { width = most widthIn 2 refl; names = most namesIn
 
 -- What is packed can be taken apart.
 pub record Unpacks (k c : ℕ) : Type 0 where
-  pub counts : packed k c % 0x20000 ≡ widthIn k c + 0x4000 * namesIn k c
-  pub ask : packed k c < 0x20000 → askIn k c ≡ 0
-  pub stop : packed k c / 0x100000 ≡ stopIn k c
-  pub small : packed k c < 0x2000000
+  pub counts : packed k c % askUnit ≡ widthIn k c + nameUnit * namesIn k c
+  pub ask : packed k c < askUnit → askIn k c ≡ 0
+  pub stop : packed k c / stopUnit ≡ stopIn k c
+  pub small : packed k c < 32 * stopUnit
 
 -- every entry can
 pub unpacks : (k c : ℕ) → Entry k c → Unpacks k c

@@ -1,12 +1,12 @@
 // The message check: one walk from left to right. Nearly all bytes are passed by fours, since what a byte adds depends on its class and the class before it alone.
 ghost use mathlib.Core.Path.{_≡_};
 ghost use mathlib.Core.Bool.{_&&_};
-ghost use Prim.Native.Nat.{_+_, _<_, _≤_, _%_};
+ghost use Prim.Native.Nat.{_+_, _*_, _<_, _≤_, _%_};
 ghost use lib.Dec.{leb};
 ghost use lib.ListN.{length};
 ghost use Rattle.spec.specs.Refusals.{checkOf};
 ghost use Rattle.message.specs.Classes.{classes, isLetterClass, classAt, silentAt};
-ghost use Rattle.message.specs.Steps.{nextKind, packed, tailNames, lettersAt, Sees, Begins, Reads, fourAt, silentFour, Weighs, FoursTo, Goes, Counted, Stands, Judged, finishOf};
+ghost use Rattle.message.specs.Steps.{nextKind, packed, tailNames, lettersAt, Sees, Begins, Reads, fourAt, silentFour, Weighs, FoursTo, Goes, Counted, Stands, Judged, finishOf, askUnit, stopUnit};
 use crate::Seen;
 use crate::Step;
 use crate::classes::AFTER_VOWEL_STEP;
@@ -42,7 +42,7 @@ use spec::Refusal;
 // The entry for the byte at place i after kind k.
 fn entry_at(m: &[u8], i: usize, k: usize, t: &[u8; BYTES], s: &[u32; PAIRS_SIZE]) -> usize
     requires { ⌜ Reads (now m) (now t) (now s) k (i + 1) ⌝ }
-    ensures { λ r. ⌜ (r ≡ packed k (classAt (now (m .entry)) i)) × (r < 0x2000000) ⌝ }
+    ensures { λ r. ⌜ (r ≡ packed k (classAt (now (m .entry)) i)) × (r < 32 * stopUnit) ⌝ }
 {
     let c = class_of(m[i], t);
     s[COLUMNS * k + c] as usize
@@ -86,7 +86,7 @@ fn silent_four(m: &[u8], i: usize, t: &[u8; BYTES]) -> usize
 // What four bytes add, x being the sum of their entries.
 fn weigh_four(m: &[u8], i: usize, x: usize, t: &[u8; BYTES]) -> usize
     requires { ⌜ Weighs (now m) (now t) i x ⌝ }
-    ensures { λ r. ⌜ r + silentFour (now (m .entry)) i ≡ x % 0x20000 ⌝ }
+    ensures { λ r. ⌜ r + silentFour (now (m .entry)) i ≡ x % askUnit ⌝ }
 {
     if x < ASK {
         return x;

@@ -1,12 +1,12 @@
 -- The entry tells the case: a fault, or a byte that is passed unless it is a 65th letter.
 -- Assumes nothing.
-use Prim.Native.Nat.{ℕ, _-_, _%_, _<_, _≤_}
+use Prim.Native.Nat.{ℕ, _*_, _-_, _%_, _<_, _≤_}
 use mathlib.Core.Path.{sym, _∙_}
 use native.Mathlib.Numerals.{add-one}
 use native.Mathlib.Omega.{arith}
 use lib.ListN.{length, getD}
 use Rattle.message.specs.Classes.{classAt, silentAt}
-use Rattle.message.specs.Steps.{packed}
+use Rattle.message.specs.Steps.{packed, askUnit, stopUnit}
 use Rattle.message.proofs.Bytes.{by-class}
 use Rattle.message.proofs.Checking.{sum-small, sees-more, stop-here, full-here, clear-other, gives}
 use Rattle.message.proofs.Faults.{kind-small}
@@ -23,11 +23,11 @@ byte : (c : tie.After-class-of) → c .before .before .count-on .result .at < le
 byte c = omega (arith, c .before .before .count-on .ensures .place, c .before .before .before .before .pre .byte)
 
 -- its entry has the codes that it loses
-enough : (c : tie.After-class-of) → let r = c .before .before .count-on .result in let m = c .before .before .before .before .args .m .now in silentAt m (r .at) ≤ packed (r .kind) (classAt m (r .at)) % 0x20000
+enough : (c : tie.After-class-of) → let r = c .before .before .count-on .result in let m = c .before .before .before .before .args .m .now in silentAt m (r .at) ≤ packed (r .kind) (classAt m (r .at)) % askUnit
 enough c = let r = c .before .before .count-on in gives (c .before .before .before .before .args .m .now) (bytes c) (r .result) (r .ensures .sees) (byte c) .enough
 
 -- without a second stop
-unstopped : (c : tie.Else1) → let k = c .before .before in let r = k .before .before .count-on .result in packed (r .kind) (classAt (k .before .before .before .before .args .m .now) (r .at)) < 0x200000
+unstopped : (c : tie.Else1) → let k = c .before .before in let r = k .before .before .count-on .result in packed (r .kind) (classAt (k .before .before .before .before .args .m .now) (r .at)) < 2 * stopUnit
 unstopped c = omega (arith, c .before .entry-at .ensures .0, c .if1 .left)
 
 count-on-requires : tie.Need-count-on-requires
