@@ -49,47 +49,67 @@ pub fn letter_before(m: &[u8], i: usize) -> u8
     letter_at(m, i - 1)
 }
 
+fn is_letter(b: u8, x: u8) -> bool {
+    (b == x) | (b == x - CASE_STEP)
+}
+
 // т after p and before c and d: after с before ск or н; after н before ск.
 fn elides_t(p: u8, c: u8, d: u8) -> bool
     ensures { λ r. ⌜ r ≡ elidesT p c d ⌝ }
 {
-    (p == ES) & ((c == ES) & (d == KA) | (c == EN)) | (p == EN) & ((c == ES) & (d == KA))
+    is_letter(p, ES) & (is_letter(c, ES) & is_letter(d, KA) | is_letter(c, EN)) | is_letter(p, EN) & (is_letter(c, ES) & is_letter(d, KA))
 }
 
 // д after p and before c and d: after р before ч or ц; after з before н or ц; after н before ц, с or шт.
 fn elides_d(p: u8, c: u8, d: u8) -> bool
     ensures { λ r. ⌜ r ≡ elidesD p c d ⌝ }
 {
-    (p == ER) & ((c == CHE) | (c == TSE))
-        | ((p == ZE) & ((c == EN) | (c == TSE))
-            | (p == EN) & ((c == TSE) | ((c == ES) | (c == SHA) & (d == TE))))
+    is_letter(p, ER) & (is_letter(c, CHE) | is_letter(c, TSE))
+        | (is_letter(p, ZE) & (is_letter(c, EN) | is_letter(c, TSE))
+            | is_letter(p, EN) & (is_letter(c, TSE) | (is_letter(c, ES) | is_letter(c, SHA) & is_letter(d, TE))))
 }
 
 // Is the letter b silent between these letters, 0 for none?
 fn elides(p: u8, b: u8, c: u8, d: u8) -> bool
     ensures { λ r. ⌜ r ≡ elidesAmong p b c d ⌝ }
 {
-    if b == TE {
+    if is_letter(b, TE) {
         return elides_t(p, c, d);
     }
-    (b == DE) & elides_d(p, c, d)
+    is_letter(b, DE) & elides_d(p, c, d)
 }
 
 // Does the letter stand after some silent letter? It does not in most words, and then nothing else is asked.
 fn follows_elided(c: u8) -> bool
     ensures { λ r. ⌜ r ≡ followsElided c ⌝ }
 {
-    (c == EN) | ((c == ES) | ((c == TSE) | ((c == CHE) | (c == SHA))))
+    is_letter(c, EN) | (is_letter(c, ES) | (is_letter(c, TSE) | (is_letter(c, CHE) | is_letter(c, SHA))))
 }
 
-// Is the letter at place i silent?
+// The same of bytes, small letters or capitals.
+fn elides_byte(p: u8, b: u8, c: u8, d: u8) -> bool
+    ensures { λ r. ⌜ r ≡ elidesAmong (small p) (small b) (small c) (small d) ⌝ }
+{
+    if follows_elided(c) {
+        return elides(p, b, c, d);
+    }
+    false
+}
+
+// Is the letter at place i silent? A silent letter stands between two others. It asks of four bytes and lends no slice, so that a caller's loop keeps
+// the message in registers; and it asks at two places, so that the compiler does not copy the whole question into that loop.
 pub fn is_elided(m: &[u8], i: usize) -> bool
     requires { ⌜ i < length (now m) ⌝ }
     ensures { λ r. ⌜ r ≡ elidedAt (now (m .entry)) i ⌝ }
 {
-    let c = letter_at(m, i + 1);
-    if follows_elided(c) {
-        return elides(letter_before(m, i), letter_at(m, i), c, letter_at(m, i + 2));
+    if i == 0 {
+        return false;
     }
-    false
+    if m.len() <= i + 1 {
+        return false;
+    }
+    if m.len() == i + 2 {
+        return elides_byte(m[i - 1], m[i], m[i + 1], 0);
+    }
+    elides_byte(m[i - 1], m[i], m[i + 1], m[i + 2])
 }
