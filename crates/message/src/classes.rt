@@ -63,6 +63,8 @@ pub const FIRST_CAPITAL: u8 = 0xC0;
 
 pub const LAST_CAPITAL: u8 = 0xDF;
 
+pub const FIRST_SMALL: u8 = 0xE0;
+
 pub const CASE_STEP: u8 = 32;
 
 pub const YO: u8 = 0xB8;

@@ -4,7 +4,7 @@ ghost use Prim.Native.Nat.{_<_};
 ghost use lib.ListN.{length};
 ghost use Rattle.spec.specs.Letters.{small};
 ghost use Rattle.spec.specs.Elision.{elidesT, elidesD, elidesAmong};
-ghost use Rattle.message.specs.Classes.{letterAt, letterBefore, elidedAt, followsElided};
+ghost use Rattle.message.specs.Classes.{letterAt, letterBefore, elidedAt, followsElided, foldOf};
 use crate::classes::CAPITAL_YO;
 use crate::classes::CASE_STEP;
 use crate::classes::CHE;
@@ -13,6 +13,7 @@ use crate::classes::EN;
 use crate::classes::ER;
 use crate::classes::ES;
 use crate::classes::FIRST_CAPITAL;
+use crate::classes::FIRST_SMALL;
 use crate::classes::KA;
 use crate::classes::LAST_CAPITAL;
 use crate::classes::SHA;
@@ -49,49 +50,56 @@ pub fn letter_before(m: &[u8], i: usize) -> u8
     letter_at(m, i - 1)
 }
 
-fn is_letter(b: u8, x: u8) -> bool {
-    (b == x) | (b == x - CASE_STEP)
-}
-
 // т after p and before c and d: after с before ск or н; after н before ск.
 fn elides_t(p: u8, c: u8, d: u8) -> bool
     ensures { λ r. ⌜ r ≡ elidesT p c d ⌝ }
 {
-    is_letter(p, ES) & (is_letter(c, ES) & is_letter(d, KA) | is_letter(c, EN)) | is_letter(p, EN) & (is_letter(c, ES) & is_letter(d, KA))
+    (p == ES) & ((c == ES) & (d == KA) | (c == EN)) | (p == EN) & ((c == ES) & (d == KA))
 }
 
 // д after p and before c and d: after р before ч or ц; after з before н or ц; after н before ц, с or шт.
 fn elides_d(p: u8, c: u8, d: u8) -> bool
     ensures { λ r. ⌜ r ≡ elidesD p c d ⌝ }
 {
-    is_letter(p, ER) & (is_letter(c, CHE) | is_letter(c, TSE))
-        | (is_letter(p, ZE) & (is_letter(c, EN) | is_letter(c, TSE))
-            | is_letter(p, EN) & (is_letter(c, TSE) | (is_letter(c, ES) | is_letter(c, SHA) & is_letter(d, TE))))
+    (p == ER) & ((c == CHE) | (c == TSE))
+        | ((p == ZE) & ((c == EN) | (c == TSE))
+            | (p == EN) & ((c == TSE) | ((c == ES) | (c == SHA) & (d == TE))))
 }
 
 // Is the letter b silent between these letters, 0 for none?
 fn elides(p: u8, b: u8, c: u8, d: u8) -> bool
     ensures { λ r. ⌜ r ≡ elidesAmong p b c d ⌝ }
 {
-    if is_letter(b, TE) {
+    if b == TE {
         return elides_t(p, c, d);
     }
-    is_letter(b, DE) & elides_d(p, c, d)
+    (b == DE) & elides_d(p, c, d)
 }
 
 // Does the letter stand after some silent letter? It does not in most words, and then nothing else is asked.
 fn follows_elided(c: u8) -> bool
     ensures { λ r. ⌜ r ≡ followsElided c ⌝ }
 {
-    is_letter(c, EN) | (is_letter(c, ES) | (is_letter(c, TSE) | (is_letter(c, CHE) | is_letter(c, SHA))))
+    (c == EN) | ((c == ES) | ((c == TSE) | ((c == CHE) | (c == SHA))))
+}
+
+// The letter of a byte as the rules of silent letters need it: what is no letter from а to я, small or capital, is 0.
+fn fold_case(b: u8) -> u8
+    ensures { λ r. ⌜ r ≡ foldOf b ⌝ }
+{
+    if b < FIRST_CAPITAL {
+        return 0;
+    }
+    b % CASE_STEP + FIRST_SMALL
 }
 
 // The same of bytes, small letters or capitals.
 fn elides_byte(p: u8, b: u8, c: u8, d: u8) -> bool
     ensures { λ r. ⌜ r ≡ elidesAmong (small p) (small b) (small c) (small d) ⌝ }
 {
-    if follows_elided(c) {
-        return elides(p, b, c, d);
+    let next = fold_case(c);
+    if follows_elided(next) {
+        return elides(fold_case(p), fold_case(b), next, fold_case(d));
     }
     false
 }
