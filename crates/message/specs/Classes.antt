@@ -71,6 +71,10 @@ elidedAt m i = elidesAmong (letterBefore m i) (letterAt m i) (letterAt m (i + 1)
 abbrev pub followsElided : ℕ → Bool
 followsElided c = eqb c «н» || (eqb c «с» || (eqb c «ц» || (eqb c «ч» || eqb c «ш»)))
 
+-- the bytes of т and д
+abbrev pub isTOrD : ℕ → Bool
+isTOrD b = eqb b «т» || (eqb b 0xD2 || (eqb b «д» || eqb b 0xC4))
+
 -- the small letter of a byte among а to я; 0 for any other byte, ё too
 abbrev pub foldOf : ℕ → ℕ
 foldOf b = cond (leb 0xC0 b) (b % 32 + 0xE0) 0

@@ -144,8 +144,7 @@ abbrev pub silentFour : List ℕ → ℕ → ℕ
 silentFour m i = silentAt m i + silentAt m (i + 1) + silentAt m (i + 2) + silentAt m (i + 3)
 
 -- Four bytes from place i on can be weighed: x has at least as many codes as they lose, and asks where they lose any.
-pub record Weighs (m t : List ℕ) (i x : ℕ) : Type 0 where
-  pub classes : t ≡ classes
+pub record Weighs (m : List ℕ) (i x : ℕ) : Type 0 where
   pub within : i + 4 ≤ length m
   pub enough : silentFour m i ≤ x % askUnit
   pub plain : x < askUnit → silentFour m i ≡ 0

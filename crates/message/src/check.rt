@@ -29,11 +29,11 @@ use crate::classes::SOFT_ONLY;
 use crate::classes::SOFT_SIGN;
 use crate::classes::SOFT_SIGN_AFTER_VOWEL;
 use crate::classes::STOP;
-use crate::classes::T_OR_D;
 use crate::classes::VOWEL_I;
 use crate::classify::class_of;
 use crate::classify::class_table;
 use crate::letters::is_elided;
+use crate::letters::is_t_or_d;
 use crate::pairs::pair_table;
 use spec::Checked;
 use spec::Counts;
@@ -62,12 +62,12 @@ fn sum_four(m: &[u8], i: usize, k: usize, t: &[u8; BYTES], s: &[u32; PAIRS_SIZE]
         + entry_at(m, i + 3, c, t, s)
 }
 
-// How many codes the byte at place i loses: only т and д are elided, so no other class is asked of.
-fn silent_at(m: &[u8], i: usize, t: &[u8; BYTES]) -> usize
-    requires { ⌜ (now t ≡ classes) × (i < length (now m)) ⌝ }
+// How many codes the byte at place i loses: only т and д are elided, so no other byte is asked of.
+fn silent_at(m: &[u8], i: usize) -> usize
+    requires { ⌜ i < length (now m) ⌝ }
     ensures { λ r. ⌜ (r ≡ silentAt (now (m .entry)) i) × (r ≤ 1) ⌝ }
 {
-    if class_of(m[i], t) == T_OR_D {
+    if is_t_or_d(m[i]) {
         if is_elided(m, i) {
             return 1;
         }
@@ -76,22 +76,22 @@ fn silent_at(m: &[u8], i: usize, t: &[u8; BYTES]) -> usize
 }
 
 // How many codes four bytes lose.
-fn silent_four(m: &[u8], i: usize, t: &[u8; BYTES]) -> usize
-    requires { ⌜ (now t ≡ classes) × (i + 4 ≤ length (now m)) ⌝ }
+fn silent_four(m: &[u8], i: usize) -> usize
+    requires { ⌜ i + 4 ≤ length (now m) ⌝ }
     ensures { λ r. ⌜ r ≡ silentFour (now (m .entry)) i ⌝ }
 {
-    silent_at(m, i, t) + silent_at(m, i + 1, t) + silent_at(m, i + 2, t) + silent_at(m, i + 3, t)
+    silent_at(m, i) + silent_at(m, i + 1) + silent_at(m, i + 2) + silent_at(m, i + 3)
 }
 
 // What four bytes add, x being the sum of their entries.
-fn weigh_four(m: &[u8], i: usize, x: usize, t: &[u8; BYTES]) -> usize
-    requires { ⌜ Weighs (now m) (now t) i x ⌝ }
+fn weigh_four(m: &[u8], i: usize, x: usize) -> usize
+    requires { ⌜ Weighs (now m) i x ⌝ }
     ensures { λ r. ⌜ r + silentFour (now (m .entry)) i ≡ x % askUnit ⌝ }
 {
     if x < ASK {
         return x;
     }
-    x % ASK - silent_four(m, i, t)
+    x % ASK - silent_four(m, i)
 }
 
 // Passes bytes by fours while these begin before place to and need no more than to be added. This loop has nearly all bytes, so it does nothing else.
@@ -115,7 +115,7 @@ fn pass_fours(m: &[u8], to: usize, seen: Seen, t: &[u8; BYTES], s: &[u32; PAIRS_
                 sum,
             };
         }
-        sum += weigh_four(m, at, x, t);
+        sum += weigh_four(m, at, x);
         kind = class_of(m[at + 3], t);
         at += 4;
     }
@@ -205,7 +205,7 @@ fn step(m: &[u8], seen: Seen, t: &[u8; BYTES], s: &[u32; PAIRS_SIZE]) -> Step
         return Step::Fault(10);
     }
     let kind = next_kind(counted.kind, c);
-    let sum = counted.sum + e % ASK - silent_at(m, at, t);
+    let sum = counted.sum + e % ASK - silent_at(m, at);
     Step::Next(Seen {
         at: at + 1,
         kind,

@@ -4,7 +4,9 @@ ghost use Prim.Native.Nat.{_<_};
 ghost use lib.ListN.{length};
 ghost use Rattle.spec.specs.Letters.{small};
 ghost use Rattle.spec.specs.Elision.{elidesT, elidesD, elidesAmong};
-ghost use Rattle.message.specs.Classes.{letterAt, letterBefore, elidedAt, followsElided, foldOf};
+ghost use Rattle.message.specs.Classes.{letterAt, letterBefore, elidedAt, followsElided, foldOf, isTOrD};
+use crate::classes::CAPITAL_DE;
+use crate::classes::CAPITAL_TE;
 use crate::classes::CAPITAL_YO;
 use crate::classes::CASE_STEP;
 use crate::classes::CHE;
@@ -102,6 +104,13 @@ fn elides_byte(p: u8, b: u8, c: u8, d: u8) -> bool
         return elides(fold_case(p), fold_case(b), next, fold_case(d));
     }
     false
+}
+
+// Is the byte т or д? Only these may be silent.
+pub fn is_t_or_d(b: u8) -> bool
+    ensures { λ r. ⌜ r ≡ isTOrD b ⌝ }
+{
+    (b == TE) | ((b == CAPITAL_TE) | ((b == DE) | (b == CAPITAL_DE)))
 }
 
 // Is the letter at place i silent? A silent letter stands between two others. It asks of four bytes and lends no slice, so that a caller's loop keeps

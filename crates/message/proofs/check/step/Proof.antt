@@ -81,7 +81,7 @@ add-sum c = let k = c .before .before .before .before .before .before in
     omega (arith, sum-small (s .args .m .now) (bytes k) (r .result) (r .ensures .sees), byte k, s .pre .short)
 
 silent-at-requires : tie.Need-silent-at-requires
-silent-at-requires c κs = let k = c .before .before .before .before .before .before in (k .before .before .before .before .pre .tables .classes, byte k)
+silent-at-requires c κs = byte (c .before .before .before .before .before .before)
 
 sub-sum : tie.Need-sub-sum
 sub-sum c = let k = c .before .before .before .before .before .before .before in
