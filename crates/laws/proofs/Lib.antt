@@ -9,3 +9,5 @@ pub mod PartsAccepted
 pub mod Sizes
 pub mod Phrases
 pub mod Bounds
+pub mod Sounds
+pub mod MarkIndex
