@@ -24,7 +24,7 @@ use Rattle.transcriber.specs.Walk.{Put}
 use Rattle.transcriber.proofs.Putting.{put-first}
 use Rattle.laws.proofs.Accepted.{countsOf, accepted-passes}
 use Rattle.laws.proofs.Cuts.{RisingFrom, Rising, rising-of, rising-length, break-within}
-use Rattle.laws.proofs.Parts.{part, Begins, changedAfter, or-false, part-first, first-own, before-here, after-here}
+use Rattle.laws.proofs.Parts.{part, Begins, changedAfter, or-false, part-first, first-own}
 use Rattle.laws.proofs.PartsAccepted.{part-accepted}
 use Rattle.laws.proofs.Bounds.{live-bound}
 use Rattle.laws.proofs.MarkIndex.{Ends, Stands, stretch, mark-first, mark-next, mark-last, mark-whole, end-own, stands, own-length, own-codes}
@@ -186,6 +186,7 @@ module _ {m cuts out : List ℕ} {k : ℕ} {q : Progress} (d : CutDue m cuts k o
   cut-reach =
       let w = part-within (d .laid) (rises .0) low (rises .1) in
       record {
+        steady = d .steady;
         whole = laid-whole (d .laid) (rises .0) low (rises .1) (d .accepted) (q .at) (omega arith);
         break = rises .0;
         order = omega (arith, w .0);
@@ -212,7 +213,7 @@ module _ {m cuts out : List ℕ} {k : ℕ} {q : Progress} (d : CutDue m cuts k o
       cut-part =
           rw (add-one c)
           (part-due (d .laid) (rises .0) low (rises .1) (d .accepted) (d .steady .bytes) (q .changed || v .after)
-          (λ u. let o = or-false (q .changed) (v .after) u in (o .0, sym (h .after ∙ after-here m c (rises .0)) ∙ o .1)))
+          (λ u. let o = or-false (q .changed) (v .after) u in (o .0, sym (h .after) ∙ o .1)))
 
       -- and then it is passed
       pub cut-laid : {out′ : List ℕ} → let p = part m (c + 1) (q .e) in Put (tape p) out out′ (q .at) (q .at - length (tape p))
@@ -227,7 +228,7 @@ module _ {m cuts out : List ℕ} {k : ℕ} {q : Progress} (d : CutDue m cuts k o
             place = found;
             bytes = part-laid (d .laid) (r .0) low (r .1) (rw (add-one c) at p) ∙ rw (mark-next m c (r .0), take-suc (tape m) (markIndex m c) 0 l, mark-whole m c (r .0), append-snoc, found, e);
             counted = rw e (count-more m (drop (suc k) cuts) c (q .live) v (r .0) h (d .laid .counted));
-            last = h .before ∙ before-here m c (r .0);
+            last = h .before;
           }
 
 -- the count is no greater than the list is long

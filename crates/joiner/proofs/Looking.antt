@@ -2,18 +2,22 @@
 -- Assumes nothing.
 use Prim.Native.Nat.{ℕ, _-_, _<_, _≤_}
 use mathlib.Core.Path.{_≡_, refl, sym, ap, _∙_}
-use mathlib.Core.Bool.{Bool, true, false, true≢false}
+use mathlib.Core.Bool.{Bool, true, false, cond, true≢false}
 use mathlib.Core.Logic.{inl}
 use mathlib.Core.List.{List}
 use native.Mathlib.Omega.{arith}
 use lib.Dec.{eqb}
 use lib.ListN.{length, getD}
-use borrow.Author.Tests.{eqb-true, eqb-false}
+use borrow.Author.Tests.{eqb-true, eqb-false, ne-eqb}
 use Rattle.spec.specs.Letters.{isBreak}
 use Rattle.spec.specs.Tape.{tape}
 use Rattle.spec.specs.Joints.{markIndex}
+use Rattle.message.specs.Scan.{classOf}
+use Rattle.message.specs.Places.{Steady}
+use Rattle.message.proofs.Bytes.{below-same}
+use Rattle.message.proofs.Computed.{everything}
 use Rattle.laws.proofs.MarkIndex.{Last, isMarkCode, last-above, last-once, last-mark}
-use Rattle.joiner.specs.Writing.{Behind, Reach}
+use Rattle.joiner.specs.Writing.{outside, Behind, Reach}
 
 -- The look back from index i stands at j: what it has passed fails the test, and an element that it has not passed holds it.
 pub record Looks (test : ℕ → Bool) (x : List ℕ) (i j : ℕ) : Type 0 where
@@ -56,15 +60,29 @@ module _ {test : ℕ → Bool} {x : List ℕ} {i : ℕ} where
     pub looks-found : test (getD x j 0) ≡ true → Last test x i j
     looks-found t = record { below = l .high; here = t; past = l .past }
 
+-- in an accepted message the breaks are the bytes below the stress mark
+break-outside : (m : List ℕ) → Steady m → (j : ℕ) → j < length m → outside 0x2A 0xFF (getD m j 0) ≡ isBreak (getD m j 0)
+unfolding everything
+break-outside m steady j h =
+    let b = getD m j 0 in
+    rw (ne-eqb (classOf b) 0 (steady .named j h))
+    at (below-same (λ x. cond (eqb (classOf x) 0) true (outside 0x2A 0xFF x)) (λ x. cond (eqb (classOf x) 0) true (isBreak x)) 256 b refl (steady .bytes j))
+
 module _ {m t : List ℕ} {c i n : ℕ} (r : Reach m t c i n) (h : c < i) where
   -- the break at place c stands before place i
-  pub reach-behind : Behind isBreak m i
-  reach-behind = record { within = r .within; least = c; below = h; here = r .break }
+  pub reach-behind : Behind (outside 0x2A 0xFF) m i
+  reach-behind = record { within = r .within; least = c; below = h; here = break-outside m (r .steady) c (omega (arith, r .within)) ∙ r .break }
 
-  module _ {b : ℕ} (l : Last isBreak m i b) where
-    -- on the tape the mark of the last break is the last one
+  module _ {b : ℕ} (found : Last (outside 0x2A 0xFF) m i b) where
+    -- what was found is the last break
+    break-last : Last isBreak m i b
+    break-last =
+        let same : (j : ℕ) → j < i → isBreak (getD m j 0) ≡ outside 0x2A 0xFF (getD m j 0) = λ j w. sym (break-outside m (r .steady) j (omega (arith, r .within))) in
+        record { below = found .below; here = same b (found .below) ∙ found .here; past = λ j lo hi. same j hi ∙ found .past j lo hi }
+
+    -- on the tape its mark is the last one
     mark-last : Last isMarkCode (tape m) n (markIndex m b)
-    mark-last = rw (r .place) (last-mark m (r .whole .accepted) b i (r .within) (r .ends) l)
+    mark-last = rw (r .place) (last-mark m (r .whole .accepted) b i (r .within) (r .ends) break-last)
 
     pub reach-mark : Behind isMarkCode t n
     reach-mark = let k = mark-last in
@@ -72,14 +90,15 @@ module _ {m t : List ℕ} {c i n : ℕ} (r : Reach m t c i n) (h : c < i) where
 
     pub reach-more : {p : ℕ} → Last isMarkCode t n p → Reach m t c b p
     reach-more {p} k =
-        let e = last-once isMarkCode t (tape m) n p (markIndex m b) (λ j w. r .whole .same j (omega arith)) k mark-last in
+        let l = break-last in
         record {
+          steady = r .steady;
           whole = record { counts = r .whole .counts; accepted = r .whole .accepted; size = omega (arith, r .whole .size, k .below); same = λ j w. r .whole .same j (omega (arith, k .below)) };
           break = r .break;
           order = last-above isBreak m m i b c (λ j w. refl) l h (r .break);
           within = omega (arith, l .below, r .within);
           ends = inl (l .here);
-          place = e;
+          place = last-once isMarkCode t (tape m) n p (markIndex m b) (λ j w. r .whole .same j (omega arith)) k mark-last;
         }
 
 -- at the cut itself

@@ -11,14 +11,14 @@ use lib.ListN.{getD, drop}
 use lib.Seq.{getD-drop}
 use borrow.Author.Tests.{eqb-true}
 use Rattle.spec.specs.Alphabet.{gap, pause}
-use Rattle.spec.specs.Letters.{Letter, more, read, putLetter, firstByte, firstWord, beginsWithMark, small, isMark, isGap, isBreak}
+use Rattle.spec.specs.Letters.{Letter, more, read, putLetter, firstByte, firstWord, beginsWithMark, small, isMark, isBreak}
 use Rattle.spec.specs.Tape.{tape}
-use Rattle.spec.specs.Joints.{wordAfter, liveByVoice, liveByHardness}
+use Rattle.spec.specs.Joints.{wordAfter}
 use Rattle.message.specs.Scan.{letterAt}
 use Rattle.message.specs.Places.{Steady}
 use Rattle.message.proofs.Left.{word-put, unmarked-after}
 use Rattle.laws.proofs.Classes.{break-vowel}
-use Rattle.laws.proofs.Parts.{before-here, after-here}
+use Rattle.laws.proofs.Parts.{changedAfter, changedBefore}
 use Rattle.laws.proofs.Sounds.{isVoiced, isHigh, isIOrE}
 use Rattle.laws.proofs.MarkIndex.{before-told, after-told}
 use Rattle.joiner.specs.Writing.{Beside}
@@ -61,11 +61,9 @@ same-before x y (suc n) same = same n (omega arith)
 
 module _ {m t : List ℕ} {c at : ℕ} (s : Beside m t c at) where
   -- (a) by the code before the mark
-  pub voice-told : isVoiced (getD (0 ∷ t) at 0) ≡ (isGap (getD m c 0) && liveByVoice m c)
-  voice-told =
-      rw (same-before t (tape m) at (s .whole .same), s .place) (before-told m (s .whole .accepted) c (s .break)) ∙ sym (before-here m c (s .break))
+  pub voice-told : isVoiced (getD (0 ∷ t) at 0) ≡ changedBefore m c
+  voice-told = rw (same-before t (tape m) at (s .whole .same), s .place) (before-told m (s .whole .accepted) c (s .break))
 
   -- (b) by the code after it and the next letter
-  pub hardness-told : (isHigh (getD t (at + 1) 0) && isIOrE (letterAt m (c + 1))) ≡ (isGap (getD m c 0) && liveByHardness m c)
-  hardness-told =
-      rw (← first-after m (s .steady) c (s .break), add-one at, s .whole .same (suc at) (omega arith), s .place) (after-told m c (s .break)) ∙ sym (after-here m c (s .break))
+  pub hardness-told : (isHigh (getD t (at + 1) 0) && isIOrE (letterAt m (c + 1))) ≡ changedAfter m (suc c)
+  hardness-told = rw (← first-after m (s .steady) c (s .break), add-one at, s .whole .same (suc at) (omega arith), s .place) (after-told m c (s .break))

@@ -2,18 +2,18 @@
 -- Assumes nothing: these are definitions.
 use Prim.Native.Nat.{ℕ, suc, _-_, _<_, _≤_}
 use mathlib.Core.Path.{_≡_}
-use mathlib.Core.Bool.{Bool, true, false, _&&_}
+use mathlib.Core.Bool.{Bool, true, false, not}
 use mathlib.Core.List.{List, [], _∷_, _++_}
 use lib.ListN.{length, take, drop, getD}
-use Rattle.spec.specs.Letters.{isGap, isBreak}
+use Rattle.spec.specs.Letters.{between, isBreak}
 use Rattle.spec.specs.Codes.{markOf}
 use Rattle.spec.specs.Tape.{tape}
 use Rattle.message.specs.Places.{Steady}
 use Rattle.spec.specs.Refusals.{checkOf}
-use Rattle.spec.specs.Joints.{badCut, joinedFrom, markIndex, liveByVoice, liveByHardness, liveCount}
+use Rattle.spec.specs.Joints.{badCut, joinedFrom, markIndex, liveCount}
 use Rattle.spec.specs.declared.Counts.{Counts}
 use Rattle.spec.specs.declared.Checked.the-variants.{Accepted}
-use Rattle.laws.proofs.Parts.{changedBefore}
+use Rattle.laws.proofs.Parts.{changedAfter, changedBefore}
 use Rattle.laws.proofs.MarkIndex.{Ends}
 use Rattle.transcriber.specs.Walk.{Put}
 use Rattle.joiner.specs.declared.Changes.{Changes}
@@ -33,6 +33,10 @@ pub record PartDue (p out : List ℕ) (at : ℕ) (changed : Bool) : Type 0 where
   pub place : at ≤ length out
   pub stands : changed ≡ false → Put (tape p) out out at (at - length (tape p))
 
+-- a byte that is none of low to high
+abbrev pub outside : ℕ → ℕ → ℕ → Bool
+outside low high b = not (between low high b)
+
 -- some element of the list before index i passes the test
 pub record Behind (test : ℕ → Bool) (x : List ℕ) (i : ℕ) : Type 0 where
   pub within : i ≤ length x
@@ -49,6 +53,7 @@ pub record Whole (m t : List ℕ) (n : ℕ) : Type 0 where
 
 -- index n is that of the mark of place e, which is a break or the message's end, and the break at place c is not behind it
 pub record Reach (m t : List ℕ) (c e n : ℕ) : Type 0 where
+  pub steady : Steady m
   pub whole : Whole m t n
   pub break : isBreak (getD m c 0) ≡ true
   pub order : c ≤ e
@@ -65,8 +70,8 @@ pub record Beside (m t : List ℕ) (c at : ℕ) : Type 0 where
 
 -- w says which clauses of 'Joints' hold at a cut at place c: (a) changes the code before its mark, (b) the code after it
 pub record Changing (m : List ℕ) (c : ℕ) (w : Changes) : Type 0 where
-  pub before : w .before ≡ (isGap (getD m c 0) && liveByVoice m c)
-  pub after : w .after ≡ (isGap (getD m c 0) && liveByHardness m c)
+  pub before : w .before ≡ changedBefore m c
+  pub after : w .after ≡ changedAfter m (suc c)
 
 -- where a part ends that these cuts follow
 abbrev pub endOf : List ℕ → List ℕ → ℕ

@@ -3,15 +3,14 @@ ghost use mathlib.Core.Path.{_≡_};
 ghost use Prim.Native.Nat.{_-_};
 ghost use lib.ListN.{length};
 ghost use Rattle.message.specs.Scan.{classes};
-ghost use Rattle.spec.specs.Letters.{isBreak};
+ghost use Rattle.spec.specs.Letters.{between, isBreak};
 ghost use Rattle.spec.specs.Tape.{tape};
 ghost use Rattle.spec.specs.Joints.{badCut, row12, joined, liveCount, markIndex};
 ghost use Rattle.spec.specs.Answers.{Answered, joinAnswer};
 ghost use Rattle.transcriber.specs.Sounds.{soundTable};
 ghost use Rattle.transcriber.specs.Walk.{Put};
-ghost use Rattle.laws.proofs.Sounds.{isSound};
-ghost use Rattle.laws.proofs.MarkIndex.{Last, isMarkCode};
-ghost use Rattle.joiner.specs.Writing.{TapeDue, PartDue, Behind, Reach, Laid, CutDue};
+ghost use Rattle.laws.proofs.MarkIndex.{Last};
+ghost use Rattle.joiner.specs.Writing.{TapeDue, PartDue, outside, Behind, Reach, Laid, CutDue};
 use crate::Progress;
 use crate::joints::changes_at;
 use message::check::check;
@@ -23,10 +22,14 @@ use transcriber::tables::sound_table;
 use transcriber::tape::refused;
 use transcriber::tape::write_tape;
 
-// Bytes of breaks.
+// Bytes of breaks, and what the other bytes of an accepted message lie between.
 const GAP: u8 = 0x20;
 
 const PAUSE: u8 = 0x23;
+
+const STRESS_MARK: u8 = 0x2A;
+
+const LAST_LETTER: u8 = 0xFF;
 
 // Codes of sounds; a gap's mark is below them, a pause's above.
 const FIRST_SOUND: u8 = 1;
@@ -70,32 +73,20 @@ fn bad_cut(m: &[u8], cuts: &[usize]) -> usize
     k
 }
 
-// Is the code a sound's and no mark?
-fn is_sound(code: u8) -> bool
-    ensures { λ r. ⌜ r ≡ isSound code ⌝ }
+// Is it one of low to high?
+fn is_between(b: u8, low: u8, high: u8) -> bool
+    ensures { λ r. ⌜ r ≡ between low high b ⌝ }
 {
-    (FIRST_SOUND <= code) & (code <= LAST_SOUND)
+    (low <= b) & (b <= high)
 }
 
-// The last break before place i.
-fn break_before(m: &[u8], i: usize) -> usize
-    requires { ⌜ Behind isBreak (now m) i ⌝ }
-    ensures { λ r. ⌜ Last isBreak (now (m .entry)) i r ⌝ }
+// The last index before i where the list has none of low to high; there is one.
+fn last_outside(x: &[u8], i: usize, low: u8, high: u8) -> usize
+    requires { ⌜ Behind (outside low high) (now x) i ⌝ }
+    ensures { λ r. ⌜ Last (outside low high) (now (x .entry)) i r ⌝ }
 {
     let mut j = i - 1;
-    while !is_break(m[j]) {
-        j -= 1;
-    }
-    j
-}
-
-// The last mark before index k of a tape.
-fn mark_before(t: &[u8], k: usize) -> usize
-    requires { ⌜ Behind isMarkCode (now t) k ⌝ }
-    ensures { λ r. ⌜ Last isMarkCode (now (t .entry)) k r ⌝ }
-{
-    let mut j = k - 1;
-    while is_sound(t[j]) {
+    while is_between(x[j], low, high) {
         j -= 1;
     }
     j
@@ -109,8 +100,8 @@ fn mark_of(m: &[u8], t: &[u8], c: usize, e: usize, end: usize) -> usize
     let mut i = e;
     let mut k = end;
     while c < i {
-        i = break_before(m, i);
-        k = mark_before(t, k);
+        i = last_outside(m, i, STRESS_MARK, LAST_LETTER);
+        k = last_outside(t, k, FIRST_SOUND, LAST_SOUND);
     }
     k
 }
@@ -140,16 +131,19 @@ fn lay_part(
 {
     let c = cuts[k];
     let e = p.e;
-    let at = mark_of(m, out, c, e, p.at);
+    let end = p.at;
+    let changed = p.changed;
+    let at = mark_of(m, out, c, e, end);
     let w = changes_at(m, out, c, at);
-    write_part(&m[c + 1..e], p.changed | w.after, out, p.at, t, s);
-    let live = p.live + (w.before | w.after) as usize;
-    let changed = w.before;
+    let before = w.before;
+    let after = w.after;
+    write_part(&m[c + 1..e], changed | after, out, end, t, s);
+    let live = p.live + (before | after) as usize;
     Progress {
         e: c,
         at,
         live,
-        changed,
+        changed: before,
     }
 }
 

@@ -10,6 +10,10 @@ use Rattle.joiner.proofs.Laying.{cut-few, cut-within, cut-reach, cut-be
 use Rattle.joiner.proofs.join.lay_part.Statement.{statement}
 use Rattle.joiner.proofs.join.lay_part.Tie as tie
 
+-- where the function begins
+abbrev entry : tie.After-changes-at → tie.Start
+entry c = c .before .before .before .before .before .before .before .before
+
 mul-c : tie.Need-mul-c
 mul-c c = search needs
 
@@ -23,20 +27,20 @@ changes-at-requires : tie.Need-changes-at-requires
 changes-at-requires c κs = cut-beside (c .before .before .before .before .before .before .before .pre .2) (c .before .mark-of .ensures)
 
 add-write-part : tie.Need-add-write-part
-add-write-part c = let w = cut-within (c .before .before .before .before .before .before .before .before .pre .2) in omega (arith, w .0, w .1)
+add-write-part c = let w = cut-within (entry c .pre .2) in omega (arith, w .0, w .1)
 
 sub-write-part : tie.Need-sub-write-part
-sub-write-part c = cut-within (c .before .before .before .before .before .before .before .before .pre .2) .0
+sub-write-part c = cut-within (entry c .pre .2) .0
 
 part-write-part-start : tie.Need-part-write-part-start
-part-write-part-start c = cut-within (c .before .before .before .before .before .before .before .before .pre .2) .0
+part-write-part-start c = cut-within (entry c .pre .2) .0
 
 part-write-part-end : tie.Need-part-write-part-end
-part-write-part-end c = cut-within (c .before .before .before .before .before .before .before .before .pre .2) .1
+part-write-part-end c = cut-within (entry c .pre .2) .1
 
 write-part-requires : tie.Need-write-part-requires
-write-part-requires c κs = let h = c .before .before .before .before in
-    let d = h .before .before .before .before .before .before .before .before in
+write-part-requires c κs = let h = c .before .before in
+    let d = entry h in
     (d .pre .0, d .pre .1, cut-part (d .pre .2) (h .before .before .mark-of .ensures) (h .changes-at .ensures))
 
 cast-live : tie.Need-cast-live
@@ -46,15 +50,15 @@ same-length : tie.Need-same-length
 same-length c = search needs
 
 returns : tie.Need-returns
-returns c = let w = c .before .before .before .before in
-    let h = w .before .before .before .before .before in
-    cut-laid (h .before .before .before .before .before .before .before .before .pre .2) (h .before .before .mark-of .ensures) (h .changes-at .ensures) (w .write-part .ensures)
+returns c = let w = c .before .before .before in
+    let h = w .before .before .before in
+    cut-laid (entry h .pre .2) (h .before .before .mark-of .ensures) (h .changes-at .ensures) (w .write-part .ensures)
 
 -- the count is that of the next turn
 add-live : tie.Need-add-live
 add-live c =
-    let h = c .before .before .before .before .before .before .before .before .before in
-    let d = h .before .before .before .before .before .before .before .before in
+    let h = c .before .before .before .before .before .before in
+    let d = entry h in
     let s = d .args in
     let f : s .p .live + boolByte (h .changes-at .result .before || h .changes-at .result .after) ≤ length (s .cuts .now) = laid-few (returns c) in
     omega (arith, f, cut-few (d .pre .2))

@@ -14,18 +14,18 @@ abbrev μ-loop : tie.MeasureT-loop
 loop-holds : tie.Need-loop-holds Inv-loop μ-loop
 loop-holds c = c .before .before .pre
 
-break-before-requires : tie.Need-break-before-requires Inv-loop μ-loop
-break-before-requires c κs = reach-behind (c .before .loop .inv) (c .loop-test .taken)
+last-outside-requires : tie.Need-last-outside-requires Inv-loop μ-loop
+last-outside-requires c κs = reach-behind (c .before .loop .inv) (c .loop-test .taken)
 
-mark-before-requires : tie.Need-mark-before-requires Inv-loop μ-loop
-mark-before-requires c κs = let l = c .before in reach-mark (l .before .loop .inv) (l .loop-test .taken) (c .break-before .ensures)
+last-outside-requires-2 : tie.Need-last-outside-requires-2 Inv-loop μ-loop
+last-outside-requires-2 c κs = let l = c .before in reach-mark (l .before .loop .inv) (l .loop-test .taken) (c .last-outside .ensures)
 
 loop-less : tie.Need-loop-less Inv-loop μ-loop
-loop-less c = c .before .break-before .ensures .below
+loop-less c = c .before .last-outside .ensures .below
 
 loop-again : tie.Need-loop-again Inv-loop μ-loop
 loop-again c = let b = c .before in
-    reach-more (b .before .before .loop .inv) (b .before .loop-test .taken) (b .break-before .ensures) (c .mark-before .ensures)
+    reach-more (b .before .before .loop .inv) (b .before .loop-test .taken) (b .last-outside .ensures) (c .last-outside2 .ensures)
 
 returns : tie.Need-returns Inv-loop μ-loop
 returns c = reach-there (c .before .loop .inv) (c .loop-test .left)
@@ -37,8 +37,8 @@ mark-of-spec =
     Inv-loop
     μ-loop
     loop-holds
-    break-before-requires
-    mark-before-requires
+    last-outside-requires
+    last-outside-requires-2
     loop-less
     loop-again
     returns)

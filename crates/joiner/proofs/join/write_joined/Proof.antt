@@ -28,6 +28,15 @@ steady c = accepted-steady (c .before .args .m .now) _ (c .before .pre .2 .accep
 rises : (s : tie.Start Inv-loop μ-loop) → Rising (s .args .m .now) (s .args .cuts .now)
 rises s = rising-of (s .args .m .now) (s .args .cuts .now) (s .pre .2 .rising)
 
+-- the invariant in the loop, before the cut that is stepped to
+inside : (c : tie.In-loop Inv-loop μ-loop)
+    → let l = c .before in
+    let s = l .before .before .before .before .before .before .before .before in
+    Laid (s .args .m .now) (s .args .cuts .now) (suc (l .loop .k - 1)) (l .loop .out) (l .loop .p)
+inside c =
+    let e : suc (c .before .loop .k - 1) ≡ c .before .loop .k = omega (arith, c .loop-test .taken) in
+    rw e (c .before .loop .inv)
+
 -- the invariant after the loop
 final : (c : tie.After-loop Inv-loop μ-loop)
     → let l = c .before in
@@ -48,11 +57,11 @@ sub-k : tie.Need-sub-k Inv-loop μ-loop
 sub-k c = omega arith
 
 lay-part-requires : tie.Need-lay-part-requires Inv-loop μ-loop
-lay-part-requires c κs = let l = c .before .before in
-    let k = l .before .before .before .before .before .before .before in
+lay-part-requires c κs =
+    let i = c .before in
+    let k = i .before .before .before .before .before .before .before .before in
     let d = k .before .pre in
-    let e : suc (l .loop .k - 1) ≡ l .loop .k = omega (arith, c .before .loop-test .taken) in
-    (d .0, d .1, record { counts = d .2 .counts; accepted = d .2 .accepted; rising = d .2 .rising; steady = steady k; laid = rw e (l .loop .inv) })
+    (d .0, d .1, record { counts = d .2 .counts; accepted = d .2 .accepted; rising = d .2 .rising; steady = steady k; laid = inside i })
 
 loop-less : tie.Need-loop-less Inv-loop μ-loop
 loop-less c = omega arith

@@ -1,26 +1,24 @@
 -- The codes beside the mark tell what a cut changes, and each branch settles one test of them.
 -- Assumes nothing.
-use Prim.Native.Nat.{_+_}
-use mathlib.Core.Path.{_≡_}
+use Prim.Native.Nat.{suc, _+_}
+use mathlib.Core.Path.{_≡_, _∙_}
 use mathlib.Core.Bool.{_&&_}
-use lib.ListN.{getD}
 use native.Mathlib.Omega.{arith}
-use Rattle.spec.specs.Letters.{isGap}
-use Rattle.spec.specs.Joints.{liveByVoice, liveByHardness}
 use Rattle.message.specs.Scan.{letterAt}
 use Rattle.laws.proofs.Cuts.{break-within}
+use Rattle.laws.proofs.Parts.{changedAfter, changedBefore}
 use Rattle.laws.proofs.Sounds.{isIOrE}
 use Rattle.joiner.proofs.Sides.{voice-told, hardness-told}
 use Rattle.joiner.proofs.joints.changes_at.Statement.{statement}
 use Rattle.joiner.proofs.joints.changes_at.Tie as tie
 
 -- (a)
-voice : (c : tie.After-is-voiced) → let s = c .before .before .before .before .args in c .is-voiced .result ≡ (isGap (getD (s .m .now) (s .c) 0) && liveByVoice (s .m .now) (s .c))
+voice : (c : tie.After-is-voiced) → let s = c .before .before .before .before .args in c .is-voiced .result ≡ changedBefore (s .m .now) (s .c)
 voice c = rw (c .is-voiced .ensures, c .before .code-before .ensures) (voice-told (c .before .before .before .before .pre))
 
 -- (b)
 hardness : (c : tie.After-is-high) → let s = c .before .before .before .before .before .before .args in
-    (c .is-high .result && isIOrE (letterAt (s .m .now) (s .c + 1))) ≡ (isGap (getD (s .m .now) (s .c) 0) && liveByHardness (s .m .now) (s .c))
+    (c .is-high .result && isIOrE (letterAt (s .m .now) (s .c + 1))) ≡ changedAfter (s .m .now) (suc (s .c))
 hardness c = rw (c .is-high .ensures, c .before .code-at .ensures) (hardness-told (c .before .before .before .before .before .before .pre))
 
 code-before-requires : tie.Need-code-before-requires
@@ -49,7 +47,7 @@ is-i-or-e-requires : tie.Need-is-i-or-e-requires
 is-i-or-e-requires c κs = tt
 
 returns : tie.Need-returns
-returns c = record { before = voice (c .before .before .before .before .before); after = rw (c .is-i-or-e .ensures, c .before .letter-at .ensures) (rw (c .before .before .if1 .taken) at (hardness (c .before .before .before))) }
+returns c = record { before = voice (c .before .before .before .before .before); after = c .is-i-or-e .ensures ∙ rw (c .before .letter-at .ensures) (rw (c .before .before .if1 .taken) at (hardness (c .before .before .before))) }
 
 returns-2 : tie.Need-returns-2
 returns-2 c = record { before = voice (c .before .before .before); after = rw (c .if1 .left) at (hardness (c .before)) }
