@@ -53,7 +53,7 @@ typedef struct {
 /* Checks a message, and tells how much output the other calls will take. */
 govorun_counts govorun_check(const uint8_t *msg, size_t len);
 
-/* Writes one byte, 1 to 7, for each syllable of the message, in order. At most len + 1 bytes. */
+/* Writes one byte, 1 to 7, for each syllable of the message, in order. At most len bytes. */
 govorun_answer govorun_name(const uint8_t *msg, size_t len, uint8_t *out, size_t cap);
 
 /* Writes the tape of the message: a code, 1 to 56, for each sound, 0 for a gap, 63 for a pause. At most 2 * len bytes. */

@@ -4,7 +4,7 @@ use govorun_tests::agreed::tape;
 use govorun_tests::codes::NAMES;
 use govorun_tests::{cp1251, spell};
 
-/// The cells of the table's rows, with `\|` in a cell read as `|`.
+/// The cells of the table's rows without their backticks, with `\|` in a cell read as `|`.
 fn rows() -> Vec<Vec<String>> {
     let path = concat!(env!("CARGO_MANIFEST_DIR"), "/../docs/CODES.md");
     let text = std::fs::read_to_string(path).expect("docs/CODES.md");
@@ -14,7 +14,7 @@ fn rows() -> Vec<Vec<String>> {
         .map(|line| {
             let cells = line.trim_matches('|').split('|');
             cells
-                .map(|cell| cell.trim().replace('\u{1}', "|"))
+                .map(|cell| cell.trim().trim_matches('`').replace('\u{1}', "|"))
                 .collect()
         })
         .collect()

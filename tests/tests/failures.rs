@@ -1,6 +1,7 @@
 //! An input that the program can't read to its end: nothing is spoken of it, and standard error
-//! says so.
+//! says so. So it does where the output can't be written.
 
+use std::fs::File;
 use std::io::{ErrorKind, Write};
 use std::process::{Command, Stdio};
 use std::thread::sleep;
@@ -46,6 +47,20 @@ fn a_closed_input() {
     command.stdout(Stdio::piped()).stderr(Stdio::piped());
     let child = command.spawn().expect("sh starts");
     assert_eq!(written(child), unread());
+}
+
+/// Nothing can be written to a full device.
+#[test]
+fn an_output_that_is_full() {
+    let full = File::create("/dev/full").expect("a device that is always full");
+    let mut command = Command::new(path());
+    command.stdin(Stdio::piped()).stdout(full).stderr(Stdio::piped());
+    let mut child = command.spawn().expect("the program starts");
+    let mut input = child.stdin.take().expect("a pipe was asked for");
+    input.write_all(&cp1251("ду*б")).expect("a short message");
+    drop(input);
+    let complaint = "govorun: standard output could not be written\n";
+    assert_eq!(written(child).1, complaint);
 }
 
 #[test]

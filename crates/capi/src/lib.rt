@@ -1,12 +1,7 @@
-// The C interface: include/govorun.h says what each function promises. Each carries its operation's equations through.
-ghost use Prim.Native.Nat.{_≤_};
-ghost use mathlib.Core.Path.{_≡_};
-ghost use lib.ListN.{length};
-ghost use Rattle.spec.specs.Tape.{tape, names};
-ghost use Rattle.spec.specs.Joints.{joined};
-ghost use Rattle.spec.specs.Refusals.{checkOf};
-ghost use Rattle.spec.specs.Answers.{nameAnswer, tapeAnswer, joinAnswer};
-ghost use Rattle.capi.specs.Said.{Said, Counted, Done, Fits};
+// The C interface: include/govorun.h says what each function promises. Each carries its operation's promise on, in four numbers.
+ghost use Rattle.spec.specs.Answers.{CheckPromise, NamePromise, TranscribePromise, JoinPromise, Carried};
+ghost use Rattle.laws.proofs.Bounds.{Small};
+ghost use Rattle.capi.specs.Said.{Said, Counted};
 use joiner::join::join;
 use message::check::check;
 use spec::Answer;
@@ -32,7 +27,7 @@ pub struct GovorunCounts {
 
 #[no_mangle]
 pub extern "C" fn govorun_check(m: &[u8]) -> GovorunCounts
-    ensures { λ r. ⌜ Counted (checkOf (now (m .entry))) r ⌝ }
+    ensures { λ r. ⌜ Carried (CheckPromise (now (m .entry))) Counted r ⌝ }
 {
     match check(m) {
         Checked::Accepted(counts) => GovorunCounts {
@@ -52,7 +47,7 @@ pub extern "C" fn govorun_check(m: &[u8]) -> GovorunCounts
 
 // An answer in four numbers, each of which fits.
 fn say(a: Answer) -> GovorunAnswer
-    requires { ⌜ Fits a ⌝ }
+    requires { ⌜ Small a ⌝ }
     ensures { λ r. ⌜ Said a r ⌝ }
 {
     match a {
@@ -73,21 +68,21 @@ fn say(a: Answer) -> GovorunAnswer
 
 #[no_mangle]
 pub extern "C" fn govorun_name(m: &[u8], out: &mut [u8]) -> GovorunAnswer
-    ensures { λ r. ⌜ Done (nameAnswer (now (m .entry)) (length (now (out .entry)))) (names (now (m .entry))) (now (out .entry)) (now (out .exit)) r ⌝ }
+    ensures { λ r. ⌜ Carried (NamePromise (now (m .entry)) (now (out .entry)) (now (out .exit))) Said r ⌝ }
 {
     say(name(m, out))
 }
 
 #[no_mangle]
 pub extern "C" fn govorun_transcribe(m: &[u8], out: &mut [u8]) -> GovorunAnswer
-    ensures { λ r. ⌜ Done (tapeAnswer (now (m .entry)) (length (now (out .entry)))) (tape (now (m .entry))) (now (out .entry)) (now (out .exit)) r ⌝ }
+    ensures { λ r. ⌜ Carried (TranscribePromise (now (m .entry)) (now (out .entry)) (now (out .exit))) Said r ⌝ }
 {
     say(transcribe(m, out))
 }
 
 #[no_mangle]
 pub extern "C" fn govorun_join(m: &[u8], cuts: &[usize], out: &mut [u8]) -> GovorunAnswer
-    ensures { λ r. ⌜ Done (joinAnswer (now (m .entry)) (now (cuts .entry)) (length (now (out .entry)))) (joined (now (m .entry)) (now (cuts .entry))) (now (out .entry)) (now (out .exit)) r ⌝ }
+    ensures { λ r. ⌜ Carried (JoinPromise (now (m .entry)) (now (cuts .entry)) (now (out .entry)) (now (out .exit))) Said r ⌝ }
 {
     say(join(m, cuts, out))
 }

@@ -8,8 +8,7 @@ use native.Mathlib.Omega.{arith}
 use lib.ListN.{length, drop, getD}
 use mir.Val.{boolByte}
 use Rattle.spec.specs.Letters.{isBreak}
-use Rattle.spec.specs.Joints.{liveCount}
-use Rattle.laws.proofs.Cuts.{RisingFrom}
+use Rattle.spec.specs.Joints.{RisingFrom, liveCount}
 use Rattle.laws.proofs.Parts.{live-here}
 use Rattle.joiner.specs.Writing.{Changing}
 use Rattle.joiner.specs.declared.Changes.{Changes}

@@ -15,7 +15,7 @@ use lib.Seq.{take-all, take-length, take-at, take-suc, drop-at, drop-length, dro
 use Rattle.spec.specs.Letters.{isBreak}
 use Rattle.spec.specs.Tape.{tape}
 use Rattle.spec.specs.Refusals.{checkOf}
-use Rattle.spec.specs.Joints.{joinedFrom, joined, liveCount, markIndex}
+use Rattle.spec.specs.Joints.{RisingFrom, Rising, joinedFrom, joined, liveCount, markIndex}
 use Rattle.spec.specs.declared.Counts.{Counts}
 use Rattle.spec.specs.declared.Checked.the-variants.{Accepted}
 use Rattle.message.specs.Places.{Steady}
@@ -23,11 +23,12 @@ use Rattle.message.proofs.Steadiness.{accepted-steady}
 use Rattle.transcriber.specs.Walk.{Put}
 use Rattle.transcriber.proofs.Putting.{put-first}
 use Rattle.laws.proofs.Accepted.{countsOf, accepted-passes}
-use Rattle.laws.proofs.Cuts.{RisingFrom, Rising, rising-of, rising-length, break-within}
-use Rattle.laws.proofs.Parts.{part, Begins, changedAfter, or-false, part-first, first-own}
+use Rattle.laws.proofs.Cuts.{rising-of, rising-length, break-within}
+use Rattle.laws.proofs.Parts.{part, Begins, changedAfter, or-false, mark-there, part-first, first-own}
 use Rattle.laws.proofs.PartsAccepted.{part-accepted}
 use Rattle.laws.proofs.Bounds.{live-bound}
-use Rattle.laws.proofs.MarkIndex.{Ends, Stands, stretch, mark-first, mark-next, mark-last, mark-whole, end-own, stands, own-length, own-codes}
+use Rattle.laws.proofs.Marks.{mark-first, mark-next, mark-last}
+use Rattle.laws.proofs.MarkIndex.{Ends, Placed, stretch, end-own, placed, own-length, own-codes}
 use Rattle.joiner.specs.Writing.{PartDue, Whole, Reach, Beside, Changing, endOf, restOf, Laid, CutDue}
 use Rattle.joiner.specs.declared.Changes.{Changes}
 use Rattle.joiner.specs.declared.Progress.{Progress}
@@ -46,8 +47,8 @@ part-ends m a (c ∷ cuts) b r = (r .0, omega (arith, break-within m c (r .1)), 
 
 -- the mark there is the same on both tapes
 rest-first : (m : List ℕ) (a : ℕ) (cuts : List ℕ) → RisingFrom m a cuts → getD (restOf m cuts) 0 0 ≡ getD (tape m) (markIndex m (endOf m cuts)) 0
-rest-first m a [] r = sym (List·getD-eq-default (tape m) 0 (omega (arith, mark-last m)))
-rest-first m a (c ∷ cuts) r = sym (mark-whole m c (r .1))
+rest-first m a [] r = sym (List·getD-eq-default (tape m) 0 (omega (arith, mark-last m (length m) refl)))
+rest-first m a (c ∷ cuts) r = sym (mark-there m c (r .1))
 
 -- a part's bytes are the message's
 part-bytes : (m : List ℕ) → ((j : ℕ) → getD m j 0 < 256) → (a e j : ℕ) → getD (part m a e) j 0 < 256
@@ -73,8 +74,8 @@ module _ {m cuts out : List ℕ} {k : ℕ} {q : Progress} {a : ℕ} (l : Laid m 
   abbrev own : List ℕ
   own = tape (part m a e)
 
-  here : Stands m a e
-  here = stands m a e begins (part-within .0) (part-within .2)
+  here : Placed m a e
+  here = placed m a e begins (part-within .0) (part-within .2)
 
   -- its codes end at index at, and they are as many as its own
   pub part-place : markIndex m a + length own ≡ at
@@ -156,7 +157,7 @@ unfolding liveCount
 laid-none m cuts out out′ r e p = record {
   within = omega arith;
   ends = rw (drop-length cuts);
-  place = e ∙ sym (mark-last m);
+  place = e ∙ sym (mark-last m (length m) refl);
   bytes = put-first (tape m) out out′ (length out) r e p ∙ rw (drop-length out, drop-length cuts, e, take-length (tape m));
   counted = rw (drop-length cuts);
   last = sym (end-own m);
@@ -226,7 +227,7 @@ module _ {m cuts out : List ℕ} {k : ℕ} {q : Progress} (d : CutDue m cuts k o
             within = omega (arith, d .laid .within);
             ends = rw e;
             place = found;
-            bytes = part-laid (d .laid) (r .0) low (r .1) (rw (add-one c) at p) ∙ rw (mark-next m c (r .0), take-suc (tape m) (markIndex m c) 0 l, mark-whole m c (r .0), append-snoc, found, e);
+            bytes = part-laid (d .laid) (r .0) low (r .1) (rw (add-one c) at p) ∙ rw (mark-next m c (r .0), take-suc (tape m) (markIndex m c) 0 l, mark-there m c (r .0), append-snoc, found, e);
             counted = rw e (count-more m (drop (suc k) cuts) c (q .live) v (r .0) h (d .laid .counted));
             last = h .before;
           }

@@ -1,7 +1,6 @@
 pub mod Answering
 pub mod BadCuts
 pub mod Counting
-pub mod Demand3
 pub mod Laying
 pub mod Looking
 pub mod Sides

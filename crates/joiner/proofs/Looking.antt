@@ -12,11 +12,11 @@ use borrow.Author.Tests.{eqb-true, eqb-false, ne-eqb}
 use Rattle.spec.specs.Letters.{isBreak}
 use Rattle.spec.specs.Tape.{tape}
 use Rattle.spec.specs.Joints.{markIndex}
-use Rattle.message.specs.Scan.{classOf}
+use Rattle.message.specs.Classes.{classOf}
 use Rattle.message.specs.Places.{Steady}
 use Rattle.message.proofs.Bytes.{below-same}
 use Rattle.message.proofs.Computed.{everything}
-use Rattle.laws.proofs.MarkIndex.{Last, isMarkCode, last-above, last-once, last-mark}
+use Rattle.laws.proofs.MarkIndex.{Last, isNoSound, last-above, last-once, last-mark}
 use Rattle.joiner.specs.Writing.{outside, Behind, Reach}
 
 -- The look back from index i stands at j: what it has passed fails the test, and an element that it has not passed holds it.
@@ -81,14 +81,14 @@ module _ {m t : List ℕ} {c i n : ℕ} (r : Reach m t c i n) (h : c < i) where
         record { below = found .below; here = same b (found .below) ∙ found .here; past = λ j lo hi. same j hi ∙ found .past j lo hi }
 
     -- on the tape its mark is the last one
-    mark-last : Last isMarkCode (tape m) n (markIndex m b)
+    mark-last : Last isNoSound (tape m) n (markIndex m b)
     mark-last = rw (r .place) (last-mark m (r .whole .accepted) b i (r .within) (r .ends) break-last)
 
-    pub reach-mark : Behind isMarkCode t n
+    pub reach-mark : Behind isNoSound t n
     reach-mark = let k = mark-last in
         record { within = r .whole .size; least = markIndex m b; below = k .below; here = rw (r .whole .same (markIndex m b) (omega (arith, k .below))) (k .here) }
 
-    pub reach-more : {p : ℕ} → Last isMarkCode t n p → Reach m t c b p
+    pub reach-more : {p : ℕ} → Last isNoSound t n p → Reach m t c b p
     reach-more {p} k =
         let l = break-last in
         record {
@@ -98,7 +98,7 @@ module _ {m t : List ℕ} {c i n : ℕ} (r : Reach m t c i n) (h : c < i) where
           order = last-above isBreak m m i b c (λ j w. refl) l h (r .break);
           within = omega (arith, l .below, r .within);
           ends = inl (l .here);
-          place = last-once isMarkCode t (tape m) n p (markIndex m b) (λ j w. r .whole .same j (omega arith)) k mark-last;
+          place = last-once isNoSound t (tape m) n p (markIndex m b) (λ j w. r .whole .same j (omega arith)) k mark-last;
         }
 
 -- at the cut itself

@@ -14,12 +14,12 @@ use Rattle.spec.specs.Alphabet.{gap, pause}
 use Rattle.spec.specs.Letters.{Letter, more, read, putLetter, firstByte, firstWord, beginsWithMark, small, isMark, isBreak}
 use Rattle.spec.specs.Tape.{tape}
 use Rattle.spec.specs.Joints.{wordAfter}
-use Rattle.message.specs.Scan.{letterAt}
+use Rattle.message.specs.Classes.{letterAt}
 use Rattle.message.specs.Places.{Steady}
 use Rattle.message.proofs.Left.{word-put, unmarked-after}
 use Rattle.laws.proofs.Classes.{break-vowel}
 use Rattle.laws.proofs.Parts.{changedAfter, changedBefore}
-use Rattle.laws.proofs.Sounds.{isVoiced, isHigh, isIOrE}
+use Rattle.laws.proofs.Beside.{isVoiced, isHigh, isIOrE}
 use Rattle.laws.proofs.MarkIndex.{before-told, after-told}
 use Rattle.joiner.specs.Writing.{Beside}
 

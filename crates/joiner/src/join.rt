@@ -2,11 +2,11 @@
 ghost use mathlib.Core.Path.{_≡_};
 ghost use Prim.Native.Nat.{_-_};
 ghost use lib.ListN.{length};
-ghost use Rattle.message.specs.Scan.{classes};
+ghost use Rattle.message.specs.Classes.{classes};
 ghost use Rattle.spec.specs.Letters.{between, isBreak};
 ghost use Rattle.spec.specs.Tape.{tape};
 ghost use Rattle.spec.specs.Joints.{badCut, row12, joined, liveCount, markIndex};
-ghost use Rattle.spec.specs.Answers.{Answered, joinAnswer};
+ghost use Rattle.spec.specs.Answers.{JoinPromise};
 ghost use Rattle.transcriber.specs.Sounds.{soundTable};
 ghost use Rattle.transcriber.specs.Walk.{Put};
 ghost use Rattle.laws.proofs.MarkIndex.{Last};
@@ -14,7 +14,7 @@ ghost use Rattle.joiner.specs.Writing.{TapeDue, PartDue, outside, Behind
 use crate::Progress;
 use crate::joints::changes_at;
 use message::check::check;
-use message::tables::class_table;
+use message::classify::class_table;
 use spec::Answer;
 use spec::Checked;
 use spec::Refusal;
@@ -172,7 +172,7 @@ fn write_joined(m: &[u8], cuts: &[usize], out: &mut [u8], t: &[u8; 256], s: &[u8
 
 // The joiner (paper 01, 'Joints'): writes the tape of the message's parts at the start of the lent output, or refuses and leaves every byte.
 pub fn join(m: &[u8], cuts: &[usize], out: &mut [u8]) -> Answer
-    ensures { λ r. ⌜ Answered (joinAnswer (now (m .entry)) (now (cuts .entry)) (length (now (out .entry)))) (joined (now (m .entry)) (now (cuts .entry))) (now (out .entry)) (now (out .exit)) r ⌝ }
+    ensures { λ r. ⌜ JoinPromise (now (m .entry)) (now (cuts .entry)) (now (out .entry)) (now (out .exit)) r ⌝ }
 {
     let checked = check(m);
     let Checked::Accepted(counts) = checked else {

@@ -3,7 +3,7 @@ ghost use mathlib.Core.Path.{_≡_};
 ghost use mathlib.Core.List.{_∷_};
 ghost use Prim.Native.Nat.{_≤_};
 ghost use lib.ListN.{length, getD};
-ghost use Rattle.laws.proofs.Sounds.{isVoiced, isHigh, isIOrE};
+ghost use Rattle.laws.proofs.Beside.{isVoiced, isHigh, isIOrE};
 ghost use Rattle.joiner.specs.Writing.{Beside, Changing};
 use crate::Changes;
 use message::letters::letter_at;

@@ -8,7 +8,7 @@ use mathlib.Core.List.{List, [], _∷_}
 use native.Mathlib.Omega.{arith}
 use lib.Dec.{eqb, leb}
 use lib.ListN.{length, getD, drop, length-drop}
-use lib.Seq.{drop-cons, drop-length}
+use lib.Seq.{drop-cons}
 use borrow.Author.Tests.{eqb-true, eqb-false, eq-eqb, ne-eqb, leb-true, leb-false, le-leb, lt-leb}
 use Rattle.spec.specs.Tape.{tape, names}
 use Rattle.spec.specs.Refusals.{Row, _when_, rows, firstFit, faultAt, refusal, scan, checkOf, fitsIn, beforeAt, fits, indexIn, rank, NoneFits, Earlier, Given}
@@ -195,6 +195,13 @@ long-given m h = record { holds = rw (lt-leb (length m) 4096 h); first = λ k q.
         last true l = omega arith
         last false l = omega arith
 
+-- the bytes from a place on begin with the byte that stands there
+pub rest-first : (m : List ℕ) (i b : ℕ) (r : List ℕ) → drop i m ≡ b ∷ r → (i < length m) × (getD m i 0 ≡ b) × (drop (suc i) m ≡ r)
+rest-first m i b r e =
+    let h : i < length m = omega (arith, length-drop i m, ap length e) in
+    let s = sym (drop-cons m i 0 h) ∙ e in
+    (h, cc s, cc s)
+
 -- In a message of 1 to 4,096 bytes only rows can fit.
 module _ (m : List ℕ) (z : 0 < length m) (s : length m ≤ 4096) where
   -- a row that fits at a place or not
@@ -246,16 +253,13 @@ module _ (m : List ℕ) (z : 0 < length m) (s : length m ≤ 4096) where
   scan-finds (b ∷ r) i e h c = by (eqb (faultAt (beforeAt m i) b r) 0) refl (scan-finds r (suc i) tail within)
     where
       within : i < length m
-      within = omega (arith, length-drop i m, ap length e)
-
-      split : getD m i 0 ∷ drop (suc i) m ≡ b ∷ r
-      split = sym (drop-cons m i 0 within) ∙ e
+      within = rest-first m i b r e .0
 
       head : getD m i 0 ≡ b
-      head = cc split
+      head = rest-first m i b r e .1
 
       tail : drop (suc i) m ≡ r
-      tail = cc split
+      tail = rest-first m i b r e .2
 
       by : (t : Bool) → eqb (faultAt (beforeAt m i) b r) 0 ≡ t
           → (((j : ℕ) → j < suc i → ClearAt m j) → Finds m (scan (Accepted (countsOf m)) (getD m i 0 ∷ beforeAt m i) r))
@@ -355,6 +359,9 @@ none-accepted m f = by (checkOf m) (check-finds m)
     by : (d : Checked) → Finds m d → d ≡ Accepted (countsOf m)
     by d (nothing p) = refl
     by d (fault n p g) = absurd (none-given m n p f g)
+
+pub none-passes : (m : List ℕ) → NoneFits m → Passes m
+none-passes m f = accepted-passes m (countsOf m) (none-accepted m f)
 
 -- Given: refused so.
 pub given-refused : (m : List ℕ) (n p : ℕ) → Given m n p → checkOf m ≡ Refused (refusal n p)

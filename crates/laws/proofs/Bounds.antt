@@ -21,7 +21,7 @@ use Rattle.spec.specs.declared.Answer.the-variants as answer
 use Rattle.spec.proofs.Computed.{everything}
 use Rattle.laws.proofs.Accepted.{accepted-counts}
 use Rattle.laws.proofs.Cuts.{break-within, rising-of, rising-length}
-use Rattle.laws.proofs.Cutting.{cutting}
+use Rattle.laws.proofs.Cutting.{equal-lengths}
 use Rattle.laws.proofs.Sizes.{tape-size, names-size}
 
 -- no number of the rows is past n
@@ -171,6 +171,6 @@ module _ (m : List ℕ) where
           → Small (cond t (within room (length (joined m cuts)) (liveCount m cuts)) (answer.Refused (refusal 12 (badCut m cuts))))
       by counts e true q =
           let r = rising-of m cuts (eqb-true _ _ q) in
-          within-small room (length (joined m cuts)) (liveCount m cuts) (omega (arith, cutting m cuts r .lengths, tape-short counts e))
+          within-small room (length (joined m cuts)) (liveCount m cuts) (omega (arith, equal-lengths m cuts r, tape-short counts e))
           (omega (arith, live-bound m cuts, rising-length m cuts r, short counts e))
       by counts e false q = record { number = omega arith; place = omega (arith, bad-bound m cuts, short counts e); length = omega arith; live = omega arith }

@@ -1,30 +1,17 @@
 -- A list of cuts: number 12 lets through just the strictly rising lists of places of breaks, since past its end a message has no break.
 -- Assumes nothing.
-use Prim.Native.Nat.{ℕ, suc, _+_, _-_, _<_, _≤_}
-use mathlib.Core.Path.{_≡_, refl, _∙_}
+use Prim.Native.Nat.{ℕ, zero, suc, _+_, _-_, _<_, _≤_}
+use mathlib.Core.Path.{_≡_, refl, sym, ap, _∙_}
 use mathlib.Core.Bool.{Bool, true, false, cond, not, _||_, true≢false, false≢true}
-use mathlib.Core.Logic.{_⊎_, ⊎-elim}
+use mathlib.Core.Logic.{inl, inr, ⊎-elim}
 use mathlib.Core.List.{List, [], _∷_}
 use native.Mathlib.Omega.{arith}
-use lib.Dec.{leb}
-use borrow.Author.Tests.{leb-true, leb-false, le-leb}
-use lib.ListN.{length, getD, List·getD-eq-default}
+use lib.Dec.{eqb, leb}
+use borrow.Author.Tests.{eqb-true, eqb-false, leb-true, leb-false, le-leb}
+use lib.ListN.{length, drop, getD, length-drop, List·getD-eq-default}
 use Rattle.spec.specs.Letters.{isBreak}
-use Rattle.spec.specs.Joints.{row12, badCutFrom, badCut}
-
--- a strictly rising list of places of breaks of the message, none below the least
-abbrev pub RisingFrom : List ℕ → ℕ → List ℕ → Type 0
-RisingFrom m least [] = Unit {0}
-RisingFrom m least (c ∷ cuts) = (least ≤ c) × (isBreak (getD m c 0) ≡ true) × RisingFrom m (suc c) cuts
-
--- a strictly rising list of places of gaps and pauses, the empty one and the full one too
-abbrev pub Rising : List ℕ → List ℕ → Type 0
-Rising m cuts = RisingFrom m 0 cuts
-
--- c is a cut of the list
-abbrev pub CutOf : ℕ → List ℕ → Type 0
-CutOf c [] = ⊥
-CutOf c (d ∷ cuts) = (c ≡ d) ⊎ CutOf c cuts
+use Rattle.spec.specs.Joints.{RisingFrom, Rising, CutOf, breaksFrom, breaks, row12, badCutFrom, badCut, leastAt, FirstBadFrom, FirstBad}
+use Rattle.laws.proofs.Accepted.{rest-first}
 
 -- a break stands within the message
 pub break-within : (m : List ℕ) (c : ℕ) → isBreak (getD m c 0) ≡ true → c < length m
@@ -93,3 +80,107 @@ rising-to m cuts r = rising-from-to m 0 0 cuts r ∙ omega arith
 -- there are no more cuts than bytes
 pub rising-length : (m cuts : List ℕ) → Rising m cuts → length cuts ≤ length m
 rising-length m cuts r = omega (arith, rising-from-length m 0 cuts r)
+
+-- The first bad cut of a list, found by its index.
+module _ (m : List ℕ) where
+  -- the list without its first cut has the same least places
+  least-next : (least c : ℕ) (cuts : List ℕ) (i : ℕ) → leastAt least (c ∷ cuts) (suc i) ≡ leastAt (suc c) cuts i
+  unfolding leastAt
+  least-next least c cuts zero = refl
+  least-next least c cuts (suc i) = refl
+
+  -- an index counts from where the list's first cut counts
+  bad-shift : (least k : ℕ) (cuts : List ℕ) → badCutFrom m least (suc k) cuts ≡ suc (badCutFrom m least k cuts)
+  unfolding badCutFrom
+  bad-shift least k [] = refl
+  bad-shift least k (c ∷ cuts) = rw (bad-shift (suc c) (suc k) cuts) (by (row12 m least c))
+    where
+      by : (t : Bool) → cond t (suc k) (suc (badCutFrom m (suc c) (suc k) cuts)) ≡ suc (cond t k (badCutFrom m (suc c) (suc k) cuts))
+      by true = refl
+      by false = refl
+
+  bad-next : (least c : ℕ) (cuts : List ℕ) → row12 m least c ≡ false → badCutFrom m least 0 (c ∷ cuts) ≡ suc (badCutFrom m (suc c) 0 cuts)
+  unfolding badCutFrom
+  bad-next least c cuts q = rw q (bad-shift (suc c) 0 cuts)
+
+  -- what number 12 finds in a list: nothing, or the first bad cut
+  pub data Judged (least : ℕ) (cuts : List ℕ) : ℕ → Type 0 where
+    good : RisingFrom m least cuts → Judged least cuts (length cuts)
+    bad : (i : ℕ) → FirstBadFrom m least cuts i → Judged least cuts i
+
+  judged-from : (least : ℕ) (cuts : List ℕ) → Judged least cuts (badCutFrom m least 0 cuts)
+  unfolding badCutFrom leastAt
+  judged-from least [] = good tt
+  judged-from least (c ∷ cuts) = by (row12 m least c) refl (judged-from (suc c) cuts)
+    where
+      later : (i : ℕ) → row12 m least c ≡ false → FirstBadFrom m (suc c) cuts i → FirstBadFrom m least (c ∷ cuts) (suc i)
+      later i q f = record { within = omega (arith, f .within); bad = rw (least-next least c cuts i) (f .bad); first = by }
+        where
+          by : (j : ℕ) → j < suc i → row12 m (leastAt least (c ∷ cuts) j) (getD (c ∷ cuts) j 0) ≡ false
+          by zero l = q
+          by (suc j) l = rw (least-next least c cuts j) (f .first j (omega arith))
+
+      rest : row12 m least c ≡ false → (i : ℕ) → Judged (suc c) cuts i → Judged least (c ∷ cuts) (suc i)
+      rest q i (good r) = let p = row12-passes m least c q in good (p .1, p .0, r)
+      rest q i (bad j f) = bad (suc j) (later j q f)
+
+      by : (t : Bool) → row12 m least c ≡ t → Judged (suc c) cuts (badCutFrom m (suc c) 0 cuts) → Judged least (c ∷ cuts) (cond t 0 (badCutFrom m (suc c) 1 cuts))
+      by true q r = bad 0 (record { within = omega arith; bad = q; first = λ j l. absurd (omega arith) })
+      by false q r = rw (bad-shift (suc c) 0 cuts) (rest q (badCutFrom m (suc c) 0 cuts) r)
+
+  pub judged : (cuts : List ℕ) → Judged 0 cuts (badCut m cuts)
+  unfolding badCut
+  judged cuts = judged-from 0 cuts
+
+  -- and no other cut is the first bad one
+  first-bad-from : (least : ℕ) (cuts : List ℕ) (i : ℕ) → FirstBadFrom m least cuts i → badCutFrom m least 0 cuts ≡ i
+  unfolding badCutFrom leastAt
+  first-bad-from least [] i f = absurd (omega (arith, f .within))
+  first-bad-from least (c ∷ cuts) zero f = rw (f .bad)
+  first-bad-from least (c ∷ cuts) (suc i) f =
+      bad-next least c cuts (f .first 0 (omega arith))
+      ∙ ap suc (first-bad-from (suc c) cuts i (record {
+        within = omega (arith, f .within);
+        bad = rw (← least-next least c cuts i) (f .bad);
+        first = λ j l. rw (← least-next least c cuts j) (f .first (suc j) (omega arith));
+      }))
+
+  pub first-bad : (cuts : List ℕ) (i : ℕ) → FirstBad m cuts i → badCut m cuts ≡ i
+  unfolding badCut
+  first-bad cuts i f = first-bad-from 0 cuts i f
+
+  -- The full list. A list that rises from a place on rises from the one before
+  rising-lower : (k : ℕ) (cuts : List ℕ) → RisingFrom m (suc k) cuts → RisingFrom m k cuts
+  rising-lower k [] r = tt
+  rising-lower k (c ∷ cuts) r = (omega (arith, r .0), r .1, r .2)
+
+  full-from : (k : ℕ) (r : List ℕ) → drop k m ≡ r → RisingFrom m k (breaksFrom k r)
+  unfolding breaksFrom
+  full-from k [] e = tt
+  full-from k (b ∷ r) e = let s = rest-first m k b r e in by (isBreak b) refl (s .1) (full-from (suc k) r (s .2))
+    where
+      by : (t : Bool) → isBreak b ≡ t → getD m k 0 ≡ b → RisingFrom m (suc k) (breaksFrom (suc k) r) → RisingFrom m k (cond t (k ∷ breaksFrom (suc k) r) (breaksFrom (suc k) r))
+      by true q h f = (omega arith, rw h q, f)
+      by false q h f = rising-lower k (breaksFrom (suc k) r) f
+
+  every-from : (k : ℕ) (r : List ℕ) → drop k m ≡ r → (c : ℕ) → k ≤ c → isBreak (getD m c 0) ≡ true → CutOf c (breaksFrom k r)
+  unfolding breaksFrom
+  every-from k [] e c le q = absurd (omega (arith, break-within m c q, length-drop k m, ap length e))
+  every-from k (b ∷ r) e c le q = let s = rest-first m k b r e in by (isBreak b) refl (s .1) (eqb c k) refl (every-from (suc k) r (s .2) c)
+    where
+      by : (t : Bool) → isBreak b ≡ t → getD m k 0 ≡ b → (u : Bool) → eqb c k ≡ u → (suc k ≤ c → isBreak (getD m c 0) ≡ true → CutOf c (breaksFrom (suc k) r))
+          → CutOf c (cond t (k ∷ breaksFrom (suc k) r) (breaksFrom (suc k) r))
+      by true p h true d f = inl (eqb-true c k d)
+      by true p h false d f = inr (f (omega (arith, eqb-false c k d)) q)
+      by false p h true d f = absurd (true≢false (sym q ∙ rw (eqb-true c k d, h) p))
+      by false p h false d f = f (omega (arith, eqb-false c k d)) q
+
+  -- The places of all breaks are a rising list,
+  pub full-rising : Rising m (breaks m)
+  unfolding breaks
+  full-rising = full-from 0 m refl
+
+  -- and every break is in it.
+  pub full-every : (c : ℕ) → isBreak (getD m c 0) ≡ true → CutOf c (breaks m)
+  unfolding breaks
+  full-every c q = every-from 0 m refl c (omega arith) q

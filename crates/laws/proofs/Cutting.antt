@@ -1,43 +1,37 @@
--- Demand 3 over the definitions, for every list of cuts: each cut splits both tapes at one index, and a cut is live just when a bit from over it changes a code beside its mark.
+-- The two tapes of a message, for every list of cuts: each cut splits both tapes at one index, and a cut is live just when a bit from over it changes a code beside its mark.
 -- Assumes nothing.
 use Prim.Native.Nat.{ℕ, suc, _-_, _<_}
 use mathlib.Core.Path.{_≡_, refl, sym, ap, _∙_}
-use mathlib.Core.Bool.{Bool, true, false, cond, _||_, and-eq-true-iff}
-use mathlib.Core.Logic.{_⊎_, inl, inr, ⊎-elim, _≢_}
+use mathlib.Core.Bool.{Bool, true, false, cond, _||_, and-eq-true-iff, true≢false}
+use mathlib.Core.Logic.{inl, inr, ⊎-elim, _≢_, _↔_}
 use mathlib.Core.List.{List, [], _∷_}
-use lib.ListN.{length, getD, take}
-use lib.Seq.{getD-at}
+use native.Mathlib.Omega.{arith}
+use lib.ListN.{length, getD, take, drop}
 use Rattle.spec.specs.Letters.{isBreak, read}
-use Rattle.spec.specs.Codes.{markOf}
 use Rattle.spec.specs.Tape.{tape, segment}
-use Rattle.spec.specs.Joints.{joined, isLive, liveCount, markIndex, wordBefore, endsInObstruent}
+use Rattle.spec.specs.Refusals.{NoneFits}
+use Rattle.spec.specs.Joints.{Rising, CutOf, SplitAt, DiffersAt, joined, isLive, NoneLive, liveCount, markIndex, wordBefore, endsInObstruent}
+use Rattle.spec.specs.Demands.{TwoTapes}
+use Rattle.laws.proofs.Accepted.{none-passes}
+use Rattle.laws.proofs.Codes.{Spells, bytes-marks, part-spells}
 use Rattle.laws.proofs.Word.{lastCode}
-use Rattle.laws.proofs.Cuts.{Rising, CutOf, cut-break}
-use Rattle.laws.proofs.Parts.{voicedAt, changedBefore, changedAfter, CutAt, part-first, before-mark, after-mark, tape-cut, mark-index, code-after, live-here, onward-first, first-own, joined-length, joined-dead, cut-at}
+use Rattle.laws.proofs.Cuts.{cut-break}
+use Rattle.laws.proofs.PartsAccepted.{parts-none}
+use Rattle.laws.proofs.Parts.{onward, voicedAt, changedBefore, changedAfter, CutAt, part-first, before-mark, after-mark, tape-cut, mark-index, code-after, live-here, onward-first, first-own, joined-length, joined-dead, cut-at}
 
--- the code just before or just after the mark at index k differs, at the same index in both tapes
-abbrev pub DiffersAt : List ℕ → List ℕ → ℕ → Type 0
-DiffersAt whole parts k = ((0 < k) × (getD whole (k - 1) 0 ≢ getD parts (k - 1) 0)) ⊎ (getD whole (suc k) 0 ≢ getD parts (suc k) 0)
+-- one cut that is not live adds nothing to the count, and a live one does
+counts-not : (t : Bool) (n : ℕ) → (cond t (suc n) n ≡ 0) ↔ ((t ≡ false) × (n ≡ 0))
+counts-not true n = (λ e. absurd (omega arith), λ p. absurd (true≢false (p .0)))
+counts-not false n = (λ e. (refl, e), λ p. p .1)
 
--- Demand 3, for one message and one list of cuts.
-pub record Cutting (m cuts : List ℕ) : Type 0 where
-  pub lengths : length (joined m cuts) ≡ length (tape m)
-  -- equal exactly when no cut of the list is live
-  pub dead : liveCount m cuts ≡ 0 → joined m cuts ≡ tape m
-  pub alive : joined m cuts ≡ tape m → liveCount m cuts ≡ 0
-  -- the mark of each cut stands at its index in both tapes, and at a live one a code beside it differs
-  pub marks : (c : ℕ) → CutOf c cuts → (getD (tape m) (markIndex m c) 0 ≡ markOf (getD m c 0)) × (getD (joined m cuts) (markIndex m c) 0 ≡ markOf (getD m c 0))
-  pub live : (c : ℕ) → CutOf c cuts → isLive m c ≡ true → DiffersAt (tape m) (joined m cuts) (markIndex m c)
-
--- no cut is live, so none is counted
-none-live : (m cuts : List ℕ) → ((c : ℕ) → CutOf c cuts → isLive m c ≡ true → ⊥) → liveCount m cuts ≡ 0
+-- the count is 0 exactly when no cut is live
+pub counts-none : (m cuts : List ℕ) → (liveCount m cuts ≡ 0) ↔ NoneLive m cuts
 unfolding liveCount
-none-live m [] f = refl
-none-live m (c ∷ cuts) f = by (isLive m c) refl (none-live m cuts (λ d i. f d (inr i)))
-  where
-    by : (t : Bool) → isLive m c ≡ t → liveCount m cuts ≡ 0 → cond t (suc (liveCount m cuts)) (liveCount m cuts) ≡ 0
-    by true q n = absurd (f c (inl refl) q)
-    by false q n = n
+counts-none m [] = (λ e c i. absurd i, λ f. refl)
+counts-none m (d ∷ cuts) =
+    let one = counts-not (isLive m d) (liveCount m cuts) in
+    let rest = counts-none m cuts in
+    (λ e c. ⊎-elim (λ q. rw q (one .0 e .0)) (λ i. rest .0 (one .0 e .1) c i), λ f. one .1 (f d (inl refl), rest .1 (λ c i. f c (inr i))))
 
 -- equal tapes differ nowhere
 differ-nowhere : (s t : List ℕ) (k : ℕ) → t ≡ s → DiffersAt s t k → ⊥
@@ -58,13 +52,19 @@ module _ (m cuts : List ℕ) (rising : Rising m cuts) (c : ℕ) (cut : CutOf c c
   unfolding markIndex
   size = here .size ∙ rw part-first
 
-  -- the mark in the whole tape
-  mark-whole : getD (tape m) (markIndex m c) 0 ≡ markOf (getD m c 0)
-  mark-whole = rw (tape-cut m c break) (getD-at (segment false (voicedAt m c) (read (take c m))) _ _ 0 (markIndex m c) (mark-index m c break))
+  -- each of the two tapes at the cut, where each letter of the message is one of the alphabet
+  module _ (spells : (p n : ℕ) → Spells (read (take n (drop p m)))) where
+    whole-split : SplitAt m c (tape m)
+    whole-split = record {
+      before = segment false (voicedAt m c) (read (take c m));
+      after = onward m (suc c);
+      split = tape-cut m c break;
+      index = mark-index m c break;
+      own = bytes-marks false (voicedAt m c) (take c m) (spells 0 c);
+    }
 
-  -- and in that of the parts
-  mark-parts : getD (joined m cuts) (markIndex m c) 0 ≡ markOf (getD m c 0)
-  mark-parts = rw (here .split) (getD-at (here .front) _ _ 0 (markIndex m c) size)
+    parts-split : SplitAt m c (joined m cuts)
+    parts-split = record { before = here .front; after = here .back; split = here .split; index = size; own = here .own spells ∙ rw part-first }
 
   -- the code before the mark was voiced from over the cut, or the code after it made by a hard boundary there
   differs : isLive m c ≡ true → DiffersAt (tape m) (joined m cuts) (markIndex m c)
@@ -85,13 +85,30 @@ module _ (m cuts : List ℕ) (rising : Rising m cuts) (c : ℕ) (cut : CutOf c c
       by true p e = inl (before p)
       by false p e = inr (after e)
 
--- Demand 3, whatever the message and the list.
-pub cutting : (m cuts : List ℕ) → Rising m cuts → Cutting m cuts
+-- The two tapes are equally long, whatever the list.
+pub equal-lengths : (m cuts : List ℕ) → Rising m cuts → length (joined m cuts) ≡ length (tape m)
 unfolding joined
-cutting m cuts r = record {
-  lengths = joined-length m 0 cuts tt r ∙ ap length (onward-first m);
-  dead = λ n. joined-dead m 0 cuts tt r (first-own m) n ∙ onward-first m;
-  alive = λ e. none-live m cuts (λ c i l. differ-nowhere (tape m) (joined m cuts) (markIndex m c) e (differs m cuts r c i l));
-  marks = λ c i. (mark-whole m cuts r c i, mark-parts m cuts r c i);
-  live = differs m cuts r;
-}
+equal-lengths m cuts r = joined-length m 0 cuts tt r ∙ ap length (onward-first m)
+
+-- And equal just where none of the cuts is live.
+pub equal-tapes : (m cuts : List ℕ) → Rising m cuts → (joined m cuts ≡ tape m) ↔ NoneLive m cuts
+unfolding joined
+equal-tapes m cuts r =
+    (λ e c i. by c i e (isLive m c) refl, λ f. joined-dead m 0 cuts tt r (first-own m) f ∙ onward-first m)
+  where
+    by : (c : ℕ) → CutOf c cuts → joined m cuts ≡ tape m → (t : Bool) → isLive m c ≡ t → t ≡ false
+    by c i e true l = absurd (differ-nowhere (tape m) (joined m cuts) (markIndex m c) e (differs m cuts r c i l))
+    by c i e false l = refl
+
+-- Demand 3 of the two tapes of an accepted message.
+pub two-tapes : (m cuts : List ℕ) → NoneFits m → Rising m cuts → TwoTapes m cuts
+two-tapes m cuts f r =
+    let p = none-passes m f in
+    record {
+      parts = parts-none m p 0 cuts tt (omega arith) r;
+      lengths = equal-lengths m cuts r;
+      equal = equal-tapes m cuts r;
+      whole = λ c i. whole-split m cuts r c i (part-spells m p);
+      pieces = λ c i. parts-split m cuts r c i (part-spells m p);
+      differs = differs m cuts r;
+    }

@@ -2,21 +2,22 @@
 -- Assumes nothing.
 use Prim.Native.Nat.{ℕ, zero, suc, _+_, _-_, _<_, _≤_}
 use mathlib.Core.Path.{_≡_, refl, sym, ap, _∙_}
-use mathlib.Core.Bool.{Bool, true, false, cond, _&&_, _||_, and-comm, and-eq-true-iff, true≢false}
-use mathlib.Core.Logic.{⊎-elim, _≢_}
+use mathlib.Core.Bool.{Bool, true, false, _&&_, _||_, and-comm, and-eq-true-iff, true≢false}
+use mathlib.Core.Logic.{inl, inr, ⊎-elim, _≢_}
 use mathlib.Core.List.{List, [], _∷_, _++_, append-assoc}
 use native.Mathlib.Omega.{arith}
 use lib.ListN.{length, take, drop, getD, length-append, take-append-drop}
-use lib.Seq.{drop-cons, drop-drop, take-add}
+use lib.Seq.{drop-cons, drop-drop, take-add, getD-at}
 use Rattle.spec.specs.Letters.{Message, read, firstWord, lastWord, isGap, isBreak}
 use Rattle.spec.specs.Codes.{markOf}
 use Rattle.spec.specs.Voicing.{voices}
 use Rattle.spec.specs.Vowels.{endsHard}
 use Rattle.spec.specs.Palatalization.{firstCode}
 use Rattle.spec.specs.Tape.{segment, tape}
-use Rattle.spec.specs.Joints.{joinedFrom, markIndex, wordBefore, wordAfter, endsInObstruent, beginsWithIOrE, liveByVoice, liveByHardness, isLive, liveCount}
+use Rattle.spec.specs.Joints.{RisingFrom, CutOf, joinedFrom, markIndex, marksOf, breakMarks, wordBefore, wordAfter, endsInObstruent, beginsWithIOrE, liveByVoice, liveByHardness, isLive, NoneLive}
 use Rattle.laws.proofs.Word.{lastCodeFrom, lastCode}
-use Rattle.laws.proofs.Cuts.{RisingFrom, CutOf, break-within, cut-above}
+use Rattle.laws.proofs.Codes.{Spells, marks-mark, bytes-marks, marks-append, breaks-append}
+use Rattle.laws.proofs.Cuts.{break-within, cut-above}
 use Rattle.laws.proofs.Stretch.{first-meet, last-meet, read-join, segment-join, segment-length, segment-quiet, segment-ends-differ, segment-firm, first-differ, segment-starts-differ, last-append}
 
 -- the bytes from place a up to place c
@@ -83,11 +84,6 @@ drop-past (y ∷ s) x t k e = rw (← e) (drop-past s x t (length s) refl)
 pub or-false : (s t : Bool) → (s || t) ≡ false → (s ≡ false) × (t ≡ false)
 or-false true t e = absurd (true≢false e)
 or-false false t e = (refl, e)
-
--- a count of none has not counted this one
-none-counted : (t : Bool) (k : ℕ) → cond t (suc k) k ≡ 0 → (t ≡ false) × (k ≡ 0)
-none-counted true k e = absurd (omega arith)
-none-counted false k e = (refl, e)
 
 -- 'a gap, and this or that' is 'a gap and this, or a gap and that'
 and-or : (g s t : Bool) → (g && (s || t)) ≡ ((g && s) || (g && t))
@@ -178,6 +174,10 @@ module _ (m : List ℕ) where
     unfolding markIndex tape
     mark-index = segment-length false false (voicedAt m c) false (read (take c m))
 
+    -- where the break's mark stands
+    pub mark-there : getD (tape m) (markIndex m c) 0 ≡ markOf (getD m c 0)
+    mark-there = rw tape-cut (getD-at (segment false (voicedAt m c) (read (take c m))) _ _ 0 (markIndex m c) mark-index)
+
     -- the sounds after the cut in the whole message's tape
     pub codes-after : drop (suc (markIndex m c)) (tape m) ≡ onward m (suc c)
     codes-after = rw tape-cut (drop-past (segment false (voicedAt m c) (read (take c m))) (markOf (getD m c 0)) (onward m (suc c)) (markIndex m c) mark-index)
@@ -231,14 +231,13 @@ module _ (m : List ℕ) where
       (omega (arith, segment-length false (hardAt m a) false (voicedAt m c) (read (part m a c)), joined-length (suc c) cuts (r .1) (r .2))))
 
   -- Without a live cut they are equal, if nothing changes what stands at place a.
-  pub joined-dead : (a : ℕ) (cuts : List ℕ) → Begins m a → RisingFrom m a cuts → changedAfter m a ≡ false → liveCount m cuts ≡ 0
+  pub joined-dead : (a : ℕ) (cuts : List ℕ) → Begins m a → RisingFrom m a cuts → changedAfter m a ≡ false → NoneLive m cuts
       → joinedFrom m a cuts ≡ onward m a
-  unfolding joinedFrom liveCount
+  unfolding joinedFrom
   joined-dead a [] b r q n = onward-alone a q
   joined-dead a (c ∷ cuts) b r q n =
-      let l = none-counted (isLive m c) (liveCount m cuts) n in
-      let o = or-false (changedBefore m c) (changedAfter m (suc c)) (sym (live-here c (r .1)) ∙ l .0) in
-      rw (onward-cut a c b (r .0) (r .1), part-own a c b (r .0) (r .1) q (o .0), joined-dead (suc c) cuts (r .1) (r .2) (o .1) (l .1))
+      let o = or-false (changedBefore m c) (changedAfter m (suc c)) (sym (live-here c (r .1)) ∙ n c (inl refl)) in
+      rw (onward-cut a c b (r .0) (r .1), part-own a c b (r .0) (r .1) q (o .0), joined-dead (suc c) cuts (r .1) (r .2) (o .1) (λ d i. n d (inr i)))
 
   -- At place a the first codes differ if something changes what stands there, whatever the cuts.
   joined-starts : (a : ℕ) (cuts : List ℕ) → Begins m a → RisingFrom m a cuts → changedAfter m a ≡ true
@@ -260,6 +259,7 @@ pub record CutAt (m : List ℕ) (a c : ℕ) (t : List ℕ) : Type 0 where
   pub back : List ℕ
   pub split : t ≡ front ++ (markOf (getD m c 0) ∷ back)
   pub size : length front ≡ length (tape (part m a c))
+  pub own : ((p n : ℕ) → Spells (read (take n (drop p m)))) → marksOf front ≡ breakMarks (part m a c)
   pub ends : (h : Bool) (x y : ℕ) → endsInObstruent (wordBefore m c) ≡ true
       → lastCodeFrom x (segment h true (read (part m a c))) ≡ lastCodeFrom y front → ⊥
   pub starts : changedAfter m (suc c) ≡ true → firstCode (onward m (suc c)) ≡ firstCode back → ⊥
@@ -273,6 +273,7 @@ module _ (m : List ℕ) where
     back = joinedFrom m (suc c) cuts;
     split = refl;
     size = refl;
+    own = λ s. bytes-marks false false (part m a c) (s a (c - a));
     ends = λ h x y q. segment-ends-differ h false x y (read (part m a c)) (rw (word-before m a c b (r .0) (break-within m c (r .1))) q);
     starts = joined-starts m (suc c) cuts (r .1) (r .2);
   }
@@ -280,7 +281,7 @@ module _ (m : List ℕ) where
   -- at a later one
   cut-later : (a c d : ℕ) (cuts : List ℕ) → RisingFrom m a (d ∷ cuts) → suc d ≤ c → CutAt m (suc d) c (joinedFrom m (suc d) cuts)
       → CutAt m a c (joinedFrom m a (d ∷ cuts))
-  unfolding joinedFrom tape
+  unfolding joinedFrom tape breakMarks
   cut-later a c d cuts r lt k = record {
     front = tape (part m a d) ++ (markOf (getD m d 0) ∷ k .front);
     back = k .back;
@@ -293,6 +294,8 @@ module _ (m : List ℕ) where
         rw (part-cut m false false a d c (r .0) lt (r .1))
         (simp length-append
         (omega (arith, k .size, segment-length false false false (isGap g && voices (segment hard false s)) p, segment-length hard false false false s)));
+    own = λ s.
+        rw (part-split m a d c (r .0) lt (break-within m d (r .1)), marks-append, marks-mark, bytes-marks false false (part m a d) (s a (d - a)), k .own s, breaks-append, r .1);
     ends = λ h x y q e. k .ends _ _ _ q (simp last-append at (rw (part-cut m h true a d c (r .0) lt (r .1)) at e));
     starts = k .starts;
   }

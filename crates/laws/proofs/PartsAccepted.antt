@@ -1,19 +1,20 @@
 -- A part of an accepted message, cut at its breaks, is accepted: every row looks back no further than the break before, and a break last in a part would stand before a break or last in the message.
 -- Assumes nothing.
-use Prim.Native.Nat.{ℕ, zero, suc, _+_, _-_, _*_, _<_, _≤_}
+use Prim.Native.Nat.{ℕ, zero, suc, _+_, _-_, _<_, _≤_}
 use mathlib.Core.Path.{_≡_, refl, sym, _∙_}
 use mathlib.Core.Bool.{Bool, true, false, cond, _||_, or-true, true≢false}
 use mathlib.Core.List.{List, [], _∷_, _++_}
-use mathlib.Core.Logic.{_⊎_, ⊎-elim}
+use mathlib.Core.Logic.{_⊎_, inl, inr, ⊎-elim}
 use native.Mathlib.Omega.{arith}
 use lib.Dec.{eqb}
 use lib.ListN.{length, take, drop, getD, length-take, length-drop}
-use lib.Seq.{drop-length, getD-take, getD-drop}
+use lib.Seq.{take-all, drop-length, getD-take, getD-drop}
 use Rattle.spec.specs.Letters.{isBreak, isMark}
-use Rattle.spec.specs.Refusals.{vowelByte, signByte, hardSignByte, first, none, adjacent, vowelSign, lettersBefore, row3, row4, row5, row6, row7, row8, row9, row10, rows, fitsIn, beforeAt, checkOf}
+use Rattle.spec.specs.Refusals.{vowelByte, signByte, hardSignByte, first, none, adjacent, vowelSign, lettersBefore, row3, row4, row5, row6, row7, row8, row9, row10, rows, fitsIn, beforeAt, checkOf, NoneFits}
+use Rattle.spec.specs.Joints.{RisingFrom, EachPartFrom}
 use Rattle.spec.specs.declared.Counts.{Counts}
 use Rattle.spec.specs.declared.Checked.the-variants.{Accepted}
-use Rattle.laws.proofs.Accepted.{countsOf, Clear, Passes, accepted-passes, passes-accepted}
+use Rattle.laws.proofs.Accepted.{countsOf, Clear, Passes, accepted-passes, passes-accepted, passes-none}
 use Rattle.laws.proofs.Classes.{NoBreak, break-mark, break-vowel, break-sign, break-hard-sign}
 use Rattle.laws.proofs.Cuts.{break-within}
 use Rattle.laws.proofs.Parts.{part, Begins}
@@ -182,3 +183,13 @@ pub part-accepted : (m : List ℕ) (counts : Counts) (a e : ℕ) → checkOf m �
     → Begins m a → a ≤ e → e ≤ length m → (isBreak (getD m e 0) ≡ true) ⊎ (e ≡ length m)
     → checkOf (take (e - a) (drop a m)) ≡ Accepted (countsOf (take (e - a) (drop a m)))
 part-accepted m counts a e c b h l s = passes-accepted (part m a e) (part-passes m (accepted-passes m counts c) e s a b h l)
+
+-- Each part of an accepted message, cut at breaks, is accepted.
+module _ (m : List ℕ) (p : Passes m) where
+  pub parts-none : (a : ℕ) (cuts : List ℕ) → Begins m a → a ≤ length m → RisingFrom m a cuts → EachPartFrom NoneFits m a cuts
+  parts-none a [] b l r =
+      let e = part-passes m p (length m) (inr refl) a b l (omega arith) in
+      passes-none (drop a m) (rw (take-all (length m - a) (drop a m) (omega (arith, length-drop a m))) at e)
+  parts-none a (c ∷ cuts) b l r =
+      let n = break-within m c (r .1) in
+      (passes-none (part m a c) (part-passes m p c (inl (r .1)) a b (r .0) (omega arith)), parts-none (suc c) cuts (r .1) n (r .2))

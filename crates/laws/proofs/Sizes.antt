@@ -83,7 +83,7 @@ segment-size hard next (more w x r) =
     let k = isGap x && endsHard w in
     simp length-append (omega (arith, word-size hard (isGap x && voices (segment k next r)) w, segment-size k next r))
 
--- A tape has at most two codes for a byte of message.
+-- So a tape is at most twice as long as its message.
 pub tape-size : (m : List ℕ) → length (tape m) ≤ 2 * length m
 unfolding tape
 tape-size m = omega (arith, segment-size false false (read m), read-size m)

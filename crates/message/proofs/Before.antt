@@ -10,7 +10,8 @@ use borrow.Author.Tests.{eqb-true}
 use native.Mathlib.Omega.{arith}
 use Rattle.spec.specs.Letters.{small, plainVowels, softeningVowels, isMark, isBreak, isVowel, isSign, isConsonant}
 use Rattle.spec.specs.Refusals.{vowelByte}
-use Rattle.message.specs.Scan.{classOf, isBreakClass, isConsonantClass, isSignClass, isVowelKind, isSignKind, isLetterClass, nextKind, kindAt}
+use Rattle.message.specs.Classes.{classOf, isBreakClass, isConsonantClass, isSignClass, isLetterClass}
+use Rattle.message.specs.Steps.{isVowelKind, isSignKind, nextKind, kindAt}
 use Rattle.message.proofs.Bytes.{below, below-same, by-class, letter-class, vowel-break, vowel-mark}
 use Rattle.laws.proofs.Classes.{among-same}
 use Rattle.message.specs.Places.{leftAt, letterOf, Steady}
@@ -34,7 +35,7 @@ tells k = isBreakClass k ∷ isConsonantClass k ∷ isSignKind k ∷ isVowelKind
 
 -- the kind after a byte, where v says that a vowel stands before it
 abbrev after : Bool → ℕ → ℕ
-after v b = cond (isSignClass (classOf b) && v) (classOf b + 9) (classOf b)
+after v b = cond (isSignClass (classOf b) && v) (classOf b + 10) (classOf b)
 
 -- the kind after each byte that passes a test is told by one computation
 kind-after : (test : ℕ → Bool) (p : ℕ → ℕ) (v : Bool) (b : ℕ)

@@ -10,7 +10,7 @@ use borrow.Author.Tests.{eqb-true, eqb-false, leb-true, ne-eqb}
 use Rattle.spec.specs.Alphabet.{«д», «т»}
 use Rattle.spec.specs.Letters.{small, isMark, isBreak, isConsonant}
 use Rattle.spec.specs.Refusals.{vowelByte, signByte, hardSignByte, consonantByte, letterByte}
-use Rattle.message.specs.Scan.{classOf, isBreakClass, isSignClass, isConsonantClass, isVowelClass, isLetterClass}
+use Rattle.message.specs.Classes.{classOf, isBreakClass, isSignClass, isConsonantClass, isVowelClass, isLetterClass}
 use Rattle.message.proofs.Computed.{everything}
 
 -- the numbers below n

@@ -1,24 +1,26 @@
 -- The walk of the message check is the paper's scan: a kind tells all that the rows ask of the bytes before, so a fault goes by kind and class.
 -- Assumes nothing.
 use Prim.Native.Nat.{ℕ, zero, suc, _+_, _-_, _*_, _/_, _%_, _<_, _≤_}
-use mathlib.Core.Path.{_≡_, refl, sym, ap, _∙_}
-use mathlib.Core.Bool.{Bool, true, false, cond, _&&_, _||_, not, and-false, false≢true}
+use mathlib.Core.Path.{_≡_, refl, sym, _∙_}
+use mathlib.Core.Bool.{Bool, true, false, cond, _&&_, _||_, not, and-false, and-eq-true-iff, false≢true}
 use mathlib.Core.List.{List, [], _∷_}
+use native.Mathlib.Numerals.{add-one}
 use native.Mathlib.Omega.{arith}
 use lib.Dec.{eqb, leb}
 use lib.ListN.{length, getD, drop}
 use lib.Seq.{drop-cons, drop-length}
-use borrow.Author.Tests.{eqb-true, eqb-false, leb-true, le-leb, lt-leb, ne-eqb}
+use borrow.Author.Tests.{eqb-true, eqb-false, leb-true, leb-false, ne-eqb}
 use Rattle.spec.specs.Letters.{isMark, isBreak}
 use Rattle.spec.specs.Refusals.{vowelByte, signByte, hardSignByte, first, none, adjacent, vowelSign, lettersBefore, row3, row4, row5, row6, row7, row8, row9, row10, rows, firstFit, faultAt, beforeAt, refusal, scan, checkOf}
-use Rattle.message.specs.Scan.{classOf, isBreakClass, isSignClass, isConsonantClass, isVowelClass, isLetterClass, isVowelKind, isHardSignKind, isVowelSignKind, isSignKind, nextKind, faultIn, widthIn, namesIn, tailNames, settled, packed, elidedAt, kindAt, widthAt, codesTo, namesTo, lettersAt, faultHere, Sees, limitAt, Here, finishOf}
+use Rattle.message.specs.Classes.{classOf, isBreakClass, isSignClass, isConsonantClass, isVowelClass, isLetterClass, classAt, silentAt}
+use Rattle.message.specs.Steps.{isVowelKind, isHardSignKind, isVowelSignKind, isSignKind, nextKind, faultIn, widthIn, namesIn, askIn, tailNames, packed, kindAt, widthAt, codesTo, namesTo, lettersAt, faultHere, Sees, fourAt, silentFour, Counted, finishOf}
 use Rattle.spec.specs.declared.Checked.{Checked}
 use Rattle.spec.specs.declared.Checked.the-variants.{Accepted, Refused}
 use Rattle.message.specs.declared.Seen.{Seen}
 use Rattle.laws.proofs.Accepted.{countsOf, before-length, scan-next, check-scans}
 use Rattle.message.proofs.Steadiness.{accepted-steady}
 use Rattle.message.proofs.Bytes.{below-same, pairs-same, ByClass, by-class}
-use Rattle.message.proofs.ScanTable.{Entry, entry-holds, packed-settled, settled-faultless, settled-heard, width-up}
+use Rattle.message.proofs.StepTable.{Entry, entry-holds, unpacks, silent-asks, width-silent, no-stop, stop-fault, first-stop, width-up}
 use Rattle.message.proofs.Computed.{everything}
 use Rattle.message.proofs.Lengths.{codes-all, names-all}
 
@@ -45,9 +47,9 @@ abbrev byteTests : ℕ → ℕ → List Bool
 byteTests k c = isBreakClass c ∷ isVowelClass c ∷ isSignClass c ∷ eqb c 4 ∷ (isSignClass c && isVowelKind k) ∷ (eqb c 1 || isVowelClass c) ∷ []
 
 -- the two agree
-next-tests : (k c : ℕ) → k < 15 → c < 13 → byteTests k c ≡ nextTests k c
+next-tests : (k c : ℕ) → k < 16 → c < 13 → byteTests k c ≡ nextTests k c
 unfolding everything
-next-tests k c h l = pairs-same byteTests nextTests 15 13 k c refl h l
+next-tests k c h l = pairs-same byteTests nextTests 16 13 k c refl h l
 
 -- a mark is no vowel
 mark-vowel : (b : ℕ) → isMark b ≡ true → vowelByte b ≡ false
@@ -78,11 +80,11 @@ abbrev signTests : ℕ → List Bool
 signTests k = isSignKind k ∷ isHardSignKind k ∷ isVowelSignKind k ∷ []
 
 -- a vowel's kind is no sign's
-mark-tests : (k : ℕ) → k < 15 → cond (isVowelClass k) (signTests k) [] ≡ cond (isVowelClass k) (false ∷ false ∷ false ∷ []) []
+mark-tests : (k : ℕ) → k < 16 → cond (isVowelClass k) (signTests k) [] ≡ cond (isVowelClass k) (false ∷ false ∷ false ∷ []) []
 unfolding everything
-mark-tests k h = below-same (λ x. cond (isVowelClass x) (signTests x) []) (λ x. cond (isVowelClass x) (false ∷ false ∷ false ∷ []) []) 15 k refl h
+mark-tests k h = below-same (λ x. cond (isVowelClass x) (signTests x) []) (λ x. cond (isVowelClass x) (false ∷ false ∷ false ∷ []) []) 16 k refl h
 
-module _ (before : List ℕ) (k b : ℕ) (h : k < 15) (c : ByClass b) (t : Told before k) where
+module _ (before : List ℕ) (k b : ℕ) (h : k < 16) (c : ByClass b) (t : Told before k) where
   -- the kind after a mark
   told-mark : isMark b ≡ true → faultIn k (classOf b) ≡ 0 → Told (b ∷ before) (nextKind k (classOf b))
   unfolding none first adjacent vowelSign nextKind
@@ -141,12 +143,12 @@ abbrev pub faultOf : Bool → Bool → ℕ → ℕ → ℕ
 faultOf last full k c = cond (eqb (faultIn k c) 0) (cond (isLetterClass c && full) 10 (cond (isBreakClass c && last) 4 0)) (faultIn k c)
 
 -- the two agree
-fault-same : (last full : Bool) (k c : ℕ) → k < 15 → c < 13 → faultBy last full k c ≡ faultOf last full k c
+fault-same : (last full : Bool) (k c : ℕ) → k < 16 → c < 13 → faultBy last full k c ≡ faultOf last full k c
 unfolding everything
-fault-same true true k c h l = pairs-same (faultBy true true) (faultOf true true) 15 13 k c refl h l
-fault-same true false k c h l = pairs-same (faultBy true false) (faultOf true false) 15 13 k c refl h l
-fault-same false true k c h l = pairs-same (faultBy false true) (faultOf false true) 15 13 k c refl h l
-fault-same false false k c h l = pairs-same (faultBy false false) (faultOf false false) 15 13 k c refl h l
+fault-same true true k c h l = pairs-same (faultBy true true) (faultOf true true) 16 13 k c refl h l
+fault-same true false k c h l = pairs-same (faultBy true false) (faultOf true false) 16 13 k c refl h l
+fault-same false true k c h l = pairs-same (faultBy false true) (faultOf false true) 16 13 k c refl h l
+fault-same false false k c h l = pairs-same (faultBy false false) (faultOf false false) 16 13 k c refl h l
 
 -- alternatives in another order
 or-swap : (x y z : Bool) → (x || (y || z)) ≡ (y || (x || z))
@@ -155,7 +157,7 @@ or-swap true false z = refl
 or-swap false y z = refl
 
 -- the fault at a byte, by the kind before it and its class
-pub fault-told : (before : List ℕ) (k b : ℕ) (after : List ℕ) → k < 15 → ByClass b → Told before k
+pub fault-told : (before : List ℕ) (k b : ℕ) (after : List ℕ) → k < 16 → ByClass b → Told before k
     → faultAt before b after ≡ faultOf (none after) (eqb (lettersBefore before) 64) k (classOf b)
 unfolding faultAt firstFit rows row3 row4 row5 row6 row7 row8 row9 row10
 fault-told before k b after h c t =
@@ -180,7 +182,7 @@ unfolding scan
 scan-fault a before b after n e z = rw (e, ne-eqb n 0 z)
 
 -- a byte that the walk passes is passed
-rest-more : (a : Checked) (before : List ℕ) (k b : ℕ) (after : List ℕ) → k < 15 → ByClass b → Told before k → faultIn k (classOf b) ≡ 0
+rest-more : (a : Checked) (before : List ℕ) (k b : ℕ) (after : List ℕ) → k < 16 → ByClass b → Told before k → faultIn k (classOf b) ≡ 0
     → (isLetterClass (classOf b) && eqb (lettersBefore before) 64) ≡ false → scan a before (b ∷ after) ≡ rest a (b ∷ before) after
 unfolding none scan
 rest-more a before k b [] h c t f l = by (isBreakClass (classOf b)) refl
@@ -218,7 +220,7 @@ record Reached (m : List ℕ) (i : ℕ) : Type 0 where
 
 module _ (m : List ℕ) (bytes : (j : ℕ) → getD m j 0 < 256) where
   -- every kind has its row in the table
-  pub kind-small : (i : ℕ) → kindAt m i < 15
+  pub kind-small : (i : ℕ) → kindAt m i < 16
   unfolding kindAt
   kind-small zero = omega arith
   kind-small (suc i) = entry-holds (kindAt m i) (classOf (getD m i 0)) (kind-small i) (by-class (getD m i 0) (bytes i) .class) .next
@@ -291,8 +293,7 @@ rest-all a m (suc j) k z t = let e : suc j - 1 ≡ j = omega arith in let d : is
 
 -- the end of the walk is the check's answer
 pub seen-all : (m : List ℕ) (s : Seen) → ((j : ℕ) → getD m j 0 < 256) → 0 < length m → length m ≤ 4096 → Sees m s → s .at ≡ length m → finishOf (length m) s ≡ checkOf m
-unfolding finishOf
-seen-all m s bytes z l w e = rw (row, codes, names) (by (isBreakClass (kindAt m (length m))) refl)
+seen-all m s bytes z l w e = rw (rw e at (w .kind), codes, names) (by (isBreakClass (kindAt m (length m))) refl)
   where
     n : ℕ
     n = length m
@@ -303,17 +304,14 @@ seen-all m s bytes z l w e = rw (row, codes, names) (by (isBreakClass (kindAt m 
     up : (codesTo m n ≤ 2 * n) × (namesTo m n ≤ n)
     up = counts-up m bytes n
 
-    sum : s .sum % 268435456 ≡ codesTo m n + 16384 * namesTo m n
-    sum = rw e at (w .counts)
+    sum : s .sum ≡ codesTo m n + 0x4000 * namesTo m n
+    sum = rw e at (w .sum)
 
-    row : s .row / 16 ≡ kindAt m n
-    row = let f : s .row ≡ 16 * kindAt m n = rw e at (w .row) in omega (arith, f)
+    codes : s .sum % 0x4000 ≡ codesTo m n
+    codes = omega (arith, sum, up .0)
 
-    codes : s .sum % 16384 ≡ codesTo m n
-    codes = omega (arith, sum, up .0, up .1)
-
-    names : s .sum / 16384 % 16384 ≡ namesTo m n
-    names = omega (arith, sum, up .0, up .1)
+    names : s .sum / 0x4000 ≡ namesTo m n
+    names = omega (arith, sum, up .0)
 
     answer : checkOf m ≡ cond (isBreakClass (kindAt m n)) (Refused (refusal 4 (n - 1))) (Accepted (countsOf m))
     answer = check-scans m z l ∙ r .scanned (Accepted (countsOf m)) ∙ rw (drop-length m) (rest-all (Accepted (countsOf m)) m n (kindAt m n) z (r .told))
@@ -326,130 +324,221 @@ seen-all m s bytes z l w e = rw (row, codes, names) (by (isBreakClass (kindAt m 
         let y = accepted-steady m (countsOf m) q bytes in
         sym (q ∙ rw (codes-all m y, names-all m y))
 
--- a letter more is one more at most, and what is no letter adds none
-letters-more : (m : List ℕ) (i : ℕ) → (lettersAt m (suc i) ≤ suc (lettersAt m i)) × (isLetterClass (classOf (getD m i 0)) ≡ false → lettersAt m (suc i) ≤ lettersAt m i)
+-- a byte more is one letter more at most
+letters-more : (m : List ℕ) (i : ℕ) → lettersAt m (suc i) ≤ suc (lettersAt m i)
 unfolding lettersAt
-letters-more m i = by (isBreakClass (classOf (getD m i 0))) (isLetterClass (classOf (getD m i 0)))
+letters-more m i = by (isBreakClass (classAt m i)) (isLetterClass (classAt m i))
   where
-    by : (s t : Bool) → (cond s 0 (cond t (suc (lettersAt m i)) (lettersAt m i)) ≤ suc (lettersAt m i)) × (t ≡ false → cond s 0 (cond t (suc (lettersAt m i)) (lettersAt m i)) ≤ lettersAt m i)
-    by true t = (omega arith, λ e. omega arith)
-    by false true = (omega arith, λ e. absurd (false≢true (sym e)))
-    by false false = (omega arith, λ e. omega arith)
+    by : (s t : Bool) → cond s 0 (cond t (suc (lettersAt m i)) (lettersAt m i)) ≤ suc (lettersAt m i)
+    by true t = omega arith
+    by false true = omega arith
+    by false false = omega arith
 
--- т or д after a paired consonant has no fault, and makes one code where it is heard
-silent-tests : (faultIn 7 8 ≡ 0) × (128 ≡ 16 * nextKind 7 8) × (widthIn 7 8 ≡ 1) × (namesIn 7 8 ≡ 0)
-unfolding everything
-silent-tests = (refl, refl, refl, refl)
+-- so n bytes have n letters at most
+letters-up : (m : List ℕ) (i n : ℕ) → lettersAt m (n + i) ≤ n + lettersAt m i
+letters-up m i zero = let e : 0 + i ≡ i = omega arith in rw e (omega arith)
+letters-up m i (suc n) = let e : suc n + i ≡ suc (n + i) = omega arith in rw e (omega (arith, letters-more m (n + i), letters-up m i n))
 
-pub silent-faultless : {k c : ℕ} → k ≡ 7 → c ≡ 8 → faultIn k c ≡ 0
-silent-faultless k c = rw (k, c) (silent-tests .0)
+-- and no place has more letters before it than bytes
+pub letters-all : (m : List ℕ) (i : ℕ) → lettersAt m i ≤ i
+unfolding lettersAt
+letters-all m i = let e : i + 0 ≡ i = omega arith in omega (arith, rw e at (letters-up m 0 i))
 
--- it makes one code at most
-pub one-code : (silent : Bool) → cond silent 0 1 ≤ 1
-one-code true = omega arith
-one-code false = omega arith
+-- where no byte before has a fault, a word has 64 letters at most
+letters-most : (m : List ℕ) (i : ℕ) → ((j : ℕ) → j < i → faultHere m j ≡ 0) → lettersAt m i ≤ 64
+unfolding lettersAt
+letters-most m zero c = omega arith
+letters-most m (suc i) c = by (isBreakClass (classAt m i)) (isLetterClass (classAt m i)) (here-clear m i (c i (omega arith)) .1) (letters-most m i (λ j h. c j (omega arith)))
+  where
+    by : (s t : Bool) → (t && eqb (lettersAt m i) 64) ≡ false → lettersAt m i ≤ 64 → cond s 0 (cond t (suc (lettersAt m i)) (lettersAt m i)) ≤ 64
+    by true t e h = omega arith
+    by false true e h = omega (arith, eqb-false (lettersAt m i) 64 e)
+    by false false e h = h
 
 -- at the start nothing is seen
-pub sees-none : (m : List ℕ) → Sees m (record { at = 0; row = 32; limit = 64; sum = 0 })
+pub sees-none : (m : List ℕ) → Sees m (record { at = 0; kind = 2; from = 0; limit = 64; sum = 0 })
 unfolding kindAt codesTo namesTo lettersAt
-sees-none m = record {
-  within = omega arith;
-  clear = λ j h. absurd (omega arith);
-  row = refl;
-  counts = refl;
-  sum = omega arith;
-  ahead = omega arith;
-  limit = omega arith;
-}
+sees-none m = record { within = omega arith; clear = λ j h. absurd (omega arith); kind = refl; sum = refl; from = omega arith; limit = refl }
+
+-- a sum is small
+pub sum-small : (m : List ℕ) → ((j : ℕ) → getD m j 0 < 256) → (s : Seen) → Sees m s → s .sum ≤ 0x4002 * s .at
+sum-small m bytes s w = let u = counts-up m bytes (s .at) in omega (arith, w .sum, u .0, u .1)
+
+-- before the limit a word has room for a letter
+pub below-limit : (m : List ℕ) (s : Seen) → Sees m s → s .at < s .limit → lettersAt m (s .at) < 64
+below-limit m s w h =
+    let n = s .at - s .from in
+    let e : n + s .from ≡ s .at = omega (arith, w .from) in
+    let u : lettersAt m (s .at) ≤ n + lettersAt m (s .from) = rw e at (letters-up m (s .from) n) in
+    omega (arith, u, w .limit, w .from)
+
+-- the limit counted anew
+pub sees-counted : (m : List ℕ) (s : Seen) (n : ℕ) → Sees m s → n ≡ lettersAt m (s .at)
+    → Counted m (s .at) (record { at = s .at; kind = s .kind; from = s .at; limit = s .at + 64 - n; sum = s .sum })
+sees-counted m s n w e =
+    let h = letters-most m (s .at) (w .clear) in
+    record {
+      sees = record { within = w .within; clear = w .clear; kind = w .kind; sum = w .sum; from = omega arith; limit = omega (arith, e, h) };
+      place = refl;
+      full = λ l. omega (arith, l, e, h);
+    }
 
 -- The check sees all up to a byte.
-module _ (m : List ℕ) (bytes : (j : ℕ) → getD m j 0 < 256) (s : Seen) (w : Sees m s) (h : s .at < length m) (short : length m ≤ 4096) where
-  -- the class of the byte
-  abbrev class : ℕ
-  class = classOf (getD m (s .at) 0)
+module _ (m : List ℕ) (bytes : (j : ℕ) → getD m j 0 < 256) (s : Seen) (w : Sees m s) (h : s .at < length m) where
+  -- its entry
+  pub entry-here : Entry (s .kind) (classAt m (s .at))
+  entry-here = rw (w .kind) (entry-at m bytes (s .at))
 
-  -- a byte without a fault is seen, with a limit that still holds
-  sees-more : (row limit sum : ℕ) → faultHere m (s .at) ≡ 0 → row ≡ 16 * nextKind (kindAt m (s .at)) class
-      → sum % 268435456 ≡ s .sum % 268435456 + (widthAt m (s .at) (kindAt m (s .at)) + 16384 * namesIn (kindAt m (s .at)) class) → sum ≤ s .sum + 4294967296
-      → suc (s .at) ≤ limit → lettersAt m (suc (s .at)) + limit ≤ suc (s .at) + 64 → Sees m (record { at = suc (s .at); row = row; limit = limit; sum = sum })
+  -- what it adds, with what it loses, is what its entry has
+  adds : widthAt m (s .at) (kindAt m (s .at)) + silentAt m (s .at) + 0x4000 * namesIn (kindAt m (s .at)) (classAt m (s .at)) ≡ packed (s .kind) (classAt m (s .at)) % 0x20000
+  adds = rw (w .kind) (omega (arith, width-silent m (s .at) bytes, unpacks _ _ (entry-at m bytes (s .at)) .counts))
+
+  -- it is passed where it has no fault
+  pub sees-more : (sum : ℕ) → faultHere m (s .at) ≡ 0 → sum + silentAt m (s .at) ≡ s .sum + packed (s .kind) (classAt m (s .at)) % 0x20000
+      → Sees m (record { at = suc (s .at); kind = nextKind (s .kind) (classAt m (s .at)); from = s .from; limit = s .limit; sum = sum })
   unfolding kindAt codesTo namesTo
-  sees-more row limit sum f r c u a l = record {
+  sees-more sum f e = record {
     within = h;
     clear = λ j b. by j (eqb j (s .at)) refl b;
-    row = r;
-    counts = omega (arith, c, w .counts);
-    sum = omega (arith, u, w .sum);
-    ahead = a;
-    limit = l;
+    kind = rw (w .kind);
+    sum = omega (arith, e, adds, w .sum);
+    from = omega (arith, w .from);
+    limit = w .limit;
   }
     where
       by : (j : ℕ) (t : Bool) → eqb j (s .at) ≡ t → j < suc (s .at) → faultHere m j ≡ 0
       by j true d b = rw (eqb-true j (s .at) d) f
       by j false d b = w .clear j (omega (arith, eqb-false j (s .at) d))
 
-  -- A byte of which the table says all, with a limit that holds at its place.
-  module _ (limit : ℕ) (ahead : s .at ≤ limit) (l : lettersAt m (s .at) + limit ≤ s .at + 64) (q : settled (kindAt m (s .at)) class ≡ true) where
-    -- the sum with its entry
-    entry-sum : (s .sum + packed (kindAt m (s .at)) class) % 268435456
-        ≡ s .sum % 268435456 + (widthAt m (s .at) (kindAt m (s .at)) + 16384 * namesIn (kindAt m (s .at)) class)
-    unfolding widthAt
-    entry-sum =
-        let k = kindAt m (s .at) in
-        let u = counts-up m bytes (s .at) in
-        let e = entry-at m bytes (s .at) in
-        let p = packed-settled k class q in
-        rw (settled-heard m (s .at) bytes q) (omega (arith, p, u .0, u .1, w .counts, e .width, e .names))
+  -- a byte before the limit has no fault but its entry's
+  clear-below : s .at < s .limit → faultIn (s .kind) (classAt m (s .at)) ≡ 0 → faultHere m (s .at) ≡ 0
+  clear-below l f =
+      let z : eqb (lettersAt m (s .at)) 64 ≡ false = ne-eqb (lettersAt m (s .at)) 64 (λ e. omega (arith, below-limit m s w l, e)) in
+      clear-here m (s .at) (rw (w .kind) at f) (rw (z, and-false (isLetterClass (classAt m (s .at)))))
 
-    -- and the row in it
-    entry-row : packed (kindAt m (s .at)) class / 16777216 ≡ 16 * nextKind (kindAt m (s .at)) class
-    entry-row =
-        let e = entry-at m bytes (s .at) in
-        omega (arith, packed-settled (kindAt m (s .at)) class q, e .width, e .names)
+  -- a second stop is the byte's fault
+  pub stop-here : 0x200000 ≤ packed (s .kind) (classAt m (s .at)) → let n = packed (s .kind) (classAt m (s .at)) / 0x100000 - 1 in (faultHere m (s .at) ≡ n) × (n ≡ 0 → ⊥)
+  unfolding faultHere
+  stop-here l =
+      let u = unpacks _ _ entry-here .stop in
+      let f : packed (s .kind) (classAt m (s .at)) / 0x100000 ≡ suc (faultIn (s .kind) (classAt m (s .at))) = u ∙ stop-fault (s .kind) (classAt m (s .at)) (λ e. omega (arith, u, e)) in
+      let z : faultIn (s .kind) (classAt m (s .at)) ≡ 0 → ⊥ = λ e. omega (arith, f, e) in
+      (rw (← w .kind, ne-eqb (faultIn (s .kind) (classAt m (s .at))) 0 z) (omega (arith, f)), λ e. omega (arith, f, z, e))
 
-    -- it is passed where the word may have a letter more
-    pub sees-letter : s .at < limit
-        → Sees m (record { at = suc (s .at); row = packed (kindAt m (s .at)) class / 16777216; limit = limit; sum = s .sum + packed (kindAt m (s .at)) class })
-    sees-letter a =
-        let z : eqb (lettersAt m (s .at)) 64 ≡ false = ne-eqb (lettersAt m (s .at)) 64 (λ e. omega (arith, l, e)) in
-        sees-more _ limit _ (clear-here m (s .at) (settled-faultless _ _ q) (rw (z, and-false (isLetterClass class)))) entry-row entry-sum
-        (omega (arith, entry-at m bytes (s .at) .small)) a (omega (arith, l, letters-more m (s .at) .0))
+  -- before it the byte has no fault but as a 65th letter
+  first-here : packed (s .kind) (classAt m (s .at)) < 0x200000 → faultIn (kindAt m (s .at)) (classAt m (s .at)) ≡ 0
+  first-here l = rw (← w .kind) (first-stop (s .kind) (classAt m (s .at)) (omega (arith, unpacks _ _ entry-here .stop)))
 
-    -- and where it is no letter
-    pub sees-other : class < 4
-        → Sees m (record { at = suc (s .at); row = packed (kindAt m (s .at)) class / 16777216; limit = suc limit; sum = s .sum + packed (kindAt m (s .at)) class })
-    sees-other a =
-        let n : isLetterClass class ≡ false = lt-leb 4 class a in
-        sees-more _ (suc limit) _ (clear-here m (s .at) (settled-faultless _ _ q) (rw n)) entry-row entry-sum
-        (omega (arith, entry-at m bytes (s .at) .small)) (omega (arith, ahead)) (omega (arith, l, letters-more m (s .at) .1 n))
+  -- a letter at the limit, where that is counted, is one
+  pub full-here : packed (s .kind) (classAt m (s .at)) < 0x200000 → (s .limit ≤ s .at → lettersAt m (s .at) ≡ 64) → (isLetterClass (classAt m (s .at)) && leb (s .limit) (s .at)) ≡ true
+      → faultHere m (s .at) ≡ 10
+  unfolding faultHere
+  full-here l q e =
+      let b = and-eq-true-iff (isLetterClass (classAt m (s .at))) (leb (s .limit) (s .at)) .0 e in
+      rw (first-here l, b .0, q (leb-true _ _ (b .1)))
 
-  -- т or д after a paired consonant is passed, with one code or none
-  pub sees-silent : (limit n : ℕ) → s .at < limit → lettersAt m (s .at) + limit ≤ s .at + 64 → kindAt m (s .at) ≡ 7 → class ≡ 8 → n ≡ cond (elidedAt m (s .at)) 0 1
-      → Sees m (record { at = suc (s .at); row = 128; limit = limit; sum = s .sum + n })
-  unfolding widthAt
-  sees-silent limit n a l k c e =
-      let u = counts-up m bytes (s .at) in
-      let z : eqb (lettersAt m (s .at)) 64 ≡ false = ne-eqb (lettersAt m (s .at)) 64 (λ e. omega (arith, l, e)) in
-      sees-more 128 limit (s .sum + n) (clear-here m (s .at) (silent-faultless k c) (rw (z, and-false (isLetterClass class)))) (rw (k, c) (silent-tests .1))
-      (rw (k, c, silent-tests .2, silent-tests .3, ← e) (omega (arith, u .0, u .1, w .counts, small-bit))) (omega (arith, small-bit)) a (omega (arith, l, letters-more m (s .at) .0))
+  -- any other byte is none
+  pub clear-other : packed (s .kind) (classAt m (s .at)) < 0x200000 → (isLetterClass (classAt m (s .at)) && leb (s .limit) (s .at)) ≡ false → faultHere m (s .at) ≡ 0
+  clear-other l e = clear-here m (s .at) (first-here l) (by (isLetterClass (classAt m (s .at))) (leb (s .limit) (s .at)) refl e)
     where
-      small-bit : n ≤ 1
-      small-bit = rw e (one-code (elidedAt m (s .at)))
+      by : (t u : Bool) → leb (s .limit) (s .at) ≡ u → (t && u) ≡ false → (t && eqb (lettersAt m (s .at)) 64) ≡ false
+      by true true d z = absurd (false≢true (sym z))
+      by true false d z = ne-eqb (lettersAt m (s .at)) 64 (λ e. omega (arith, below-limit m s w (omega (arith, leb-false (s .limit) (s .at) d)), e))
+      by false u d z = refl
 
--- the limit counted anew holds too, and where it is reached the word has 64 letters
-pub limit-here : (m : List ℕ) (s : Seen) (l : ℕ) → Here m s l → (s .at ≤ l) × (lettersAt m (s .at) + l ≤ s .at + 64) × (s .at ≡ l → lettersAt m (s .at) ≡ 64)
-unfolding limitAt
-limit-here m s l h = rw (h .limit) (by (leb (suc (s .at)) (s .limit)) refl)
+  -- where it is enough to add, its class is the next kind; j is the next place
+  pub sees-plain : (j sum : ℕ) → s .at + 1 ≡ j → s .at < s .limit → packed (s .kind) (classAt m (s .at)) < 0x100000
+      → sum + silentAt m (s .at) ≡ s .sum + packed (s .kind) (classAt m (s .at)) % 0x20000
+      → Sees m (record { at = j; kind = classAt m (s .at); from = s .from; limit = s .limit; sum = sum })
+  sees-plain j sum d l p e =
+      let u = unpacks _ _ entry-here in
+      let n = no-stop (s .kind) (classAt m (s .at)) (omega (arith, u .stop)) in
+      let r = sees-more sum (clear-below l (n .0)) e in
+      rw (← d, add-one (s .at)) (rw (n .1) at r)
+
+  -- What the entry has: as many codes as the byte loses, no ask where it loses none, and not much.
+  pub record Gives : Type 0 where
+    pub enough : silentAt m (s .at) ≤ packed (s .kind) (classAt m (s .at)) % 0x20000
+    pub plain : packed (s .kind) (classAt m (s .at)) < 0x20000 → silentAt m (s .at) ≡ 0
+    pub small : packed (s .kind) (classAt m (s .at)) % 0x20000 ≤ 0x4002
+
+  -- it has
+  pub gives : Gives
+  gives =
+      let u = unpacks _ _ entry-here in
+      let a = silent-asks m (s .at) bytes in
+      let b : silentAt m (s .at) ≤ askIn (s .kind) (classAt m (s .at)) = rw (w .kind) (a .0) in
+      let c : silentAt m (s .at) ≤ widthIn (s .kind) (classAt m (s .at)) = rw (w .kind) (a .1) in
+      record { enough = omega (arith, c, u .counts); plain = λ q. omega (arith, b, u .ask q); small = omega (arith, u .counts, entry-here .width, entry-here .names) }
+
+-- remainders that are small add up
+add-rest : (x y : ℕ) → x % 0x20000 + y % 0x20000 < 0x20000 → (x + y) % 0x20000 ≡ x % 0x20000 + y % 0x20000
+add-rest x y h = omega (arith, h)
+
+-- n bytes from place i on, the first after kind k: the sum of their entries, the codes they lose, the kind after them
+unfoldable sums : List ℕ → ℕ → ℕ → ℕ → ℕ
+sums m k i zero = 0
+sums m k i (suc n) = packed k (classAt m i) + sums m (classAt m i) (suc i) n
+
+unfoldable losses : List ℕ → ℕ → ℕ → ℕ
+losses m i zero = 0
+losses m i (suc n) = silentAt m i + losses m (suc i) n
+
+unfoldable kindPast : List ℕ → ℕ → ℕ → ℕ → ℕ
+kindPast m k i zero = k
+kindPast m k i (suc n) = kindPast m (classAt m i) (suc i) n
+
+-- They need only be added: x is the sum of their entries, and has the codes that they lose.
+pub record Adds (m : List ℕ) (s : Seen) (n x lost k : ℕ) : Type 0 where
+  pub enough : lost ≤ x % 0x20000
+  pub plain : x < 0x20000 → lost ≡ 0
+  pub small : x % 0x20000 ≤ 0x4002 * n
+  pub seen : (sum : ℕ) → sum + lost ≡ s .sum + x % 0x20000 → Sees m (record { at = s .at + n; kind = k; from = s .from; limit = s .limit; sum = sum })
+
+-- one after the other
+adds-up : (m : List ℕ) → ((j : ℕ) → getD m j 0 < 256) → (n : ℕ) → n ≤ 7 → (s : Seen) → Sees m s → s .at + n ≤ length m → s .at + n ≤ s .limit → sums m (s .kind) (s .at) n < 0x100000
+    → Adds m s n (sums m (s .kind) (s .at) n) (losses m (s .at) n) (kindPast m (s .kind) (s .at) n)
+unfolding sums losses kindPast
+adds-up m bytes zero l s w h u p = record {
+  enough = omega arith;
+  plain = λ q. refl;
+  small = omega arith;
+  seen = λ sum e. let z : s .at + 0 ≡ s .at = omega arith in let d : sum ≡ s .sum = omega (arith, e) in rw (z, d) w;
+}
+adds-up m bytes (suc n) l s w h u p = by (adds-up m bytes n (omega arith) next seen (omega (arith, h)) (omega (arith, u)) (omega (arith, p)))
   where
-    w : Sees m s
-    w = h .sees
+    g : Gives m bytes s w (omega (arith, h))
+    g = gives m bytes s w (omega (arith, h))
 
-    by : (t : Bool) → leb (suc (s .at)) (s .limit) ≡ t
-        → let n = cond t (s .limit) (s .at + 64 - lettersAt m (s .at)) in
-        (s .at ≤ n) × (lettersAt m (s .at) + n ≤ s .at + 64) × (s .at ≡ n → lettersAt m (s .at) ≡ 64)
-    by true d = (w .ahead, w .limit, λ e. absurd (omega (arith, leb-true (suc (s .at)) (s .limit) d, e)))
-    by false d = (omega (arith, w .ahead, w .limit), omega (arith, w .ahead, w .limit), λ e. omega (arith, w .ahead, w .limit, e))
+    next : Seen
+    next = record { at = suc (s .at); kind = classAt m (s .at); from = s .from; limit = s .limit; sum = s .sum + packed (s .kind) (classAt m (s .at)) % 0x20000 - silentAt m (s .at) }
 
--- there a letter is the 65th
-pub limit-fault : (m : List ℕ) (i : ℕ) → faultIn (kindAt m i) (classOf (getD m i 0)) ≡ 0 → 4 ≤ classOf (getD m i 0) → lettersAt m i ≡ 64 → faultHere m i ≡ 10
-unfolding faultHere
-limit-fault m i f c e = rw (f, le-leb 4 (classOf (getD m i 0)) c, e)
+    seen : Sees m next
+    seen = sees-plain m bytes s w (omega (arith, h)) (suc (s .at)) _ (omega arith) (omega (arith, u)) (omega (arith, p)) (omega (arith, g .enough))
+
+    by : Adds m next n (sums m (next .kind) (next .at) n) (losses m (next .at) n) (kindPast m (next .kind) (next .at) n)
+        → Adds m s (suc n) (sums m (s .kind) (s .at) (suc n)) (losses m (s .at) (suc n)) (kindPast m (s .kind) (s .at) (suc n))
+    by r =
+        let a = add-rest (packed (s .kind) (classAt m (s .at))) (sums m (classAt m (s .at)) (suc (s .at)) n) (omega (arith, g .small, r .small, l)) in
+        record {
+          enough = omega (arith, a, g .enough, r .enough);
+          plain = λ q. omega (arith, g .plain (omega (arith, q)), r .plain (omega (arith, q)));
+          small = omega (arith, a, g .small, r .small);
+          seen = λ sum e. let z : s .at + suc n ≡ suc (s .at) + n = omega arith in rw z (r .seen sum (omega (arith, a, e, g .enough)));
+        }
+
+-- four of them as the code has them
+fours : (m : List ℕ) (k i : ℕ) → (fourAt m i k ≡ sums m k i 4) × (silentFour m i ≡ losses m i 4) × (classAt m (i + 3) ≡ kindPast m k i 4)
+unfolding sums losses kindPast
+fours m k i =
+    let a : i + 1 ≡ suc i = omega arith in
+    let b : i + 2 ≡ suc (suc i) = omega arith in
+    let c : i + 3 ≡ suc (suc (suc i)) = omega arith in
+    rw (a, b, c) (omega arith, omega arith, refl)
+
+-- four need only be added where their sum has no stop
+pub sees-four : (m : List ℕ) → ((j : ℕ) → getD m j 0 < 256) → (s : Seen) → Sees m s → s .at + 4 ≤ length m → s .at + 4 ≤ s .limit → fourAt m (s .at) (s .kind) < 0x100000
+    → Adds m s 4 (fourAt m (s .at) (s .kind)) (silentFour m (s .at)) (classAt m (s .at + 3))
+sees-four m bytes s w h l p =
+    let f = fours m (s .kind) (s .at) in
+    rw (f .0, f .1, f .2) (adds-up m bytes 4 (omega arith) s w h l (rw (f .0) at p))

@@ -17,7 +17,8 @@ use Rattle.spec.specs.Vowels.{bare, glides}
 use Rattle.spec.specs.Voicing.{Tone}
 use Rattle.spec.specs.Tape.{tape, names}
 use Rattle.spec.specs.Refusals.{vowelByte}
-use Rattle.message.specs.Scan.{classOf, isBreakClass, isConsonantClass, isSignKind, isLetterClass, kindAt, letterAt, letterBefore, elidedAt, widthIn, widthAt, codesTo, namesIn, namesTo, tailNames}
+use Rattle.message.specs.Classes.{classOf, isBreakClass, isConsonantClass, isLetterClass, letterAt, letterBefore, elidedAt}
+use Rattle.message.specs.Steps.{isSignKind, kindAt, widthIn, widthAt, codesTo, namesIn, namesTo, tailNames}
 use Rattle.spec.specs.declared.Cover.the-variants.{Bare, Covered}
 use Rattle.message.proofs.Bytes.{below, below-same, by-class, break-consonant, mark-consonant, letter-class}
 use Rattle.laws.proofs.Classes.{among-same}

@@ -6,7 +6,7 @@ pub mod Elided
 pub mod Fused
 pub mod Left
 pub mod Lengths
-pub mod ScanTable
+pub mod StepTable
 pub mod Silent
 pub mod Steadiness
 pub mod Tail

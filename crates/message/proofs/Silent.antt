@@ -13,7 +13,7 @@ use Rattle.spec.specs.Alphabet.{«д», «з», «к», «н», «р», «с»,
 use Rattle.spec.specs.Tables.{among}
 use Rattle.spec.specs.Letters.{Letter, read, firstWord, firstByte, small, hardOnly, paired, softOnly, plainVowels, softeningVowels, isMark, isBreak, isVowel, isConsonant}
 use Rattle.spec.specs.Elision.{secondByte, elides, elidesT, elidesD, elidesAmong}
-use Rattle.message.specs.Scan.{letterAt, letterBefore, elidedAt}
+use Rattle.message.specs.Classes.{letterAt, letterBefore, elidedAt}
 use Rattle.message.proofs.Bytes.{break-consonant, mark-consonant, consonant-vowel}
 use Rattle.laws.proofs.Classes.{among-same, among-none}
 use Rattle.message.specs.Places.{leftAt, wordAt, letterOf, Steady}

@@ -4,13 +4,13 @@ use Prim.Native.Nat.{ℕ, suc, _<_}
 use mathlib.Core.Path.{_≡_, refl, sym, _∙_}
 use mathlib.Core.Bool.{Bool, true, false, _&&_, not, false≢true}
 use mathlib.Core.List.{List, []}
-use lib.ListN.{length, getD, drop}
+use lib.ListN.{getD, drop}
 use Rattle.spec.specs.Letters.{isMark}
 use Rattle.spec.specs.Refusals.{vowelByte, first, row3, row5, rows, fitsIn, beforeAt, checkOf}
 use Rattle.spec.specs.declared.Counts.{Counts}
 use Rattle.spec.specs.declared.Checked.the-variants.{Accepted}
 use Rattle.laws.proofs.Accepted.{Clear, accepted-passes}
-use Rattle.message.specs.Scan.{classOf}
+use Rattle.message.specs.Classes.{classOf}
 use Rattle.message.specs.Places.{Steady}
 use Rattle.message.proofs.Bytes.{ByClass, by-class}
 

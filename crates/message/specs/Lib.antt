@@ -1,3 +1,4 @@
-pub mod Scan
+pub mod Classes
+pub mod Steps
 pub mod Fused
 pub mod Places

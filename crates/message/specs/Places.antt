@@ -13,7 +13,7 @@ use Rattle.spec.specs.Voicing.{Tone, voices, toneOf}
 use Rattle.spec.specs.Palatalization.{firstCode}
 use Rattle.spec.specs.Tape.{segment, namesOf}
 use Rattle.spec.specs.Refusals.{vowelByte}
-use Rattle.message.specs.Scan.{classOf}
+use Rattle.message.specs.Classes.{classOf}
 use Rattle.message.specs.Fused.{toneBefore, letterCodes, fusedFrom}
 
 -- what the bytes before a place say: the last letter of the word, the one before it (0 for none), and whether a hard boundary stands right before the place

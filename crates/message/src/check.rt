@@ -1,100 +1,221 @@
-// The message check: one walk from left to right.
+// The message check: one walk from left to right. Nearly all bytes are passed by fours, since what a byte adds depends on its class and the class before it alone.
 ghost use mathlib.Core.Path.{_≡_};
-ghost use mathlib.Core.Bool.{cond};
-ghost use Prim.Native.Nat.{ℕ, _*_, _<_, _≤_};
-ghost use lib.ListN.{length, getD};
+ghost use mathlib.Core.Bool.{_&&_};
+ghost use Prim.Native.Nat.{_+_, _<_, _≤_, _%_};
+ghost use lib.Dec.{leb};
+ghost use lib.ListN.{length};
 ghost use Rattle.spec.specs.Refusals.{checkOf};
-ghost use Rattle.message.specs.Scan.{classes, steps, classOf, packed, elidedAt, kindAt, lettersAt, limitAt, Sees, Here, Judged, finishOf};
+ghost use Rattle.message.specs.Classes.{classes, isLetterClass, classAt, silentAt};
+ghost use Rattle.message.specs.Steps.{nextKind, packed, tailNames, lettersAt, Sees, Tables, Reads, fourAt, silentFour, Weighs, FoursTo, Goes, Counted, Stands, Judged, finishOf};
 use crate::Seen;
 use crate::Step;
+use crate::classes::AFTER_VOWEL_STEP;
+use crate::classes::ASK;
+use crate::classes::BYTES;
+use crate::classes::COLUMNS;
+use crate::classes::FIRST_LETTER;
+use crate::classes::GAP;
+use crate::classes::HARD_SIGN;
+use crate::classes::HARD_SIGN_AFTER_VOWEL;
+use crate::classes::LETTERS_MAX;
+use crate::classes::MARK;
+use crate::classes::MESSAGE_MAX;
+use crate::classes::NAME;
+use crate::classes::PAIRS_SIZE;
+use crate::classes::PAUSE;
+use crate::classes::PLAIN_VOWEL;
+use crate::classes::SOFT_ONLY;
+use crate::classes::SOFT_SIGN;
+use crate::classes::STOP;
+use crate::classes::T_OR_D;
+use crate::classes::VOWEL_I;
+use crate::classify::class_of;
+use crate::classify::class_table;
 use crate::letters::is_elided;
-use crate::tables::class_table;
-use crate::tables::step_table;
+use crate::pairs::pair_table;
 use spec::Checked;
 use spec::Counts;
 use spec::Refusal;
 
-// The class of a byte.
-pub fn class_of(b: u8, t: &[u8; 256]) -> usize
-    requires { ⌜ now t ≡ classes ⌝ }
-    ensures { λ r. ⌜ r ≡ classOf b ⌝ }
+// The entry for the byte at place i after kind k.
+fn entry_at(m: &[u8], i: usize, k: usize, t: &[u8; BYTES], s: &[u32; PAIRS_SIZE]) -> usize
+    requires { ⌜ Reads (now m) (now t) (now s) k (i + 1) ⌝ }
+    ensures { λ r. ⌜ (r ≡ packed k (classAt (now (m .entry)) i)) × (r < 0x2000000) ⌝ }
 {
-    t[b as usize] as usize
+    let c = class_of(m[i], t);
+    s[COLUMNS * k + c] as usize
 }
 
-// What the table has for the byte at the place: the sum to add, and the next row in its highest byte.
-fn look_up(m: &[u8], at: usize, row: usize, t: &[u8; 256], s: &[u32; 240]) -> usize
-    requires { ⌜ (now t ≡ classes) × (now s ≡ steps) × (at < length (now m)) × (row ≡ 16 * kindAt (now m) at) ⌝ }
-    ensures { λ r. ⌜ r ≡ packed (kindAt (now (m .entry)) at) (classOf (getD (now (m .entry)) at 0)) ⌝ }
+// The sum of the entries of four bytes.
+fn sum_four(m: &[u8], i: usize, k: usize, t: &[u8; BYTES], s: &[u32; PAIRS_SIZE]) -> usize
+    requires { ⌜ Reads (now m) (now t) (now s) k (i + 4) ⌝ }
+    ensures { λ r. ⌜ r ≡ fourAt (now (m .entry)) i k ⌝ }
 {
-    let c = class_of(m[at], t);
-    s[row + c] as usize
+    let a = class_of(m[i], t);
+    let b = class_of(m[i + 1], t);
+    let c = class_of(m[i + 2], t);
+    entry_at(m, i, k, t, s)
+        + entry_at(m, i + 1, a, t, s)
+        + entry_at(m, i + 2, b, t, s)
+        + entry_at(m, i + 3, c, t, s)
 }
 
-// Passes bytes of which the table says all, up to place to. This loop has nearly all bytes, so it does nothing else.
-fn pass(m: &[u8], to: usize, seen: Seen, t: &[u8; 256], s: &[u32; 240]) -> Seen
-    requires { ⌜ (now t ≡ classes) × (now s ≡ steps) × Sees (now m) seen × (seen .at ≤ to) × (to ≤ seen .limit) × (to ≤ length (now m)) × (length (now m) ≤ 4096) ⌝ }
+// How many codes the byte at place i loses: only т and д are elided, so no other class is asked of.
+fn silent_at(m: &[u8], i: usize, t: &[u8; BYTES]) -> usize
+    requires { ⌜ (now t ≡ classes) × (i < length (now m)) ⌝ }
+    ensures { λ r. ⌜ (r ≡ silentAt (now (m .entry)) i) × (r ≤ 1) ⌝ }
+{
+    if class_of(m[i], t) == T_OR_D {
+        if is_elided(m, i) {
+            return 1;
+        }
+    }
+    0
+}
+
+// How many codes four bytes lose.
+fn silent_four(m: &[u8], i: usize, t: &[u8; BYTES]) -> usize
+    requires { ⌜ (now t ≡ classes) × (i + 4 ≤ length (now m)) ⌝ }
+    ensures { λ r. ⌜ r ≡ silentFour (now (m .entry)) i ⌝ }
+{
+    silent_at(m, i, t) + silent_at(m, i + 1, t) + silent_at(m, i + 2, t) + silent_at(m, i + 3, t)
+}
+
+// What four bytes add, x being the sum of their entries.
+fn weigh_four(m: &[u8], i: usize, x: usize, t: &[u8; BYTES]) -> usize
+    requires { ⌜ Weighs (now m) (now t) i x ⌝ }
+    ensures { λ r. ⌜ r + silentFour (now (m .entry)) i ≡ x % 0x20000 ⌝ }
+{
+    if x < ASK {
+        return x;
+    }
+    x % ASK - silent_four(m, i, t)
+}
+
+// Passes bytes by fours while these begin before place to and need no more than to be added. This loop has nearly all bytes, so it does nothing else.
+fn pass_fours(m: &[u8], to: usize, seen: Seen, t: &[u8; BYTES], s: &[u32; PAIRS_SIZE]) -> Seen
+    requires { ⌜ Goes (now m) (now t) (now s) seen to ⌝ }
     ensures { λ r. ⌜ Sees (now (m .entry)) r × (seen .at ≤ r .at) ⌝ }
 {
+    let from = seen.from;
     let limit = seen.limit;
     let mut at = seen.at;
-    let mut row = seen.row;
+    let mut kind = seen.kind;
     let mut sum = seen.sum;
     while at < to {
-        let e = look_up(m, at, row, t, s);
-        if 0xF0000000 <= e {
+        let x = sum_four(m, at, kind, t, s);
+        if STOP <= x {
             return Seen {
                 at,
-                row,
+                kind,
+                from,
                 limit,
                 sum,
             };
         }
-        row = e / 0x1000000;
-        sum += e;
-        at += 1;
+        sum += weigh_four(m, at, x, t);
+        kind = class_of(m[at + 3], t);
+        at += 4;
     }
     Seen {
         at,
-        row,
+        kind,
+        from,
         limit,
         sum,
     }
 }
 
-// How many letters of its word stand before place i.
-fn letters_before(m: &[u8], i: usize, t: &[u8; 256]) -> usize
-    requires { ⌜ (now t ≡ classes) × (i ≤ length (now m)) ⌝ }
-    ensures { λ r. ⌜ r ≡ lettersAt (now (m .entry)) i ⌝ }
+// How many letters of its word stand before the place of what is seen, counted back to a break or to the letters counted before.
+fn letters_at(m: &[u8], seen: Seen, t: &[u8; BYTES]) -> usize
+    requires { ⌜ (now t ≡ classes) × Sees (now m) seen ⌝ }
+    ensures { λ r. ⌜ r ≡ lettersAt (now (m .entry)) (seen .at) ⌝ }
 {
-    let mut j = i;
+    let from = seen.from;
+    let mut j = seen.at;
     let mut n = 0;
-    while 0 < j {
+    while from < j {
         j -= 1;
         let c = class_of(m[j], t);
-        if 4 <= c {
+        if FIRST_LETTER <= c {
             n += 1;
-        } else if 2 <= c {
+        } else if GAP <= c {
             return n;
         }
     }
-    n
+    from + LETTERS_MAX - seen.limit + n
 }
 
-// The limit, counted anew where it is reached: only a word of more than 64 bytes comes near it with its letters.
-fn limit_at(m: &[u8], i: usize, limit: usize, t: &[u8; 256]) -> usize
-    requires { ⌜ (now t ≡ classes) × (i ≤ length (now m)) × (i ≤ 4096) × (lettersAt (now m) i ≤ 64) ⌝ }
-    ensures { λ r. ⌜ r ≡ limitAt (now (m .entry)) i limit ⌝ }
+// The same with the letters counted, where the limit is less than four bytes ahead. Each letter is counted once.
+fn count_on(m: &[u8], seen: Seen, t: &[u8; BYTES]) -> Seen
+    requires { ⌜ (now t ≡ classes) × Sees (now m) seen ⌝ }
+    ensures { λ r. ⌜ Counted (now (m .entry)) (seen .at) r ⌝ }
 {
-    if i < limit {
-        return limit;
+    let at = seen.at;
+    let kind = seen.kind;
+    let sum = seen.sum;
+    if at + 4 <= seen.limit {
+        return seen;
     }
-    i + 64 - letters_before(m, i, t)
+    let n = letters_at(m, seen, t);
+    Seen {
+        at,
+        kind,
+        from: at,
+        limit: at + LETTERS_MAX - n,
+        sum,
+    }
+}
+
+// The kind after a byte of class c after kind k.
+fn next_kind(k: usize, c: usize) -> usize
+    requires { ⌜ c < 16 ⌝ }
+    ensures { λ r. ⌜ r ≡ nextKind k c ⌝ }
+{
+    if ((HARD_SIGN <= c) & (c <= SOFT_SIGN)) & ((k == MARK) | (PLAIN_VOWEL <= k) & (k <= VOWEL_I)) {
+        return c + AFTER_VOWEL_STEP;
+    }
+    c
+}
+
+// Is a byte of class c a letter that the word has no room for?
+fn is_too_many(c: usize, at: usize, limit: usize) -> bool
+    ensures { λ r. ⌜ r ≡ (isLetterClass c && leb limit at) ⌝ }
+{
+    (FIRST_LETTER <= c) & (limit <= at)
+}
+
+// The byte at the place, whatever it is.
+fn step(m: &[u8], seen: Seen, t: &[u8; BYTES], s: &[u32; PAIRS_SIZE]) -> Step
+    requires { ⌜ Stands (now m) (now t) (now s) seen ⌝ }
+    ensures { λ r. ⌜ Judged (now (m .entry)) seen r ⌝ }
+{
+    let counted = count_on(m, seen, t);
+    let at = counted.at;
+    let from = counted.from;
+    let limit = counted.limit;
+    let c = class_of(m[at], t);
+    let e = entry_at(m, at, counted.kind, t, s);
+    if 2 * STOP <= e {
+        return Step::Fault((e / STOP - 1) as u8);
+    }
+    if is_too_many(c, at, limit) {
+        return Step::Fault(10);
+    }
+    let kind = next_kind(counted.kind, c);
+    let sum = counted.sum + e % ASK - silent_at(m, at, t);
+    Step::Next(Seen {
+        at: at + 1,
+        kind,
+        from,
+        limit,
+        sum,
+    })
 }
 
 // The lesser of two numbers.
 fn lesser(a: usize, b: usize) -> usize
-    ensures { λ r. ⌜ (r ≤ a) × (r ≤ b) × ((x : ℕ) → x ≤ a → x ≤ b → x ≤ r) ⌝ }
+    ensures { λ r. ⌜ (r ≤ a) × (r ≤ b) ⌝ }
 {
     if a < b {
         return a;
@@ -102,121 +223,58 @@ fn lesser(a: usize, b: usize) -> usize
     b
 }
 
-// How many codes the т or д at place i makes: none where it is silent.
-fn codes_of(m: &[u8], i: usize) -> usize
-    requires { ⌜ i < length (now m) ⌝ }
-    ensures { λ r. ⌜ r ≡ cond (elidedAt (now (m .entry)) i) 0 1 ⌝ }
+// Four bytes from any place before this one are among the first n.
+fn fours_to(n: usize) -> usize
+    ensures { λ r. ⌜ FoursTo r n ⌝ }
 {
-    if is_elided(m, i) {
+    if n < 3 {
         return 0;
     }
-    1
+    n - 3
 }
 
-// т or д after a paired consonant, kind 7 and class 8, so that the next row is 8 times 16.
-fn pass_silent(m: &[u8], seen: Seen, limit: usize) -> Step
-    requires { ⌜ Here (now m) seen limit × (kindAt (now m) (seen .at) ≡ 7) × (classOf (getD (now m) (seen .at) 0) ≡ 8) ⌝ }
-    ensures { λ r. ⌜ Judged (now (m .entry)) seen r ⌝ }
+// How many names an incomplete syllable before the end of a word makes, k being the last kind.
+fn tail_names(k: usize) -> usize
+    requires { ⌜ k < 16 ⌝ }
+    ensures { λ r. ⌜ (r ≡ tailNames k) × (r ≤ 1) ⌝ }
 {
-    let at = seen.at;
-    if at == limit {
-        return Step::Fault(10);
+    if (HARD_SIGN <= k) & (k <= SOFT_ONLY) | (HARD_SIGN_AFTER_VOWEL <= k) {
+        return 1;
     }
-    let sum = seen.sum + codes_of(m, at);
-    Step::Next(Seen {
-        at: at + 1,
-        row: 128,
-        limit,
-        sum,
-    })
-}
-
-// A byte of which the table says all, with its entry e: at the limit a letter is the 65th of its word, and what is no letter moves the limit on.
-fn pass_one(m: &[u8], seen: Seen, e: usize, limit: usize, t: &[u8; 256]) -> Step
-    requires { ⌜ (now t ≡ classes) × Here (now m) seen limit × (e ≡ packed (kindAt (now m) (seen .at)) (classOf (getD (now m) (seen .at) 0))) × (e < 4026531840) ⌝ }
-    ensures { λ r. ⌜ Judged (now (m .entry)) seen r ⌝ }
-{
-    let at = seen.at;
-    let row = e / 0x1000000;
-    let sum = seen.sum + e;
-    if class_of(m[at], t) < 4 {
-        return Step::Next(Seen {
-            at: at + 1,
-            row,
-            limit: limit + 1,
-            sum,
-        });
-    }
-    if at == limit {
-        return Step::Fault(10);
-    }
-    Step::Next(Seen {
-        at: at + 1,
-        row,
-        limit,
-        sum,
-    })
-}
-
-// The byte at the place, whatever it is.
-fn step(m: &[u8], seen: Seen, t: &[u8; 256], s: &[u32; 240]) -> Step
-    requires { ⌜ (now t ≡ classes) × (now s ≡ steps) × Sees (now m) seen × (seen .at < length (now m)) × (length (now m) ≤ 4096) ⌝ }
-    ensures { λ r. ⌜ Judged (now (m .entry)) seen r ⌝ }
-{
-    let at = seen.at;
-    let e = look_up(m, at, seen.row, t, s);
-    let limit = limit_at(m, at, seen.limit, t);
-    if e < 0xF0000000 {
-        return pass_one(m, seen, e, limit, t);
-    }
-    let fault = (e % 16) as u8;
-    if fault != 0 {
-        return Step::Fault(fault);
-    }
-    pass_silent(m, seen, limit)
+    0
 }
 
 // A message of n bytes, when all have been seen: a break last is a fault, a word's last syllable may be incomplete.
 fn finish(n: usize, seen: Seen) -> Checked
-    requires { ⌜ (0 < n) × (seen .row < 240) ⌝ }
+    requires { ⌜ (0 < n) × (seen .kind < 16) ⌝ }
     ensures { λ r. ⌜ r ≡ finishOf n seen ⌝ }
 {
-    let row = seen.row;
-    let codes = seen.sum % 0x4000;
-    let names = seen.sum / 0x4000 % 0x4000;
-    if row < 64 {
-        if 32 <= row {
-            return Checked::Refused(Refusal {
-                number: 4,
-                place: n - 1,
-            });
-        }
-        return Checked::Accepted(Counts { codes, names });
+    let kind = seen.kind;
+    if (GAP <= kind) & (kind <= PAUSE) {
+        return Checked::Refused(Refusal {
+            number: 4,
+            place: n - 1,
+        });
     }
-    if 160 <= row {
-        if row < 208 {
-            return Checked::Accepted(Counts { codes, names });
-        }
-    }
-    Checked::Accepted(Counts {
-        codes,
-        names: names + 1,
-    })
+    let codes = seen.sum % NAME;
+    let names = seen.sum / NAME + tail_names(kind);
+    Checked::Accepted(Counts { codes, names })
 }
 
 // All bytes from the left, until the first fault.
-fn walk(m: &[u8], t: &[u8; 256], s: &[u32; 240]) -> Checked
-    requires { ⌜ (now t ≡ classes) × (now s ≡ steps) × (0 < length (now m)) × (length (now m) ≤ 4096) ⌝ }
+fn walk(m: &[u8], t: &[u8; BYTES], s: &[u32; PAIRS_SIZE]) -> Checked
+    requires { ⌜ Tables (now t) (now s) × (0 < length (now m)) × (length (now m) ≤ 4096) ⌝ }
     ensures { λ r. ⌜ r ≡ checkOf (now (m .entry)) ⌝ }
 {
     let mut seen = Seen {
         at: 0,
-        row: 32,
-        limit: 64,
+        kind: GAP,
+        from: 0,
+        limit: LETTERS_MAX,
         sum: 0,
     };
     while seen.at < m.len() {
-        seen = pass(m, lesser(m.len(), seen.limit), seen, t, s);
+        seen = pass_fours(m, fours_to(lesser(m.len(), seen.limit)), seen, t, s);
         if seen.at < m.len() {
             match step(m, seen, t, s) {
                 Step::Fault(number) => {
@@ -245,13 +303,13 @@ pub fn check(m: &[u8]) -> Checked
             place: 0,
         });
     }
-    if 4096 < n {
+    if MESSAGE_MAX < n {
         return Checked::Refused(Refusal {
             number: 2,
             place: 0,
         });
     }
     let t = class_table();
-    let s = step_table();
+    let s = pair_table();
     walk(m, &t, &s)
 }

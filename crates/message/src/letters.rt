@@ -1,19 +1,33 @@
 // Letters of a message by their bytes, and which of them are elided.
 ghost use mathlib.Core.Path.{_≡_};
-ghost use Prim.Native.Nat.{_<_, _≤_};
-ghost use lib.Dec.{eqb};
+ghost use Prim.Native.Nat.{_<_};
 ghost use lib.ListN.{length};
 ghost use Rattle.spec.specs.Letters.{small};
 ghost use Rattle.spec.specs.Elision.{elidesT, elidesD, elidesAmong};
-ghost use Rattle.message.specs.Scan.{letterAt, letterBefore, elidedAt};
+ghost use Rattle.message.specs.Classes.{letterAt, letterBefore, elidedAt, followsElided};
+use crate::classes::CAPITAL_YO;
+use crate::classes::CASE_STEP;
+use crate::classes::CHE;
+use crate::classes::DE;
+use crate::classes::EN;
+use crate::classes::ER;
+use crate::classes::ES;
+use crate::classes::FIRST_CAPITAL;
+use crate::classes::KA;
+use crate::classes::LAST_CAPITAL;
+use crate::classes::SHA;
+use crate::classes::TE;
+use crate::classes::TSE;
+use crate::classes::YO;
+use crate::classes::ZE;
 
 // The small letter of a byte.
 pub fn small_letter(b: u8) -> u8
     ensures { λ r. ⌜ r ≡ small b ⌝ }
 {
     match b {
-        0xC0..=0xDF => b + 32,
-        0xA8 => 0xB8,
+        FIRST_CAPITAL..=LAST_CAPITAL => b + CASE_STEP,
+        CAPITAL_YO => YO,
         _ => b,
     }
 }
@@ -35,91 +49,47 @@ pub fn letter_before(m: &[u8], i: usize) -> u8
     letter_at(m, i - 1)
 }
 
-// Is the byte this letter, small or capital? x is the small letter, and its capital is 32 below it.
-fn is_letter(b: u8, x: u8) -> bool
-    requires { ⌜ 0xE0 ≤ x ⌝ }
-    ensures { λ r. ⌜ r ≡ eqb (small b) x ⌝ }
-{
-    if b == x {
-        return true;
-    }
-    b == x - 32
-}
-
 // т after p and before c and d: after с before ск or н; after н before ск.
 fn elides_t(p: u8, c: u8, d: u8) -> bool
-    ensures { λ r. ⌜ r ≡ elidesT (small p) (small c) (small d) ⌝ }
+    ensures { λ r. ⌜ r ≡ elidesT p c d ⌝ }
 {
-    if is_letter(c, 0xED) {
-        return is_letter(p, 0xF1);
-    }
-    if is_letter(c, 0xF1) {
-        if is_letter(d, 0xEA) {
-            if is_letter(p, 0xF1) {
-                return true;
-            }
-            return is_letter(p, 0xED);
-        }
-        return false;
-    }
-    false
+    (p == ES) & ((c == ES) & (d == KA) | (c == EN)) | (p == EN) & ((c == ES) & (d == KA))
 }
 
 // д after p and before c and d: after р before ч or ц; after з before н or ц; after н before ц, с or шт.
 fn elides_d(p: u8, c: u8, d: u8) -> bool
-    ensures { λ r. ⌜ r ≡ elidesD (small p) (small c) (small d) ⌝ }
+    ensures { λ r. ⌜ r ≡ elidesD p c d ⌝ }
 {
-    if is_letter(p, 0xF0) {
-        if is_letter(c, 0xF7) {
-            return true;
-        }
-        return is_letter(c, 0xF6);
-    }
-    if is_letter(p, 0xE7) {
-        if is_letter(c, 0xED) {
-            return true;
-        }
-        return is_letter(c, 0xF6);
-    }
-    if is_letter(p, 0xED) {
-        if is_letter(c, 0xF8) {
-            return is_letter(d, 0xF2);
-        }
-        if is_letter(c, 0xF6) {
-            return true;
-        }
-        return is_letter(c, 0xF1);
-    }
-    false
+    (p == ER) & ((c == CHE) | (c == TSE))
+        | ((p == ZE) & ((c == EN) | (c == TSE))
+            | (p == EN) & ((c == TSE) | ((c == ES) | (c == SHA) & (d == TE))))
 }
 
-// Is the letter of byte b silent between these bytes, small letters or capitals, 0 for none? Only т and д are, so the letters beside others are not looked at.
+// Is the letter b silent between these letters, 0 for none?
 fn elides(p: u8, b: u8, c: u8, d: u8) -> bool
-    ensures { λ r. ⌜ r ≡ elidesAmong (small p) (small b) (small c) (small d) ⌝ }
+    ensures { λ r. ⌜ r ≡ elidesAmong p b c d ⌝ }
 {
-    if is_letter(b, 0xF2) {
+    if b == TE {
         return elides_t(p, c, d);
     }
-    if is_letter(b, 0xE4) {
-        return elides_d(p, c, d);
-    }
-    false
+    (b == DE) & elides_d(p, c, d)
 }
 
-// Is the letter at place i silent? A silent letter stands between two others. It asks of four bytes and lends no slice, so that a caller's loop keeps
-// the message in registers; and it asks at two places, so that the compiler does not copy the whole question into that loop.
+// Does the letter stand after some silent letter? It does not in most words, and then nothing else is asked.
+fn follows_elided(c: u8) -> bool
+    ensures { λ r. ⌜ r ≡ followsElided c ⌝ }
+{
+    (c == EN) | ((c == ES) | ((c == TSE) | ((c == CHE) | (c == SHA))))
+}
+
+// Is the letter at place i silent?
 pub fn is_elided(m: &[u8], i: usize) -> bool
     requires { ⌜ i < length (now m) ⌝ }
     ensures { λ r. ⌜ r ≡ elidedAt (now (m .entry)) i ⌝ }
 {
-    if i == 0 {
-        return false;
+    let c = letter_at(m, i + 1);
+    if follows_elided(c) {
+        return elides(letter_before(m, i), letter_at(m, i), c, letter_at(m, i + 2));
     }
-    if m.len() <= i + 1 {
-        return false;
-    }
-    if m.len() == i + 2 {
-        return elides(m[i - 1], m[i], m[i + 1], 0);
-    }
-    elides(m[i - 1], m[i], m[i + 1], m[i + 2])
+    false
 }

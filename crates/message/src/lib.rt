@@ -1,12 +1,15 @@
 pub mod check;
+pub mod classes;
+pub mod classify;
 pub mod letters;
-pub mod tables;
+pub mod pairs;
 
-// What the check has seen of a message when it stands at a place: 16 times the kind of what stands before it, a place before which no letter of the word is its 65th,
-// and the codes and names so far, summed as the table has them.
+// What the check has seen of a message when it stands at a place: the kind of what stands before it, a place from which the letters of the word are still to be counted, another before which
+// none of them is a 65th, and the codes and names so far.
 pub struct Seen {
     pub at: usize,
-    pub row: usize,
+    pub kind: usize,
+    pub from: usize,
     pub limit: usize,
     pub sum: usize,
 }

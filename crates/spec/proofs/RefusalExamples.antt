@@ -48,10 +48,13 @@ turnedAway =
     (refused 7 64 (replicate 63 «б» ++ («ь» ∷ «ъ» ∷ []))) ∷
     (refused 8 64 (replicate 63 «б» ++ («ъ» ∷ «к» ∷ []))) ∷
     (refused 9 64 (replicate 62 «б» ++ («а» ∷ «ь» ∷ «а» ∷ []))) ∷
-    -- the smallest place before the smallest number; 2 before what its bytes would meet; 12 before 11
+    -- the smallest place before the smallest number
     (refused 5 1 («б» ∷ mark ∷ 0x37 ∷ [])) ∷
+    -- 2 before 3 to 10
     (refused 2 0 (replicate 4097 0x37)) ∷
+    -- 12 before 11
     (record { message = «а» ∷ gap ∷ «б» ∷ []; cuts = 0 ∷ []; room = 0; number = 12; place = 0 }) ∷
+    -- 3 to 10 before 12
     (record { message = «б» ∷ mark ∷ []; cuts = 0 ∷ []; room = 0; number = 5; place = 1 }) ∷
     -- а, output of 0
     (record { message = «а» ∷ []; cuts = []; room = 0; number = 11; place = 1 }) ∷

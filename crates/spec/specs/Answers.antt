@@ -62,11 +62,6 @@ unfoldable pub outputAfter : Answer → List ℕ → List ℕ → List ℕ
 outputAfter (Written n k) text out = text ++ drop n out
 outputAfter (Refused r) text out = out
 
--- An operation answered as it must, with these bytes, and left in the output what it must.
-pub record Answered (due : Answer) (text out out′ : List ℕ) (r : Answer) : Type 0 where
-  pub answer : r ≡ due
-  pub output : out′ ≡ outputAfter due text out
-
 -- the naming operation, lent an output of this room
 unfoldable pub nameAnswer : List ℕ → ℕ → Answer
 nameAnswer m room = afterCheck (checkOf m) (within room (length (names m)) 0)
@@ -80,3 +75,36 @@ unfoldable pub joinAnswer : List ℕ → List ℕ → ℕ → Answer
 joinAnswer m cuts room =
     afterCheck (checkOf m)
     (cond (eqb (badCut m cuts) (length cuts)) (within room (length (joined m cuts)) (liveCount m cuts)) (Refused (refusal 12 (badCut m cuts))))
+
+-- What an operation promises of its answer r and of what the lent output held, out, and holds afterwards, out′: the answer that is due, in number, place, length and live count,
+-- and the bytes of it, text, before the output's own.
+pub record Promise (due : Answer) (text out out′ : List ℕ) (r : Answer) : Type 0 where
+  pub answer : r ≡ due
+  pub output : out′ ≡ outputAfter due text out
+  pub number : numberOf r ≡ numberOf due
+  pub place : placeOf r ≡ placeOf due
+  pub length : lengthOf r ≡ lengthOf due
+  pub live : liveOf r ≡ liveOf due
+
+-- the message check
+pub record CheckPromise (m : List ℕ) (r : Checked) : Type 0 where
+  pub answer : r ≡ checkOf m
+  pub number : checkedNumber r ≡ checkedNumber (checkOf m)
+  pub place : checkedPlace r ≡ checkedPlace (checkOf m)
+  pub codes : checkedCodes r ≡ checkedCodes (checkOf m)
+  pub names : checkedNames r ≡ checkedNames (checkOf m)
+
+abbrev pub NamePromise : List ℕ → List ℕ → List ℕ → Answer → Type 0
+NamePromise m out out′ r = Promise (nameAnswer m (length out)) (names m) out out′ r
+
+abbrev pub TranscribePromise : List ℕ → List ℕ → List ℕ → Answer → Type 0
+TranscribePromise m out out′ r = Promise (tapeAnswer m (length out)) (tape m) out out′ r
+
+abbrev pub JoinPromise : List ℕ → List ℕ → List ℕ → List ℕ → Answer → Type 0
+JoinPromise m cuts out out′ r = Promise (joinAnswer m cuts (length out)) (joined m cuts) out out′ r
+
+-- A promise carried on in another form: some answer keeps it, and r says that answer.
+pub record Carried {A R : Type 0} (Kept : A → Type 0) (Said : A → R → Type 0) (r : R) : Type 0 where
+  pub answer : A
+  pub promise : Kept answer
+  pub said : Said answer r

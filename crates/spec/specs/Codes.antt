@@ -2,11 +2,12 @@
 -- A sound is written as the paper writes it: А* is stressed, А1 and А2 are reduced, Б' is palatalized (the paper's soft). J is the glide.
 -- Assumes nothing: these are definitions.
 use Prim.Native.Nat.{ℕ, suc}
-use mathlib.Core.Bool.{Bool, cond}
+use mathlib.Core.Bool.{Bool, cond, _||_}
 use mathlib.Core.List.{List, [], _∷_}
 use lib.Dec.{eqb}
 use Rattle.spec.specs.Alphabet.{pause}
 use Rattle.spec.specs.Tables.{among}
+use Rattle.spec.specs.Letters.{between}
 
 -- 'Codes', 1 to 56 in the paper's order
 abbrev pub А* : ℕ
@@ -180,6 +181,17 @@ abbrev pub Щ : ℕ
 -- 'Codes', the codes of a gap and of a pause
 unfoldable pub markOf : ℕ → ℕ
 markOf b = cond (eqb b pause) 63 0
+
+unfoldable pub isMarkCode : ℕ → Bool
+isMarkCode c = eqb c 0 || eqb c 63
+
+-- the sounds that arise: О and Е, 14 and 15, never do yet
+unfoldable pub isSound : ℕ → Bool
+isSound c = between А* Э2 c || between Б Щ c
+
+-- what can stand on a tape
+unfoldable pub isCode : ℕ → Bool
+isCode c = isSound c || isMarkCode c
 
 -- in the code list a palatalized sound stands right after its hard one
 abbrev pub palatalized : ℕ → ℕ

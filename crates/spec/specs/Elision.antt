@@ -1,4 +1,4 @@
--- Paper 01, pass 1, silent letters: which т and д of a word are elided. Judged on the word as written, all together.
+-- Paper 01, pass 1, silent letters: which т and д of a word are elided. Each is judged by its neighbours as they are written, elided or not.
 -- Assumes nothing: these are definitions.
 use Prim.Native.Nat.{ℕ}
 use mathlib.Core.Bool.{Bool, cond, _&&_, _||_}
@@ -22,11 +22,11 @@ elidesD p c d =
     (eqb p «р» && (eqb c «ч» || eqb c «ц»))
     || ((eqb p «з» && (eqb c «н» || eqb c «ц»)) || (eqb p «н» && (eqb c «ц» || (eqb c «с» || eqb c «ш» && eqb d «т»))))
 
--- is the letter b after p and before c and d silent?
+-- is the letter b elided between p and the letters c and d?
 unfoldable pub elidesAmong : ℕ → ℕ → ℕ → ℕ → Bool
 elidesAmong p b c d = (eqb b «т» && elidesT p c d) || (eqb b «д» && elidesD p c d)
 
--- is the letter b, after p and before w, silent?
+-- is the letter b elided, after p and before the letters w?
 unfoldable pub elides : ℕ → ℕ → List Letter → Bool
 elides p b w = elidesAmong p b (firstByte w) (secondByte w)
 

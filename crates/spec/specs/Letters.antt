@@ -7,6 +7,7 @@ use lib.Dec.{eqb, leb}
 use Rattle.spec.specs.Alphabet.{gap, pause, mark, «а», «б», «в», «г», «д», «е», «ж», «з», «и», «й», «к», «л», «м», «н», «о», «п», «р», «с», «т», «у», «ф», «х», «ц», «ч», «ш», «щ», «ъ», «ы», «ь», «э», «ю», «я», «ё»}
 use Rattle.spec.specs.Tables.{among}
 
+-- is b one of the bytes from lo to hi?
 abbrev pub between : ℕ → ℕ → ℕ → Bool
 between lo hi b = leb lo b && leb b hi
 
@@ -46,7 +47,7 @@ plainVowels = «а» ∷ «о» ∷ «у» ∷ «ы» ∷ «э» ∷ []
 abbrev pub softeningVowels : List ℕ
 softeningVowels = «е» ∷ «ё» ∷ «и» ∷ «ю» ∷ «я» ∷ []
 
--- noise letters
+-- obstruents (the paper's noise letters)
 abbrev pub obstruents : List ℕ
 obstruents = «б» ∷ «п» ∷ «в» ∷ «ф» ∷ «г» ∷ «к» ∷ «д» ∷ «т» ∷ «ж» ∷ «ш» ∷ «з» ∷ «с» ∷ «х» ∷ «ц» ∷ «ч» ∷ «щ» ∷ []
 

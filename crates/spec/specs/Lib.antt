@@ -11,3 +11,5 @@ pub mod Tape
 pub mod Refusals
 pub mod Joints
 pub mod Answers
+pub mod Demands
+pub mod Printed

@@ -41,7 +41,7 @@ unfoldable pub none : List ℕ → Bool
 none [] = true
 none (b ∷ m) = false
 
--- the bytes before, from the adjacent letter on: nothing or only a stress mark may stand between adjacent letters
+-- the bytes before, from the adjacent letter on: one mark may be passed over to come to it
 unfoldable pub adjacent : List ℕ → List ℕ
 adjacent [] = []
 adjacent (b ∷ before) = cond (isMark b) before (b ∷ before)
@@ -90,7 +90,7 @@ row9 before b after = vowelByte b && vowelSign (adjacent before)
 unfoldable pub row10 : List ℕ → ℕ → List ℕ → Bool
 row10 before b after = letterByte b && eqb (lettersBefore before) 64
 
--- a row of the table: its number, and its test at a byte, given the bytes before it, nearest first, and the bytes after it
+-- a row of the table: its number and its test
 pub data Row : Type 0 where
   _when_ : ℕ → (List ℕ → ℕ → List ℕ → Bool) → Row
 

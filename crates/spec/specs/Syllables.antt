@@ -3,7 +3,7 @@
 use Prim.Native.Nat.{ℕ}
 use mathlib.Core.Bool.{Bool, false, cond, _||_, not}
 use mathlib.Core.List.{List, [], _∷_}
-use Rattle.spec.specs.Letters.{Letter, isVowel, isConsonant, isSign}
+use Rattle.spec.specs.Letters.{between, Letter, isVowel, isConsonant, isSign}
 use Rattle.spec.specs.declared.Cover.{Cover}
 use Rattle.spec.specs.declared.Cover.the-variants.{Bare, Covered}
 use Rattle.spec.specs.declared.Level.{Level}
@@ -31,7 +31,7 @@ pub record Facts : Type 0 where
 abbrev pub factsOf : List Letter → Facts
 factsOf w = record { marked = hasMark w }
 
--- the level of the vowel l before w: S, 1, 2 are Stressed, First, Second; in a word with no mark all vowels are level 1
+-- the level of the vowel l before w: S, 1, 2 are Stressed, First, Second; where the word has no mark there is no level 2
 unfoldable pub levelOf : Facts → Letter → List Letter → Level
 levelOf facts l w = cond (l .stressed) Stressed (cond (nextStressed w || not (facts .marked)) First Second)
 
@@ -54,6 +54,10 @@ nameOf s = nameIn (s .cover) (s .level)
 -- name 7: letters are left after the last vowel, so the last letter, p, is a consonant or a sign
 unfoldable pub incomplete : ℕ → List ℕ
 incomplete p = cond (isConsonant p || isSign p) (7 ∷ []) []
+
+-- what can stand among the names
+unfoldable pub isName : ℕ → Bool
+isName n = between 1 7 n
 
 -- the names of w, the rest of a word whose letter before is p
 unfoldable pub namesFrom : Facts → ℕ → List Letter → List ℕ

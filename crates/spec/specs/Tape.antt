@@ -16,7 +16,7 @@ unfoldable pub wordTape : Bool → Bool → List Letter → List ℕ
 wordTape hard next w = palatalize (voice next (phonesFrom hard (factsOf w) 0 (elide w)))
 
 -- The tape of a stretch of a message, given the same two bits for what stands around it. Nothing crosses a pause.
--- A hard boundary stands before a word if a gap precedes it and the word before ends hard.
+-- Pass 3's hard boundary: a gap, after a word that ends hard.
 unfoldable pub segment : Bool → Bool → Message → List ℕ
 segment hard next (last w) = wordTape hard next w
 segment hard next (more w x r) =
@@ -31,7 +31,7 @@ tape m = segment false false (read m)
 unfoldable pub wordNames : List Letter → List ℕ
 wordNames w = namesFrom (factsOf w) 0 (elide w)
 
--- pass 2, the naming: one byte for each syllable, in order over the message, breaks not shown
+-- pass 2, the naming: the names of all words one after the other; a break has none
 unfoldable pub namesOf : Message → List ℕ
 namesOf (last w) = wordNames w
 namesOf (more w x r) = wordNames w ++ namesOf r

@@ -94,11 +94,11 @@ module _ (hard : Bool) (p : ℕ) (s : Syllable) where
       ∷ («е» gives rowЕ) ∷ («ё» gives rowЁ) ∷ («ю» gives rowЮ) ∷ («я» gives rowЯ) ∷ («и» gives rowИ) ∷ [])
       b
 
--- J: before the sound of е ё ю я when the syllable is bare or the letter is after a sign, and before that of и after a sign
 unfoldable pub bare : Cover → Bool
 bare Bare = true
 bare Covered = false
 
+-- Has the vowel b, after p, a glide (the paper's J) before its sound? е ё ю я have one in a bare syllable, and they and и have one after a sign.
 unfoldable pub glides : ℕ → Cover → ℕ → Bool
 glides p cover b =
     (among («е» ∷ «ё» ∷ «ю» ∷ «я» ∷ []) b && (bare cover || isSign p))

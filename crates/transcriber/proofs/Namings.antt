@@ -9,7 +9,7 @@ use borrow.Author.Tests.{eq-eqb, ne-eqb, le-leb, lt-leb}
 use lib.ListN.{length, getD, drop, length-append}
 use Rattle.spec.specs.Letters.{isBreak, isMark}
 use Rattle.spec.specs.Refusals.{vowelByte}
-use Rattle.message.specs.Scan.{classOf, isVowelClass}
+use Rattle.message.specs.Classes.{classOf, isVowelClass}
 use Rattle.spec.specs.Syllables.{incomplete, nameOf}
 use Rattle.spec.specs.Tape.{names}
 use Rattle.message.specs.Places.{Steady, leftAt, markBefore, namesAt}

@@ -12,7 +12,7 @@ use Rattle.spec.specs.Alphabet.{«ь», «е», «ё», «и», «ю», «я»}
 use Rattle.spec.specs.Tables.{among, Entry, _gives_, entry}
 use Rattle.spec.specs.Letters.{Letter, between, small, plainVowels, softeningVowels, isBreak, isGap, isHardOnly, isPaired, isSoftOnly, isConsonant, isSign, isVowel, isMark, firstByte, beginsWithMark}
 use Rattle.spec.specs.Refusals.{vowelByte}
-use Rattle.message.specs.Scan.{classOf, isBreakClass, isSignClass, isLetterClass}
+use Rattle.message.specs.Classes.{classOf, isBreakClass, isSignClass, isLetterClass}
 use Rattle.spec.specs.Codes.{J}
 use Rattle.spec.specs.Elision.{elides}
 use Rattle.spec.specs.Syllables.{Facts, coverAfter, incomplete, levelOf, syllableOf, nextStressed}

@@ -15,7 +15,7 @@ use Rattle.spec.specs.Syllables.{syllableOf}
 use Rattle.spec.specs.Vowels.{vowelSound, softens}
 use Rattle.spec.specs.Voicing.{Tone, voiced, voiceless, asWritten}
 use Rattle.spec.specs.Refusals.{vowelByte, signByte, consonantByte}
-use Rattle.message.specs.Scan.{classOf, isVowelClass, elidedAt}
+use Rattle.message.specs.Classes.{classOf, isVowelClass, elidedAt}
 use Rattle.message.specs.Fused.{toneBefore, vowelCodes, consonantCode, letterCodes}
 use Rattle.message.specs.Places.{Steady, leftAt, letterOf, markBefore, factsAt, tapeAt, wordAt, toneAt, soundAt, codesAt, toneAfter, soundAfter}
 use Rattle.spec.specs.declared.Cover.{Cover}
@@ -25,7 +25,7 @@ use Rattle.spec.specs.declared.Syllable.{Syllable}
 use Rattle.message.proofs.Bytes.{below, below-same, by-class, not-both}
 use Rattle.message.proofs.Computed.{everything}
 use Rattle.message.proofs.Left.{mark-within}
-use Rattle.message.proofs.ScanTable.{class-spoken}
+use Rattle.message.proofs.StepTable.{class-spoken}
 use Rattle.message.proofs.Silent.{elided-at}
 use Rattle.message.proofs.Tail.{tape-letter, tape-mark, tape-break, word-letter, word-mark, word-break, tone-letter, sound-letter, tone-mark, sound-mark, tone-break, sound-break}
 use Rattle.transcriber.specs.Sounds.{classBefore, Sounds, afterClass, farLevel, syllableBy, glideBy, hardBefore, toneNo, toneBy, gapTone}

@@ -13,7 +13,7 @@ use Rattle.spec.specs.Codes.{Б', В', Г', Х1', Д', Ж', З', К', Л', М',
 use Rattle.spec.specs.Vowels.{vowelSound, bare, writtenCode}
 use Rattle.message.specs.Fused.{toneBefore}
 use Rattle.spec.specs.Voicing.{Tone, voiced, voiceless, asWritten, toned}
-use Rattle.message.specs.Scan.{classOf, isBreakClass, isSignClass, tabulate}
+use Rattle.message.specs.Classes.{classOf, isBreakClass, isSignClass, tabulate}
 use Rattle.spec.specs.declared.Cover.{Cover}
 use Rattle.spec.specs.declared.Cover.the-variants.{Bare, Covered}
 use Rattle.spec.specs.declared.Level.{Level}

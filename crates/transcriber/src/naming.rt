@@ -4,11 +4,11 @@ ghost use mathlib.Core.Bool.{true};
 ghost use mathlib.Core.List.{_++_};
 ghost use Prim.Native.Nat.{_<_, _≤_};
 ghost use lib.ListN.{length, drop, getD};
-ghost use Rattle.message.specs.Scan.{classes, classOf, isVowelClass};
+ghost use Rattle.message.specs.Classes.{classes, classOf, isVowelClass};
 ghost use Rattle.spec.specs.Syllables.{incomplete};
 ghost use Rattle.spec.specs.Tape.{names};
 ghost use Rattle.message.specs.Places.{Steady, leftAt};
-ghost use Rattle.spec.specs.Answers.{Answered, nameAnswer};
+ghost use Rattle.spec.specs.Answers.{NamePromise};
 ghost use Rattle.transcriber.specs.Walk.{Put, NameReady, Named};
 use crate::Vowels;
 use crate::sounds::far_level;
@@ -20,8 +20,8 @@ use crate::tape::refused;
 use crate::walk::class_before;
 use crate::walk::mark_before;
 use message::check::check;
-use message::check::class_of;
-use message::tables::class_table;
+use message::classify::class_of;
+use message::classify::class_table;
 use spec::Answer;
 use spec::Checked;
 use spec::Level;
@@ -103,7 +103,7 @@ fn fill_names(m: &[u8], out: &mut [u8], n: usize)
 
 // The naming operation (paper 01, pass 2): writes the syllable names of the message at the start of the lent output, or refuses and leaves every byte.
 pub fn name(m: &[u8], out: &mut [u8]) -> Answer
-    ensures { λ r. ⌜ Answered (nameAnswer (now (m .entry)) (length (now (out .entry)))) (names (now (m .entry))) (now (out .entry)) (now (out .exit)) r ⌝ }
+    ensures { λ r. ⌜ NamePromise (now (m .entry)) (now (out .entry)) (now (out .exit)) r ⌝ }
 {
     let checked = check(m);
     let Checked::Accepted(counts) = checked else {

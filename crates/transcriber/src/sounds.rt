@@ -5,7 +5,7 @@ ghost use Prim.Native.Nat.{_%_, _<_};
 ghost use lib.Dec.{leb};
 ghost use Rattle.spec.specs.Letters.{small};
 ghost use Rattle.spec.specs.Refusals.{consonantByte, vowelByte};
-ghost use Rattle.message.specs.Scan.{isSignClass};
+ghost use Rattle.message.specs.Classes.{isSignClass};
 ghost use Rattle.spec.specs.Syllables.{nameOf};
 ghost use Rattle.message.specs.Fused.{toneBefore, consonantCode};
 ghost use Rattle.transcriber.specs.Sounds.{Sounds, Row, groupPlace, levelPlace, afterClass, coverClass, farLevel, levelBefore, syllableBy, glideBy, soundTable, toneBy, toneNo};

@@ -4,10 +4,10 @@ ghost use mathlib.Core.Bool.{true, false, cond};
 ghost use mathlib.Core.List.{[], _∷_};
 ghost use Prim.Native.Nat.{_+_, _%_, _<_, _≤_};
 ghost use lib.ListN.{length, getD};
-ghost use Rattle.message.specs.Scan.{classes, classOf, isBreakClass, isConsonantClass, isVowelClass, elidedAt};
+ghost use Rattle.message.specs.Classes.{classes, classOf, isBreakClass, isConsonantClass, isVowelClass, elidedAt};
 ghost use Rattle.spec.specs.Tape.{tape};
 ghost use Rattle.message.specs.Places.{Steady};
-ghost use Rattle.spec.specs.Answers.{Answered, afterCheck, tapeAnswer};
+ghost use Rattle.spec.specs.Answers.{afterCheck, TranscribePromise};
 ghost use Rattle.transcriber.specs.Sounds.{soundTable, gapTone};
 ghost use Rattle.transcriber.specs.Walk.{Stands, Put, Ready, Stepped, MayWalk, Walked};
 use crate::Right;
@@ -24,9 +24,9 @@ use crate::walk::class_before;
 use crate::walk::hard_before;
 use crate::walk::mark_before;
 use message::check::check;
-use message::check::class_of;
+use message::classify::class_of;
+use message::classify::class_table;
 use message::letters::is_elided;
-use message::tables::class_table;
 use spec::Answer;
 use spec::Checked;
 use spec::Level;
@@ -247,7 +247,7 @@ pub fn refused(c: Checked) -> Answer
 
 // The transcriber (paper 01): writes the tape of the message at the start of the lent output, or refuses and leaves every byte.
 pub fn transcribe(m: &[u8], out: &mut [u8]) -> Answer
-    ensures { λ r. ⌜ Answered (tapeAnswer (now (m .entry)) (length (now (out .entry)))) (tape (now (m .entry))) (now (out .entry)) (now (out .exit)) r ⌝ }
+    ensures { λ r. ⌜ TranscribePromise (now (m .entry)) (now (out .entry)) (now (out .exit)) r ⌝ }
 {
     let checked = check(m);
     let Checked::Accepted(counts) = checked else {

@@ -2,7 +2,7 @@
 ghost use mathlib.Core.Path.{_≡_};
 ghost use Prim.Native.Nat.{_≤_};
 ghost use lib.ListN.{length};
-ghost use Rattle.message.specs.Scan.{classes};
+ghost use Rattle.message.specs.Classes.{classes};
 ghost use Rattle.message.specs.Places.{Steady, markBefore};
 ghost use Rattle.transcriber.specs.Sounds.{classBefore, hardBefore};
 
@@ -14,7 +14,7 @@ pub fn class_before(m: &[u8], i: usize, t: &[u8; 256]) -> usize
     if i == 0 {
         return 3;
     }
-    message::check::class_of(m[i - 1], t)
+    message::classify::class_of(m[i - 1], t)
 }
 
 // Does the word before a gap at place i - 1 end so that a hard boundary stands at i? k is the class of the byte before.

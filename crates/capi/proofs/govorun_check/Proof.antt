@@ -3,9 +3,12 @@
 use mathlib.Core.Path.{_≡_, refl, sym, _∙_}
 use native.Mathlib.Omega.{arith}
 use Rattle.spec.specs.Refusals.{checkOf}
-use Rattle.spec.specs.Answers.{checkedNumber, checkedPlace, checkedCodes, checkedNames}
+use Rattle.spec.specs.Answers.{checkedNumber, checkedPlace, checkedCodes, checkedNames, CheckPromise, Carried}
 use Rattle.spec.specs.declared.Checked.the-variants.{Accepted, Refused}
 use Rattle.laws.proofs.Bounds.{SmallCheck, check-small}
+use Rattle.laws.proofs.Promises.{check-promised}
+use Rattle.capi.specs.Said.{Counted}
+use Rattle.capi.specs.declared.GovorunCounts.{GovorunCounts}
 use borrow.Author.Needs.{needs}
 use Rattle.capi.proofs.govorun_check.Statement.{statement}
 use Rattle.capi.proofs.govorun_check.Tie as tie
@@ -13,6 +16,10 @@ use Rattle.capi.proofs.govorun_check.Tie as tie
 -- the check's answer is small
 small : (c : tie.After-check) → SmallCheck (checkOf (c .before .before .args .m .now))
 small c = check-small (c .before .before .args .m .now)
+
+-- what is said of the check's answer carries its promise on
+kept : (c : tie.After-check) {r : GovorunCounts} → Counted (c .check .result) r → Carried (CheckPromise (c .before .before .args .m .now)) Counted r
+kept c s = record { answer = c .check .result; promise = check-promised _ _ (c .check .ensures); said = s }
 
 -- the message is accepted, with these counts
 accepted : (c : tie.After-counts) → checkOf (c .before .before .before .before .args .m .now) ≡ Accepted (c .counts .given .0 .0)
@@ -48,11 +55,11 @@ cast-t9 c = let a = c .before .before .before in omega (arith, rw (refused a) at
 
 returns : tie.Need-returns
 unfolding checkedNumber checkedPlace checkedCodes checkedNames
-returns c = rw (accepted (c .before .before .before)) (record { number = refl; place = refl; codes = refl; names = refl })
+returns c = kept (c .before .before .before .before .before) (rw (c .before .before .before .counts .given .1) (record { number = refl; place = refl; codes = refl; names = refl }))
 
 returns-2 : tie.Need-returns-2
 unfolding checkedNumber checkedPlace checkedCodes checkedNames
-returns-2 c = rw (refused (c .before .before .before)) (record { number = refl; place = refl; codes = refl; names = refl })
+returns-2 c = kept (c .before .before .before .before .before) (rw (c .before .before .before .r .given .1) (record { number = refl; place = refl; codes = refl; names = refl }))
 
 pub govorun-check-spec : {M : Type 1} → statement M
 govorun-check-spec =

@@ -1,6 +1,5 @@
 -- The joiner has said what it must, in numbers that are small; what is said in 32 bits is the same.
 -- Assumes nothing.
-use native.Mathlib.Omega.{arith}
 use lib.ListN.{length}
 use Rattle.laws.proofs.Bounds.{join-small}
 use borrow.Author.Needs.{needs}
@@ -14,14 +13,13 @@ say-requires : tie.Need-say-requires
 say-requires c κs =
     let r = c .before .before in
     let s = r .before .before .before .before in
-    let f = join-small (s .before .args .m .now) (s .before .args .cuts .now) (length (s .before .args .out .now)) in
-    rw (r .join .ensures .answer) (record { number = f .number; place = f .place; length = f .length; live = f .live })
+    rw (r .join .ensures .answer) (join-small (s .before .args .m .now) (s .before .args .cuts .now) (length (s .before .args .out .now)))
 
 same-length : tie.Need-same-length
 same-length c = search needs
 
 returns : tie.Need-returns
-returns c = let r = c .before .before .before in record { said = rw (r .join .ensures .answer) at (c .say .ensures); output = r .join .ensures .output }
+returns c = let r = c .before .before .before in record { answer = r .join .result; promise = r .join .ensures; said = c .say .ensures }
 
 pub govorun-join-spec : {M : Type 1} → statement M
 govorun-join-spec = tie.close (tie.spec join-requires say-requires same-length returns)

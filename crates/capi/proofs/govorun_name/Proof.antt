@@ -1,6 +1,5 @@
 -- The naming operation has said what it must, in numbers that are small; what is said in 32 bits is the same.
 -- Assumes nothing.
-use native.Mathlib.Omega.{arith}
 use lib.ListN.{length}
 use Rattle.laws.proofs.Bounds.{name-small}
 use borrow.Author.Needs.{needs}
@@ -14,14 +13,13 @@ say-requires : tie.Need-say-requires
 say-requires c κs =
     let r = c .before .before in
     let s = r .before .before .before in
-    let f = name-small (s .before .args .m .now) (length (s .before .args .out .now)) in
-    rw (r .name .ensures .answer) (record { number = f .number; place = f .place; length = f .length; live = f .live })
+    rw (r .name .ensures .answer) (name-small (s .before .args .m .now) (length (s .before .args .out .now)))
 
 same-length : tie.Need-same-length
 same-length c = search needs
 
 returns : tie.Need-returns
-returns c = let r = c .before .before .before in record { said = rw (r .name .ensures .answer) at (c .say .ensures); output = r .name .ensures .output }
+returns c = let r = c .before .before .before in record { answer = r .name .result; promise = r .name .ensures; said = c .say .ensures }
 
 pub govorun-name-spec : {M : Type 1} → statement M
 govorun-name-spec = tie.close (tie.spec name-requires say-requires same-length returns)

@@ -7,8 +7,9 @@ use lib.ListN.{length}
 use lib.Seq.{length-take-le}
 use Rattle.message.specs.Places.{Steady}
 use Rattle.message.proofs.Steadiness.{accepted-steady}
-use Rattle.laws.proofs.Cuts.{Rising, rising-of}
-use Rattle.laws.proofs.Cutting.{cutting}
+use Rattle.spec.specs.Joints.{Rising}
+use Rattle.laws.proofs.Cuts.{rising-of}
+use Rattle.laws.proofs.Cutting.{equal-lengths}
 use Rattle.joiner.specs.Writing.{Laid}
 use Rattle.joiner.proofs.Laying.{laid-none, first-part, first-within, laid-all}
 use Rattle.joiner.proofs.join.write_joined.Statement.{statement}
@@ -89,7 +90,7 @@ returns c =
 same-length : tie.Need-same-length Inv-loop μ-loop
 same-length c =
     let s = c .before .before .before .before .before .before .before .before .before .before .before .before .before .before in
-    ap length (returns c .0) ∙ cutting (s .args .m .now) (s .args .cuts .now) (rises s) .lengths ∙ sym (s .pre .2 .fits)
+    ap length (returns c .0) ∙ equal-lengths (s .args .m .now) (s .args .cuts .now) (rises s) ∙ sym (s .pre .2 .fits)
 
 pub write-joined-spec : {M : Type 1} → statement M
 write-joined-spec =

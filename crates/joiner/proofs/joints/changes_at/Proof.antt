@@ -4,10 +4,10 @@ use Prim.Native.Nat.{suc, _+_}
 use mathlib.Core.Path.{_≡_, _∙_}
 use mathlib.Core.Bool.{_&&_}
 use native.Mathlib.Omega.{arith}
-use Rattle.message.specs.Scan.{letterAt}
+use Rattle.message.specs.Classes.{letterAt}
 use Rattle.laws.proofs.Cuts.{break-within}
 use Rattle.laws.proofs.Parts.{changedAfter, changedBefore}
-use Rattle.laws.proofs.Sounds.{isIOrE}
+use Rattle.laws.proofs.Beside.{isIOrE}
 use Rattle.joiner.proofs.Sides.{voice-told, hardness-told}
 use Rattle.joiner.proofs.joints.changes_at.Statement.{statement}
 use Rattle.joiner.proofs.joints.changes_at.Tie as tie

@@ -18,8 +18,8 @@ returns-2 c = rw (ne-eqb (length (c .before .before .before .args .m .now)) 0 (c
 class-table-requires : tie.Need-class-table-requires
 class-table-requires c κs = search needs
 
-step-table-requires : tie.Need-step-table-requires
-step-table-requires c κs = search needs
+pair-table-requires : tie.Need-pair-table-requires
+pair-table-requires c κs = search needs
 
 walk-requires : tie.Need-walk-requires
 walk-requires c κs = search needs
@@ -28,4 +28,4 @@ returns-3 : tie.Need-returns-3
 returns-3 c = c .walk .ensures
 
 pub check-spec : {M : Type 1} → statement M
-check-spec = tie.close (tie.spec returns returns-2 class-table-requires step-table-requires walk-requires returns-3)
+check-spec = tie.close (tie.spec returns returns-2 class-table-requires pair-table-requires walk-requires returns-3)

@@ -1,77 +1,122 @@
--- The entry tells the case: all said, a fault, or т or д after a paired consonant.
+-- The entry tells the case: a fault, or a byte that is passed unless it is a 65th letter.
 -- Assumes nothing.
-use Prim.Native.Nat.{ℕ, _%_}
-use mathlib.Core.Path.{_≡_, sym, _∙_}
-use mathlib.Core.Bool.{false}
-use mathlib.Core.List.{List}
+use Prim.Native.Nat.{ℕ, _-_, _%_, _<_, _≤_}
+use mathlib.Core.Path.{sym, _∙_}
+use native.Mathlib.Numerals.{add-one}
 use native.Mathlib.Omega.{arith}
-use lib.ListN.{getD}
-use borrow.Author.Tests.{ne-eqb}
+use lib.ListN.{length, getD}
+use Rattle.message.specs.Classes.{classAt, silentAt}
+use Rattle.message.specs.Steps.{packed}
+use Rattle.message.proofs.Bytes.{by-class}
+use Rattle.message.proofs.Checking.{kind-small, sum-small, sees-more, stop-here, full-here, clear-other, gives}
 use borrow.Author.Needs.{needs}
-use Rattle.message.specs.Scan.{classOf, faultIn, settled, kindAt, faultHere}
-use Rattle.message.proofs.ScanTable.{Entry, entry-open, open-silent}
-use Rattle.message.proofs.Checking.{entry-at}
 use Rattle.message.proofs.check.step.Statement.{statement}
 use Rattle.message.proofs.check.step.Tie as tie
 
--- the entry read
-entry : (c : tie.Else1) → let a = c .before .before .before .before .args in Entry (kindAt (a .m .now) (a .seen .at)) (classOf (getD (a .m .now) (a .seen .at) 0))
-entry c = let k = c .before .before .before in entry-at (k .before .args .m .now) (λ j. omega (arith, k .shared-slice-known .given j)) (k .before .args .seen .at)
+-- every byte is one
+bytes : (c : tie.After-class-of) (j : ℕ) → getD (c .before .before .before .before .args .m .now) j 0 < 256
+bytes c j = omega (arith, c .before .shared-slice-known2 .given j)
 
--- it does not say all
-unsaid : (c : tie.Else1) → let a = c .before .before .before .before .args in settled (kindAt (a .m .now) (a .seen .at)) (classOf (getD (a .m .now) (a .seen .at) 0)) ≡ false
-unsaid c = entry-open _ _ (entry c) (omega (arith, c .before .before .look-up .ensures, c .if1 .left))
+-- the check stands at one
+byte : (c : tie.After-class-of) → c .before .before .count-on .result .at < length (c .before .before .before .before .args .m .now)
+byte c = omega (arith, c .before .before .count-on .ensures .place, c .before .before .before .before .pre .byte)
 
--- and its last digit is the fault
-fault-read : (c : tie.Else1) → let a = c .before .before .before .before .args in c .before .before .look-up .result % 16 ≡ faultIn (kindAt (a .m .now) (a .seen .at)) (classOf (getD (a .m .now) (a .seen .at) 0))
-fault-read c = rw (c .before .before .look-up .ensures) (entry c .fault ∙ rw (unsaid c))
+-- its entry has the codes that it loses
+enough : (c : tie.After-class-of) → let r = c .before .before .count-on .result in let m = c .before .before .before .before .args .m .now in silentAt m (r .at) ≤ packed (r .kind) (classAt m (r .at)) % 0x20000
+enough c = let r = c .before .before .count-on in gives (c .before .before .before .before .args .m .now) (bytes c) (r .result) (r .ensures .sees) (byte c) .enough
 
--- which is then the byte's
-fault-there : (m : List ℕ) (i : ℕ) → (faultIn (kindAt m i) (classOf (getD m i 0)) ≡ 0 → ⊥) → faultHere m i ≡ faultIn (kindAt m i) (classOf (getD m i 0))
-unfolding faultHere
-fault-there m i z = rw (ne-eqb _ _ z)
+-- without a second stop
+unstopped : (c : tie.Else1) → let k = c .before .before in let r = k .before .before .count-on .result in packed (r .kind) (classAt (k .before .before .before .before .args .m .now) (r .at)) < 0x200000
+unstopped c = omega (arith, c .before .entry-at .ensures .0, c .if1 .left)
 
-look-up-requires : tie.Need-look-up-requires
-look-up-requires c κs = search needs
+count-on-requires : tie.Need-count-on-requires
+count-on-requires c κs = search needs
 
-limit-at-requires : tie.Need-limit-at-requires
-limit-at-requires c κs = search needs
+shared-slice-read-class-of : tie.Need-shared-slice-read-class-of
+shared-slice-read-class-of c = search needs
 
-pass-one-requires : tie.Need-pass-one-requires
-pass-one-requires c κs = search needs
+class-of-requires : tie.Need-class-of-requires
+class-of-requires c κs = search needs
+
+entry-at-requires : tie.Need-entry-at-requires
+entry-at-requires c κs = let s = c .before .before .before .before in
+    let r = c .before .before .count-on in
+    record { tables = s .pre .tables; kind = rw (r .ensures .sees .kind) (kind-small (s .args .m .now) (bytes c) (r .result .at)); within = omega (arith, byte c) }
+
+mul-if1 : tie.Need-mul-if1
+mul-if1 c = search needs
+
+sub-t18 : tie.Need-sub-t18
+sub-t18 c = search needs
+
+cast-t19 : tie.Need-cast-t19
+cast-t19 c = omega (arith, c .before .entry-at .ensures .1)
 
 returns : tie.Need-returns
-returns c = search needs
+returns c = let e = c .before in
+    let k = e .before in
+    let r = k .before .before .count-on in
+    rw (← r .ensures .place, e .entry-at .ensures .0) (stop-here (k .before .before .before .before .args .m .now) (bytes k) (r .result) (r .ensures .sees) (byte k) (omega (arith, c .if1 .taken, e .entry-at .ensures .0)))
 
-cast-fault : tie.Need-cast-fault
-cast-fault c = search needs
+is-too-many-requires : tie.Need-is-too-many-requires
+is-too-many-requires c κs = search needs
 
 returns-2 : tie.Need-returns-2
-returns-2 c =
-    let e = c .before in
-    let f = fault-read e in
-    (fault-there _ _ (λ z. c .if2 .taken (f ∙ z)) ∙ sym f, c .if2 .taken)
+returns-2 c = let b = c .before in
+    let f = b .before in
+    let k = f .before .before in
+    let r = k .before .before .count-on in
+    let q = rw (k .class-of .ensures) at (sym (b .is-too-many .ensures) ∙ c .if2 .taken) in
+    (rw (← r .ensures .place) (full-here (k .before .before .before .before .args .m .now) (bytes k) (r .result) (r .ensures .sees) (byte k) (unstopped f) (rw (← r .ensures .place) at (r .ensures .full)) q), omega arith)
 
-pass-silent-requires : tie.Need-pass-silent-requires
-pass-silent-requires c κs =
-    let e = c .before in
-    let l = e .before in
-    let s = l .before .before .before in
-    let q = open-silent _ _ (unsaid e) (sym (fault-read e) ∙ c .if2 .left) in
-    (record { sees = s .pre .2; byte = s .pre .3; short = s .pre .4; limit = l .limit-at .ensures }, q .0, q .1)
+next-kind-requires : tie.Need-next-kind-requires
+next-kind-requires c κs = let k = c .before .before .before .before in
+    omega (arith, k .class-of .ensures, by-class (getD (k .before .before .before .before .args .m .now) (k .before .before .count-on .result .at) 0) (bytes k _) .class)
+
+add-sum : tie.Need-add-sum
+add-sum c = let k = c .before .before .before .before .before .before in
+    let s = k .before .before .before .before in
+    let r = k .before .before .count-on in
+    omega (arith, sum-small (s .args .m .now) (bytes k) (r .result) (r .ensures .sees), byte k, s .pre .short)
+
+silent-at-requires : tie.Need-silent-at-requires
+silent-at-requires c κs = let k = c .before .before .before .before .before .before in (k .before .before .before .before .pre .tables .classes, byte k)
+
+sub-sum : tie.Need-sub-sum
+sub-sum c = let k = c .before .before .before .before .before .before .before in
+    omega (arith, c .silent-at .ensures .0, enough k, c .before .before .before .before .before .before .entry-at .ensures .0)
+
+add-t15 : tie.Need-add-t15
+add-t15 c = search needs
 
 returns-3 : tie.Need-returns-3
-returns-3 c = search needs
+returns-3 c = let n = c .before .before in
+    let b = n .before .before in
+    let f = b .before in
+    let e = f .before in
+    let k = e .before in
+    let m = k .before .before .before .before .args .m .now in
+    let r = k .before .before .count-on in
+    let q = rw (k .class-of .ensures) at (sym (b .is-too-many .ensures) ∙ n .before .if2 .left) in
+    (rw (add-one (r .result .at), n .next-kind .ensures, k .class-of .ensures) (sees-more m (bytes k) (r .result) (r .ensures .sees) (byte k) _ (clear-other m (bytes k) (r .result) (r .ensures .sees) (byte k) (unstopped f) q) (omega (arith, c .silent-at .ensures .0, enough k, e .entry-at .ensures .0))), omega (arith, r .ensures .place))
 
 pub step-spec : {M : Type 1} → statement M
 step-spec =
     tie.close
     (tie.spec
-    look-up-requires
-    limit-at-requires
-    pass-one-requires
+    count-on-requires
+    shared-slice-read-class-of
+    class-of-requires
+    entry-at-requires
+    mul-if1
+    sub-t18
+    cast-t19
     returns
-    cast-fault
+    is-too-many-requires
     returns-2
-    pass-silent-requires
+    next-kind-requires
+    add-sum
+    silent-at-requires
+    sub-sum
+    add-t15
     returns-3)

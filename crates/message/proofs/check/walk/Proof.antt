@@ -1,12 +1,12 @@
 -- Each turn passes bytes that have no fault or finds the first that has one; the measure is what is left of the message.
 -- Assumes nothing.
-use Prim.Native.Nat.{_-_}
+use Prim.Native.Nat.{ℕ, _-_, _<_}
 use mathlib.Core.Path.{_∙_}
 use native.Mathlib.Omega.{arith}
-use lib.ListN.{length}
-use Rattle.message.specs.Scan.{Sees}
-use Rattle.message.proofs.Checking.{kind-small, sees-none, seen-fault, seen-all}
+use lib.ListN.{length, getD}
 use borrow.Author.Needs.{needs}
+use Rattle.message.specs.Steps.{Sees}
+use Rattle.message.proofs.Checking.{kind-small, sees-none, seen-fault, seen-all}
 use Rattle.message.proofs.check.walk.Statement.{statement}
 use Rattle.message.proofs.check.walk.Tie as tie
 
@@ -16,75 +16,74 @@ Inv-loop m t s seen₀ seen = Sees m seen
 abbrev μ-loop : tie.MeasureT-loop
 μ-loop m t s seen₀ seen = length m - seen .at
 
+-- every byte is one
+bytes : (l : tie.At-loop Inv-loop μ-loop) (j : ℕ) → getD (l .before .before .args .m .now) j 0 < 256
+bytes l j = omega (arith, l .before .shared-slice-known .given j)
+
 loop-holds : tie.Need-loop-holds Inv-loop μ-loop
 loop-holds c = sees-none (c .before .args .m .now)
 
 lesser-requires : tie.Need-lesser-requires Inv-loop μ-loop
 lesser-requires c κs = tt
 
-pass-requires : tie.Need-pass-requires Inv-loop μ-loop
-pass-requires c κs =
-    let l = c .before .before .before in
+fours-to-requires : tie.Need-fours-to-requires Inv-loop μ-loop
+fours-to-requires c κs = tt
+
+pass-fours-requires : tie.Need-pass-fours-requires Inv-loop μ-loop
+pass-fours-requires c κs = let l = c .before .before .before .before in
     let s = l .before .before in
-    let w = l .loop .inv in
-    let n = c .lesser .ensures in
-    (s .pre .0, s .pre .1, w, n .2 _ (w .within) (w .ahead), n .1, n .0, s .pre .3)
+    let n = c .before .lesser .ensures in
+    record { tables = s .pre .0; sees = l .loop .inv; short = s .pre .2; bytes = λ i h. omega (arith, c .fours-to .ensures i h, n .0); room = λ i h. omega (arith, c .fours-to .ensures i h, n .1) }
 
 step-requires : tie.Need-step-requires Inv-loop μ-loop
-step-requires c κs =
-    let p = c .before .before in
-    let s = p .before .before .before .before .before .before in
-    (s .pre .0, s .pre .1, p .pass .ensures .0, c .if2 .taken, s .pre .3)
+step-requires c κs = let p = c .before .before in
+    let s = p .before .before .before .before .before .before .before in
+    record { tables = s .pre .0; sees = p .pass-fours .ensures .0; short = s .pre .2; byte = c .if2 .taken }
 
 enum-known-number : tie.Need-enum-known-number Inv-loop μ-loop
 enum-known-number c = search needs
 
 returns : tie.Need-returns Inv-loop μ-loop
-returns c =
-    let n = c .before in
+returns c = let n = c .before in
     let t = n .before .before in
     let p = t .before .before .before in
-    let l = p .before .before .before .before in
+    let l = p .before .before .before .before .before in
     let s = l .before .before in
     let q = rw (n .number .given .1) at (t .step .ensures) in
-    seen-fault (s .args .m .now) (λ j. omega (arith, l .before .shared-slice-known .given j)) _ _ (t .before .if2 .taken) (s .pre .3) (p .pass .ensures .0 .clear) (q .0) (q .1)
+    seen-fault (s .args .m .now) (bytes l) _ _ (t .before .if2 .taken) (s .pre .2) (p .pass-fours .ensures .0 .clear) (q .0) (q .1)
 
 enum-known-next : tie.Need-enum-known-next Inv-loop μ-loop
 enum-known-next c = search needs
 
 loop-less : tie.Need-loop-less Inv-loop μ-loop
-loop-less c =
-    let n = c .before in
+loop-less c = let n = c .before in
     let t = n .before .before in
     let p = t .before .before .before in
     let q = rw (n .next .given .1) at (t .step .ensures) in
-    omega (arith, q .1, p .pass .ensures .1, t .before .if2 .taken)
+    omega (arith, q .1, p .pass-fours .ensures .1, t .before .if2 .taken)
 
 loop-again : tie.Need-loop-again Inv-loop μ-loop
-loop-again c =
-    let n = c .before in
+loop-again c = let n = c .before in
     let q = rw (n .next .given .1) at (n .before .before .step .ensures) in
     q .0
 
 loop-less-2 : tie.Need-loop-less-2 Inv-loop μ-loop
-loop-less-2 c = omega (arith, c .if2 .left, c .before .before .before .before .if1 .taken)
+loop-less-2 c = omega (arith, c .if2 .left, c .before .before .before .before .before .if1 .taken)
 
 loop-again-2 : tie.Need-loop-again-2 Inv-loop μ-loop
-loop-again-2 c = c .before .before .pass .ensures .0
+loop-again-2 c = c .before .before .pass-fours .ensures .0
 
 finish-requires : tie.Need-finish-requires Inv-loop μ-loop
-finish-requires c κs =
-    let l = c .before .before in
+finish-requires c κs = let l = c .before .before in
     let s = l .before .before in
-    (s .pre .2, omega (arith, l .loop .inv .row, kind-small (s .args .m .now) (λ j. omega (arith, l .before .shared-slice-known .given j)) (l .loop .seen .at)))
+    (s .pre .1, rw (l .loop .inv .kind) (kind-small (s .args .m .now) (bytes l) (l .loop .seen .at)))
 
 returns-2 : tie.Need-returns-2 Inv-loop μ-loop
-returns-2 c =
-    let e = c .before in
+returns-2 c = let e = c .before in
     let l = e .before .before in
     let s = l .before .before in
     let w = l .loop .inv in
-    c .finish .ensures ∙ seen-all (s .args .m .now) (l .loop .seen) (λ j. omega (arith, l .before .shared-slice-known .given j)) (s .pre .2) (s .pre .3) w (omega (arith, w .within, e .if1 .left))
+    c .finish .ensures ∙ seen-all (s .args .m .now) (l .loop .seen) (bytes l) (s .pre .1) (s .pre .2) w (omega (arith, w .within, e .if1 .left))
 
 pub walk-spec : {M : Type 1} → statement M
 walk-spec =
@@ -94,7 +93,8 @@ walk-spec =
     μ-loop
     loop-holds
     lesser-requires
-    pass-requires
+    fours-to-requires
+    pass-fours-requires
     step-requires
     enum-known-number
     returns

@@ -4,7 +4,7 @@ use Prim.Native.Nat.{ℕ}
 use borrow.Author.Needs.{needs}
 use lib.ListN.{List·getD-eq-default}
 use Rattle.spec.specs.Letters.{small}
-use Rattle.message.specs.Scan.{letterAt}
+use Rattle.message.specs.Classes.{letterAt}
 use Rattle.message.proofs.letters.letter_at.Statement.{statement}
 use Rattle.message.proofs.letters.letter_at.Tie as tie
 

@@ -1,8 +1,8 @@
 -- `message::letters::letter_before` meets its contract: a place that is not 0 is the successor of the place before it.
 -- Assumes nothing.
 use borrow.Author.Needs.{needs}
-use Rattle.message.specs.Scan.{letterBefore}
-use Rattle.message.proofs.ScanTable.{before-at}
+use Rattle.message.specs.Classes.{letterBefore}
+use Rattle.message.proofs.StepTable.{before-at}
 use Rattle.message.proofs.letters.letter_before.Statement.{statement}
 use Rattle.message.proofs.letters.letter_before.Tie as tie
 

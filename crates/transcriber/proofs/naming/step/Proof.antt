@@ -5,7 +5,7 @@ use mathlib.Core.Path.{_≡_, sym, ap, _∙_}
 use native.Mathlib.Omega.{arith}
 use lib.ListN.{getD}
 use borrow.Author.Needs.{needs}
-use Rattle.message.specs.Scan.{classOf}
+use Rattle.message.specs.Classes.{classOf}
 use Rattle.transcriber.specs.Sounds.{farLevel}
 use Rattle.transcriber.proofs.Namings.{vowel-class, named-letter, named-mark, break-room, named-break}
 use Rattle.transcriber.proofs.naming.step.Statement.{statement}

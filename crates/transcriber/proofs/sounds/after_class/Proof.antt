@@ -6,7 +6,7 @@ use mathlib.Core.Bool.{Bool, true, false, _&&_}
 use native.Mathlib.Omega.{arith}
 use lib.Dec.{leb}
 use borrow.Author.Tests.{leb-true, le-leb, lt-leb, ne-eqb}
-use Rattle.message.specs.Scan.{isBreakClass}
+use Rattle.message.specs.Classes.{isBreakClass}
 use Rattle.transcriber.specs.Sounds.{afterClass}
 use Rattle.transcriber.proofs.sounds.after_class.Statement.{statement}
 use Rattle.transcriber.proofs.sounds.after_class.Tie as tie

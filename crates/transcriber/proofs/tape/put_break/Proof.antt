@@ -6,7 +6,7 @@ use lib.ListN.{getD}
 use borrow.Author.Needs.{needs}
 use borrow.Author.Tests.{eq-eqb, ne-eqb}
 use Rattle.spec.specs.Letters.{isBreak}
-use Rattle.message.specs.Scan.{classOf, isBreakClass}
+use Rattle.message.specs.Classes.{classOf, isBreakClass}
 use Rattle.message.proofs.Bytes.{by-class}
 use Rattle.transcriber.specs.Sounds.{farLevel}
 use Rattle.transcriber.proofs.Walking.{break-room, break-steps}

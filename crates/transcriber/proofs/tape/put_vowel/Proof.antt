@@ -9,7 +9,7 @@ use lib.ListN.{getD}
 use borrow.Author.Needs.{needs}
 use Rattle.spec.specs.Codes.{J}
 use Rattle.spec.specs.Refusals.{vowelByte}
-use Rattle.message.specs.Scan.{classOf, isVowelClass}
+use Rattle.message.specs.Classes.{classOf, isVowelClass}
 use Rattle.message.specs.Places.{codesAt}
 use Rattle.message.proofs.Bytes.{by-class}
 use Rattle.transcriber.specs.Sounds.{glideBy}

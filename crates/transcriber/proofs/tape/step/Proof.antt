@@ -10,9 +10,9 @@ use lib.ListN.{getD}
 use borrow.Author.Needs.{needs}
 use borrow.Author.Tests.{eq-eqb}
 use Rattle.spec.specs.Refusals.{consonantByte, signByte}
-use Rattle.message.specs.Scan.{classOf, elidedAt}
+use Rattle.message.specs.Classes.{classOf, elidedAt}
 use Rattle.message.proofs.Bytes.{ByClass, by-class}
-use Rattle.message.proofs.ScanTable.{class-spoken, before-spoken}
+use Rattle.message.proofs.StepTable.{class-spoken, before-spoken}
 use Rattle.transcriber.specs.Sounds.{classBefore}
 use Rattle.transcriber.proofs.Walking.{spelt-sign, spelt-consonant, sign-softens, consonant-softens, codes-silent, codes-sign, between-true, right-sound, silent-steps, mark-steps}
 use Rattle.transcriber.proofs.tape.step.Statement.{statement}

@@ -5,7 +5,7 @@ use mathlib.Core.Path.{_≡_, ap}
 use mathlib.Core.List.{List}
 use native.Mathlib.Omega.{arith}
 use lib.ListN.{getD}
-use Rattle.message.specs.Scan.{classOf}
+use Rattle.message.specs.Classes.{classOf}
 use Rattle.transcriber.specs.Sounds.{classBefore}
 use borrow.Author.Needs.{needs}
 use Rattle.transcriber.proofs.walk.class_before.Statement.{statement}

@@ -9,7 +9,7 @@ use lib.Dec.{eqb}
 use lib.ListN.{getD}
 use borrow.Author.Tests.{ne-eqb}
 use Rattle.spec.specs.Letters.{isBreak, isMark}
-use Rattle.message.specs.Scan.{classOf}
+use Rattle.message.specs.Classes.{classOf}
 use Rattle.message.specs.Places.{markBefore}
 use Rattle.message.proofs.Bytes.{below-same}
 use Rattle.message.proofs.Computed.{everything}

@@ -1,0 +1,159 @@
+-- The text grows at its end: what is put after other bytes and those bytes together were put at the place of the latter. How long a number, the codes and an answer are in it.
+-- Assumes nothing.
+use Prim.Native.Nat.{ℕ, zero, suc, _+_, _-_, _*_, _/_, _%_, _^_, _<_, _≤_}
+use native.Mathlib.Omega.{arith}
+use native.Mathlib.Nat.{pow-suc}
+use native.Mathlib.Numerals.{add-one}
+use mathlib.Core.Path.{_≡_, refl, sym, ap, _∙_}
+use mathlib.Core.Bool.{Bool, true, false, cond}
+use mathlib.Core.List.{List, [], _∷_, _++_, append-assoc, append-nil}
+use lib.Dec.{leb}
+use lib.ListN.{length, take, drop, set, getD, length-append, length-drop, drop-of-length-le}
+use lib.Seq.{take-suc-set, take-at, drop-cons}
+use borrow.Author.Tests.{le-leb, lt-leb, lt-ltb, le-ltb, leb-true, leb-false}
+use Rattle.spec.specs.Printed.{ascii, lastDigits, decimal, printedCodes, printedAnswer}
+use Rattle.spec.specs.Tape.{tape}
+use Rattle.spec.specs.Answers.{numberOf, placeOf, lengthOf, outputAfter, tapeAnswer}
+use Rattle.spec.specs.declared.Refusal.{Refusal}
+use Rattle.spec.specs.declared.Answer.the-variants.{Written, Refused}
+use Rattle.laws.proofs.Bounds.{tape-small}
+use Rattle.govorun.specs.Putting.{Put, codeAt}
+
+-- nothing put leaves the text as it is
+pub put-none : (text : List ℕ) (at : ℕ) → Put [] text text at at
+put-none text at = record { place = omega arith; bytes = sym (append-nil (take at text)) }
+
+-- a byte stored
+pub put-one : (text : List ℕ) (at byte : ℕ) → at < length text → Put (byte ∷ []) text (set text at byte) at (at + 1)
+put-one text at byte h = record { place = refl; bytes = rw (add-one at) (take-suc-set text at byte h) }
+
+-- bytes put after others
+pub put-over : (a b text text₁ text₂ : List ℕ) (at r s : ℕ) → Put a text text₁ at r → Put b text₁ text₂ r s → Put (a ++ b) text text₂ at s
+put-over a b text text₁ text₂ at r s p q =
+    record {
+      place = omega (arith, p .place, q .place, length-append a b);
+      bytes = q .bytes ∙ rw (p .bytes) (append-assoc (take at text) a b);
+    }
+
+-- A number has no more digits than it is large: how many above that are asked for is all one.
+enough : (k j n : ℕ) → n < k → n < j → lastDigits k n ≡ lastDigits j n
+unfolding lastDigits
+enough zero j n h l = absurd (omega arith)
+enough (suc k) zero n h l = absurd (omega arith)
+enough (suc k) (suc j) n h l = by (leb n 9) refl (λ g. enough k j (n / 10) (omega arith) (omega arith))
+  where
+    by : (t : Bool) → leb n 9 ≡ t → (9 < n → lastDigits k (n / 10) ≡ lastDigits j (n / 10))
+        → cond t [] (lastDigits k (n / 10)) ++ ((48 + n % 10) ∷ []) ≡ cond t [] (lastDigits j (n / 10)) ++ ((48 + n % 10) ∷ [])
+    by true e f = refl
+    by false e f = rw (f (leb-false n 9 e))
+
+-- one digit
+pub decimal-small : (n : ℕ) → n < 10 → decimal n ≡ (48 + n % 10) ∷ []
+unfolding decimal lastDigits
+decimal-small n h = rw (le-leb n 9 (omega arith))
+
+-- more: those of a tenth of it, and the last
+pub decimal-large : (n : ℕ) → 10 ≤ n → decimal n ≡ decimal (n / 10) ++ ((48 + n % 10) ∷ [])
+unfolding decimal lastDigits
+decimal-large n h = rw (lt-leb n 9 (omega arith), enough n (suc (n / 10)) (n / 10) (omega arith) (omega arith))
+
+-- so it is one longer
+pub decimal-longer : (n : ℕ) → 10 ≤ n → length (decimal n) ≡ length (decimal (n / 10)) + 1
+decimal-longer n h = ap length (decimal-large n h) ∙ length-append (decimal (n / 10)) ((48 + n % 10) ∷ [])
+
+-- a number below a power of ten has at most as many digits as the power says
+pub decimal-size : (k n : ℕ) → n < 10 ^ suc k → length (decimal n) ≤ suc k
+decimal-size zero n h = omega (arith, ap length (decimal-small n h))
+decimal-size (suc k) n h = by (leb n 9) refl (decimal-size k (n / 10))
+  where
+    by : (t : Bool) → leb n 9 ≡ t → (n / 10 < 10 ^ suc k → length (decimal (n / 10)) ≤ suc k) → length (decimal n) ≤ suc (suc k)
+    by true e f = omega (arith, ap length (decimal-small n (omega (arith, leb-true n 9 e))))
+    by false e f =
+        let l = leb-false n 9 e in
+        let p = pow-suc 10 (suc k) in
+        omega (arith, decimal-longer n (omega arith), f (omega (arith, p)))
+
+-- codes that are bytes have at most three digits each, and a space
+pub codes-size : (codes : List ℕ) → ((i : ℕ) → getD codes i 0 < 256) → length (printedCodes codes) ≤ 4 * length codes
+unfolding printedCodes ascii
+codes-size [] h = omega arith
+codes-size (c ∷ []) h = omega (arith, decimal-size 2 c (omega (arith, h 0)))
+codes-size (c ∷ (d ∷ codes)) h =
+    simp length-append (omega (arith, decimal-size 2 c (omega (arith, h 0)), codes-size (d ∷ codes) (λ i. h (suc i))))
+
+-- a code's digits are part of its text
+pub code-size : (codes : List ℕ) (i : ℕ) → length (decimal (getD codes i 0)) ≤ length (codeAt codes i)
+unfolding codeAt
+code-size codes i = simp length-append (omega arith)
+
+-- a code that is not the last
+pub code-more : (codes : List ℕ) (i : ℕ) → i + 1 < length codes → codeAt codes i ≡ decimal (getD codes i 0) ++ (32 ∷ [])
+unfolding codeAt
+code-more codes i h = rw (lt-ltb (i + 1) (length codes) h)
+
+-- and the last one
+pub code-last : (codes : List ℕ) (i : ℕ) → length codes ≤ i + 1 → codeAt codes i ≡ decimal (getD codes i 0)
+unfolding codeAt
+code-last codes i h = rw (le-ltb (i + 1) (length codes) h) (append-nil (decimal (getD codes i 0)))
+
+-- the codes from place i on are the code there and those after it
+codes-from : (codes : List ℕ) (i : ℕ) → i < length codes → printedCodes (drop i codes) ≡ codeAt codes i ++ printedCodes (drop (suc i) codes)
+unfolding printedCodes ascii
+codes-from codes i h = rw (drop-cons codes i 0 h) (by (drop (suc i) codes) (length-drop (suc i) codes))
+  where
+    by : (rest : List ℕ) → length rest ≡ length codes - suc i → printedCodes (getD codes i 0 ∷ rest) ≡ codeAt codes i ++ printedCodes rest
+    by [] e = rw (code-last codes i (omega arith)) (sym (append-nil (decimal (getD codes i 0))))
+    by (d ∷ rest) e = rw (code-more codes i (omega arith)) (sym (append-assoc (decimal (getD codes i 0)) (32 ∷ []) (printedCodes (d ∷ rest))))
+
+-- in the text stand the codes before place i
+pub record Printed (codes text : List ℕ) (at i : ℕ) : Type 0 where
+  pub place : at + length (printedCodes (drop i codes)) ≡ length (printedCodes codes)
+  pub bytes : take at text ++ printedCodes (drop i codes) ≡ printedCodes codes
+
+pub printed-none : (codes text : List ℕ) → Printed codes text 0 0
+printed-none codes text = record { place = omega arith; bytes = refl }
+
+module _ (codes text : List ℕ) (at i : ℕ) (p : Printed codes text at i) where
+  -- there is room for one more
+  pub printed-room : i < length codes → at + length (codeAt codes i) ≤ length (printedCodes codes)
+  printed-room h = omega (arith, p .place, ap length (codes-from codes i h), length-append (codeAt codes i) (printedCodes (drop (suc i) codes)))
+
+  -- which may be put
+  pub printed-more : (text′ : List ℕ) (r : ℕ) → i < length codes → Put (codeAt codes i) text text′ at r → Printed codes text′ r (suc i)
+  printed-more text′ r h q =
+      let e = codes-from codes i h in
+      record {
+        place = omega (arith, p .place, q .place, ap length e, length-append (codeAt codes i) (printedCodes (drop (suc i) codes)));
+        bytes = rw (q .bytes, append-assoc (take at text) (codeAt codes i) (printedCodes (drop (suc i) codes)), ← e) (p .bytes);
+      }
+
+  -- until all are
+  pub printed-all : (text₀ : List ℕ) → length codes ≤ i → Put (printedCodes codes) text₀ text 0 at
+  unfolding printedCodes
+  printed-all text₀ h =
+      let e = drop-of-length-le codes h in
+      record { place = omega (arith, rw e at (p .place)); bytes = sym (append-nil (take at text)) ∙ rw e at (p .bytes) }
+
+-- how long a refusal's text is
+pub refusal-length : (r : Refusal) (codes : List ℕ) → length (printedAnswer (Refused r) codes) ≡ 8 + (length (decimal (r .number)) + (4 + length (decimal (r .place))))
+unfolding printedAnswer ascii
+refusal-length r codes = simp length-append (omega arith)
+
+-- What the transcriber answered, lent as many codes as any tape has: a refusal, which is short,
+pub answer-refused : (m : List ℕ) (r : Refusal) → Refused r ≡ tapeAnswer m 8192
+    → (printedAnswer (tapeAnswer m 8192) (tape m) ≡ printedAnswer (Refused r) []) × (length (printedAnswer (Refused r) []) ≤ 20)
+unfolding printedAnswer numberOf placeOf
+answer-refused m r e =
+    let b = rw (sym e) at (tape-small m 8192) in
+    (rw (sym e), omega (arith, refusal-length r [], decimal-size 3 (r .number) (omega (arith, b .number)), decimal-size 3 (r .place) (omega (arith, b .place))))
+
+-- or the tape, with which the output begins
+pub answer-written : (m codes codes′ : List ℕ) (n k : ℕ) → length codes ≡ 8192 → length codes′ ≡ length codes → Written n k ≡ tapeAnswer m 8192
+    → codes′ ≡ outputAfter (tapeAnswer m 8192) (tape m) codes
+    → (n ≤ 8192) × (printedAnswer (tapeAnswer m 8192) (tape m) ≡ printedCodes (take n codes′))
+unfolding printedAnswer outputAfter lengthOf
+answer-written m codes codes′ n k full same e o =
+    let b : n ≤ 8192 = (rw (sym e) at (tape-small m 8192)) .length in
+    let w : codes′ ≡ tape m ++ drop n codes = rw (sym e) at o in
+    let l : length (tape m) ≡ n = omega (arith, simp (length-append, length-drop) at (ap length w)) in
+    (b, rw (sym e, w, take-at (tape m) (drop n codes) n l))

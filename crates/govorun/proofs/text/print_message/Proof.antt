@@ -1,0 +1,33 @@
+-- The newline is put after the answer, for which the text has a byte more than an answer takes.
+-- Assumes nothing.
+use Prim.Native.Nat.{_≤_}
+use native.Mathlib.Omega.{arith}
+use mathlib.Core.Path.{sym}
+use lib.ListN.{length}
+use lib.Seq.{length-take-le}
+use borrow.Author.Needs.{needs}
+use Rattle.spec.specs.Printed.{ascii, printed}
+use Rattle.govorun.proofs.Texts.{put-over}
+use Rattle.govorun.proofs.text.print_message.Statement.{statement}
+use Rattle.govorun.proofs.text.print_message.Tie as tie
+
+put-answer-requires : tie.Need-put-answer-requires
+put-answer-requires c κs = search needs
+
+slice-aggregate-put-bytes : tie.Need-slice-aggregate-put-bytes
+slice-aggregate-put-bytes c = search needs
+
+put-bytes-requires : tie.Need-put-bytes-requires
+put-bytes-requires c κs = search needs
+
+returns : tie.Need-returns
+unfolding printed ascii
+returns c =
+    let a = c .before .before .before in
+    let p = put-over _ _ _ _ _ _ _ _ (a .put-answer .ensures .0) (c .put-bytes .ensures) in
+    let h : c .put-bytes .result ≤ length (c .put-bytes .last .0) = omega (arith, a .put-answer .ensures .1, c .put-bytes .ensures .place) in
+    ((h, sym (length-take-le _ _ h)), p .bytes)
+
+pub print-message-spec : {M : Type 1} → statement M
+print-message-spec =
+    tie.close (tie.spec put-answer-requires slice-aggregate-put-bytes put-bytes-requires returns)

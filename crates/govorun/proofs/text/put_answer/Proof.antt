@@ -1,0 +1,98 @@
+-- The transcriber is lent as many codes as any tape has, so it answers the tape or a refusal of the message; each has room in the text.
+-- Assumes nothing.
+use Prim.Native.Nat.{_≤_}
+use native.Mathlib.Omega.{arith}
+use mathlib.Core.Path.{_≡_, refl, sym, _∙_}
+use mathlib.Core.List.{[]}
+use lib.ListN.{length, take, replicate}
+use lib.Seq.{length-take-le}
+use borrow.Author.Needs.{needs}
+use Rattle.spec.specs.Tape.{tape}
+use Rattle.spec.specs.Answers.{tapeAnswer}
+use Rattle.spec.specs.Printed.{printedCodes, printedAnswer}
+use Rattle.spec.specs.declared.Answer.the-variants.{Refused}
+use Rattle.govorun.proofs.Texts.{answer-refused, answer-written}
+use Rattle.govorun.proofs.text.put_answer.Statement.{statement}
+use Rattle.govorun.proofs.text.put_answer.Tie as tie
+
+-- the codes that are printed: short, within the output, and their text is the answer's
+written : (c : tie.After-length)
+    → let n = c .length .given .0 .0 in
+    let t = c .before .before .before in
+    let m = t .before .before .before .before .args .m .now in
+    (n ≤ 8192) × (length (take n (t .transcribe .last .1 .0)) ≡ n) × (printedAnswer (tapeAnswer m 8192) (tape m) ≡ printedCodes (take n (t .transcribe .last .1 .0)))
+written c =
+    let t = c .before .before .before in
+    let w = answer-written (t .before .before .before .before .args .m .now) (replicate 8192 0) (t .transcribe .last .1 .0) _ _ refl
+    (t .transcribe .kept .1 .0) (sym (c .length .given .1) ∙ t .transcribe .ensures .answer) (t .transcribe .ensures .output) in
+    (w .0, length-take-le _ _ (omega (arith, w .0, t .transcribe .kept .1 .0)), w .1)
+
+-- a refusal is short, and its text is the answer's
+refused : (c : tie.After-r)
+    → let text = printedAnswer (Refused (c .r .given .0 .0)) [] in
+    let m = c .before .before .before .before .before .before .before .args .m .now in
+    (printedAnswer (tapeAnswer m 8192) (tape m) ≡ text) × (length text ≤ 20)
+refused c =
+    let t = c .before .before .before in
+    answer-refused (t .before .before .before .before .args .m .now) _ (sym (c .r .given .1) ∙ t .transcribe .ensures .answer)
+
+slice-aggregate-transcribe : tie.Need-slice-aggregate-transcribe
+slice-aggregate-transcribe c = search needs
+
+transcribe-requires : tie.Need-transcribe-requires
+transcribe-requires c κs = search needs
+
+enum-known-length : tie.Need-enum-known-length
+enum-known-length c = search needs
+
+array-share-prefix-codes : tie.Need-array-share-prefix-codes
+array-share-prefix-codes c = omega (arith, written (c .before) .0, c .before .before .before .before .transcribe .kept .1 .0)
+
+slice-aggregate-put-codes : tie.Need-slice-aggregate-put-codes
+slice-aggregate-put-codes c = sym (written (c .before .before) .1)
+
+put-codes-requires : tie.Need-put-codes-requires
+put-codes-requires c κs =
+    let w = written (c .before .before .before) in
+    omega (arith, w .0, w .1)
+
+enum-known-r : tie.Need-enum-known-r
+enum-known-r c = search needs
+
+put-refusal-requires : tie.Need-put-refusal-requires
+put-refusal-requires c κs = omega (arith, refused (c .before .before) .1)
+
+same-length : tie.Need-same-length
+same-length c = search needs
+
+returns : tie.Need-returns
+returns c =
+    let p = c .before .before in
+    let w = written (p .before .before .before .before) in
+    (rw (w .2) (p .put-codes .ensures .0), omega (arith, p .put-codes .ensures .1, w .0, w .1))
+
+same-length-2 : tie.Need-same-length-2
+same-length-2 c = search needs
+
+returns-2 : tie.Need-returns-2
+returns-2 c =
+    let p = c .before .before in
+    let f = refused (p .before .before .before) in
+    (rw (f .0) (p .put-refusal .ensures), omega (arith, p .put-refusal .ensures .place, f .1))
+
+pub put-answer-spec : {M : Type 1} → statement M
+put-answer-spec =
+    tie.close
+    (tie.spec
+    slice-aggregate-transcribe
+    transcribe-requires
+    enum-known-length
+    array-share-prefix-codes
+    slice-aggregate-put-codes
+    put-codes-requires
+    enum-known-r
+    put-refusal-requires
+    same-length
+    returns
+    same-length-2
+    returns-2)

@@ -1,0 +1,72 @@
+-- Each piece is put after those before it, and there is room for all.
+-- Assumes nothing.
+use native.Mathlib.Omega.{arith}
+use mathlib.Core.List.{[]}
+use borrow.Author.Needs.{needs}
+use Rattle.spec.specs.Printed.{ascii, printedAnswer}
+use Rattle.govorun.proofs.Texts.{put-over, refusal-length}
+use Rattle.govorun.proofs.text.put_refusal.Statement.{statement}
+use Rattle.govorun.proofs.text.put_refusal.Tie as tie
+
+cast-number : tie.Need-cast-number
+cast-number c = search needs
+
+slice-aggregate-put-bytes : tie.Need-slice-aggregate-put-bytes
+slice-aggregate-put-bytes c = search needs
+
+put-bytes-requires : tie.Need-put-bytes-requires
+put-bytes-requires c κs =
+    let s = c .before .before .before .before in
+    omega (arith, s .pre, refusal-length (s .args .r) [])
+
+put-decimal-requires : tie.Need-put-decimal-requires
+put-decimal-requires c κs =
+    let b = c .before .before .before in
+    let s = b .before .before .before .before .before in
+    omega (arith, s .pre, refusal-length (s .args .r) [], b .put-bytes .ensures .place)
+
+slice-aggregate-put-bytes-2 : tie.Need-slice-aggregate-put-bytes-2
+slice-aggregate-put-bytes-2 c = search needs
+
+put-bytes-requires-2 : tie.Need-put-bytes-requires-2
+put-bytes-requires-2 c κs =
+    let d = c .before .before .before .before in
+    let b = d .before .before .before .before in
+    let s = b .before .before .before .before .before in
+    omega (arith, s .pre, refusal-length (s .args .r) [], b .put-bytes .ensures .place, d .put-decimal .ensures .place)
+
+put-decimal-requires-2 : tie.Need-put-decimal-requires-2
+put-decimal-requires-2 c κs =
+    let a = c .before .before .before in
+    let d = a .before .before .before .before .before in
+    let b = d .before .before .before .before in
+    let s = b .before .before .before .before .before in
+    omega (arith, s .pre, refusal-length (s .args .r) [], b .put-bytes .ensures .place, d .put-decimal .ensures .place, a .put-bytes2 .ensures .place)
+
+same-length : tie.Need-same-length
+same-length c = search needs
+
+returns : tie.Need-returns
+unfolding printedAnswer ascii
+returns c =
+    let p = c .before .before in
+    let a = p .before .before .before .before in
+    let d = a .before .before .before .before .before in
+    let b = d .before .before .before .before in
+    put-over _ _ _ _ _ _ _ _ (b .put-bytes .ensures)
+    (put-over _ _ _ _ _ _ _ _ (d .put-decimal .ensures)
+    (put-over _ _ _ _ _ _ _ _ (a .put-bytes2 .ensures) (p .put-decimal2 .ensures)))
+
+pub put-refusal-spec : {M : Type 1} → statement M
+put-refusal-spec =
+    tie.close
+    (tie.spec
+    cast-number
+    slice-aggregate-put-bytes
+    put-bytes-requires
+    put-decimal-requires
+    slice-aggregate-put-bytes-2
+    put-bytes-requires-2
+    put-decimal-requires-2
+    same-length
+    returns)

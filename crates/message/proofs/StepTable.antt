@@ -1,0 +1,201 @@
+-- The check's tables by their rules: each entry is what specs/Steps.antt says, by one computation over all of them.
+-- Assumes nothing.
+use Prim.Native.Nat.{ℕ, zero, suc, _+_, _-_, _*_, _/_, _%_, _<_, _≤_}
+use mathlib.Core.Path.{_≡_, refl, sym, ap, _∙_}
+use mathlib.Core.Bool.{Bool, true, false, cond, _&&_, _||_, not, and-false, false≢true}
+use mathlib.Core.List.{List, [], _∷_}
+use native.Mathlib.Omega.{arith}
+use lib.Dec.{eqb, leb}
+use lib.ListN.{getD}
+use borrow.Author.Tests.{eqb-true, eqb-false, leb-true, ne-eqb}
+use Rattle.spec.specs.Alphabet.{«д», «з», «н», «р», «с», «т»}
+use Rattle.spec.specs.Tables.{among}
+use Rattle.spec.specs.Letters.{small}
+use Rattle.spec.specs.Elision.{elidesT, elidesD, elidesAmong}
+use Rattle.message.specs.Classes.{classOf, classAt, tabulate, classes, letterAt, letterBefore, elidedAt, silentAt}
+use Rattle.message.specs.Steps.{nextKind, faultIn, widthIn, namesIn, askIn, stopIn, packed, pairs, kindAt, widthAt}
+use Rattle.message.proofs.Bytes.{pairs-same, by-class, not-both}
+use Rattle.laws.proofs.Classes.{among-none}
+use Rattle.message.proofs.Computed.{everything}
+
+-- past the start, the letter before place i is the one at i - 1
+pub before-at : (m : List ℕ) (i : ℕ) → (i ≡ 0 → ⊥) → letterAt m (i - 1) ≡ letterBefore m i
+unfolding letterBefore
+before-at m i h = let e : suc (i - 1) ≡ i = omega arith in ap (letterBefore m) e
+
+-- a byte of another class than т and д is not elided
+pub class-spoken : (m : List ℕ) (i : ℕ) → getD m i 0 < 256 → (classOf (getD m i 0) ≡ 8 → ⊥) → elidedAt m i ≡ false
+unfolding elidedAt elidesAmong letterAt
+class-spoken m i h n =
+    by (eqb (small (getD m i 0)) «т») (eqb (small (getD m i 0)) «д») _ _ (by-class (getD m i 0) h .silent ∙ ne-eqb (classOf (getD m i 0)) 8 n)
+  where
+    by : (t d x y : Bool) → (t || d) ≡ false → (t && x || d && y) ≡ false
+    by true d x y e = absurd (false≢true (sym e))
+    by false true x y e = absurd (false≢true (sym e))
+    by false false x y e = refl
+
+-- the letters after which т and д are elided
+abbrev beforeSilent : List ℕ
+beforeSilent = «с» ∷ «н» ∷ «р» ∷ «з» ∷ []
+
+-- after another letter none is
+after-spoken : (p b c d : ℕ) → among beforeSilent p ≡ false → elidesAmong p b c d ≡ false
+unfolding among elidesAmong elidesT elidesD
+after-spoken p b c d e = simp (no «с» refl, no «н» refl, no «р» refl, no «з» refl, and-false)
+  where
+    no : (x : ℕ) → among beforeSilent x ≡ true → eqb p x ≡ false
+    no x i = among-none beforeSilent p x e i
+
+-- all of them are of class 7
+class-before : (b : ℕ) → b < 256 → not (eqb (classOf b) 7) ≡ true → among beforeSilent (small b) ≡ false
+unfolding everything
+class-before b = not-both (λ x. not (eqb (classOf x) 7)) (λ x. among beforeSilent (small x)) b refl
+
+-- so a byte after another class than 7, or first, is not elided
+pub before-spoken : (m : List ℕ) (i : ℕ) → ((j : ℕ) → getD m j 0 < 256) → ((j : ℕ) → i ≡ suc j → classOf (getD m j 0) ≡ 7 → ⊥) → elidedAt m i ≡ false
+unfolding among elidedAt letterBefore letterAt
+before-spoken m zero h n = after-spoken 0 _ _ _ refl
+before-spoken m (suc i) h n = after-spoken (small (getD m i 0)) _ _ _ (class-before (getD m i 0) (h i) (rw (ne-eqb (classOf (getD m i 0)) 7 (n i refl))))
+
+-- nor after another kind
+pub kind-spoken : (m : List ℕ) (i : ℕ) → ((j : ℕ) → getD m j 0 < 256) → (kindAt m i ≡ 7 → ⊥) → elidedAt m i ≡ false
+unfolding kindAt nextKind
+kind-spoken m i h n = before-spoken m i h (λ j e k. n (rw (e, k)))
+
+-- a table has at each place what it says
+tabulate-at : (f : ℕ → ℕ) (i n j : ℕ) → j < n → getD (tabulate f i n) j 0 ≡ f (i + j)
+unfolding tabulate
+tabulate-at f i zero j h = absurd (omega arith)
+tabulate-at f i (suc n) zero h = let e : i ≡ i + 0 = omega arith in ap f e
+tabulate-at f i (suc n) (suc j) h = let e : suc i + j ≡ i + suc j = omega arith in tabulate-at f (suc i) n j (omega arith) ∙ ap f e
+
+-- the table of classes has the class of each byte
+pub class-read : (t : List ℕ) (b : ℕ) → t ≡ classes → b < 256 → getD t b 0 ≡ classOf b
+unfolding classes
+class-read t b e h =
+    let z : 0 + b ≡ b = omega arith in
+    rw (e, tabulate-at classOf 0 256 b h, z)
+
+-- the table of pairs has a row of 16 classes for each kind
+pub pairs-read : (t : List ℕ) (k c : ℕ) → t ≡ pairs → k < 16 → c < 16 → getD t (16 * k + c) 0 ≡ packed k c
+unfolding pairs
+pairs-read t k c e h l =
+    let f : ℕ → ℕ = λ j. packed (j / 16) (j % 16) in
+    let q : (0 + (16 * k + c)) / 16 ≡ k = omega arith in
+    let r : (0 + (16 * k + c)) % 16 ≡ c = omega arith in
+    rw (e, tabulate-at f 0 256 (16 * k + c) (omega arith), q, r)
+
+-- how large the parts of an entry are
+pub record Entry (k c : ℕ) : Type 0 where
+  pub width : widthIn k c ≤ 2
+  pub names : namesIn k c ≤ 1
+  pub ask : askIn k c ≤ 1
+  pub stop : stopIn k c ≤ 31
+  pub next : nextKind k c < 16
+
+-- that, as tests
+abbrev entryTests : ℕ → ℕ → List Bool
+entryTests k c = leb (widthIn k c) 2 ∷ leb (namesIn k c) 1 ∷ leb (askIn k c) 1 ∷ leb (stopIn k c) 31 ∷ leb (nextKind k c) 15 ∷ []
+
+-- all of them hold
+entry-tests : (k c : ℕ) → k < 16 → c < 13 → entryTests k c ≡ (true ∷ true ∷ true ∷ true ∷ true ∷ [])
+unfolding everything
+entry-tests k c h l = pairs-same entryTests (λ _ _. true ∷ true ∷ true ∷ true ∷ true ∷ []) 16 13 k c refl h l
+
+-- every entry that is read is so
+pub entry-holds : (k c : ℕ) → k < 16 → c < 13 → Entry k c
+entry-holds k c h l =
+    let e = entry-tests k c h l in
+    let w : leb (widthIn k c) 2 ≡ true = cc in
+    let n : leb (namesIn k c) 1 ≡ true = cc in
+    let a : leb (askIn k c) 1 ≡ true = cc in
+    let s : leb (stopIn k c) 31 ≡ true = cc in
+    let x : leb (nextKind k c) 15 ≡ true = cc in
+    record { width = leb-true _ _ w; names = leb-true _ _ n; ask = leb-true _ _ a; stop = leb-true _ _ s; next = omega (arith, leb-true (nextKind k c) 15 x) }
+
+-- What is packed can be taken apart.
+pub record Unpacks (k c : ℕ) : Type 0 where
+  pub counts : packed k c % 0x20000 ≡ widthIn k c + 0x4000 * namesIn k c
+  pub ask : packed k c < 0x20000 → askIn k c ≡ 0
+  pub stop : packed k c / 0x100000 ≡ stopIn k c
+  pub small : packed k c < 0x2000000
+
+-- every entry can
+pub unpacks : (k c : ℕ) → Entry k c → Unpacks k c
+unfolding packed
+unpacks k c e = record {
+  counts = omega (arith, e .width, e .names, e .ask);
+  ask = λ h. omega (arith, h);
+  stop = omega (arith, e .width, e .names, e .ask);
+  small = omega (arith, e .width, e .names, e .ask, e .stop);
+}
+
+-- where there is no stop there is no fault, and the class is the next kind
+pub no-stop : (k c : ℕ) → stopIn k c ≡ 0 → (faultIn k c ≡ 0) × (nextKind k c ≡ c)
+unfolding stopIn
+no-stop k c e = by (eqb (faultIn k c) 0) refl (eqb (nextKind k c) c) refl e
+  where
+    by : (t : Bool) → eqb (faultIn k c) 0 ≡ t → (u : Bool) → eqb (nextKind k c) c ≡ u → cond (t && u) 0 (suc (faultIn k c)) ≡ 0 → (faultIn k c ≡ 0) × (nextKind k c ≡ c)
+    by true d true q z = (eqb-true _ _ d, eqb-true _ _ q)
+    by true d false q z = absurd (omega arith)
+    by false d u q z = absurd (omega arith)
+
+-- any other is 1 and the fault
+pub stop-fault : (k c : ℕ) → (stopIn k c ≡ 0 → ⊥) → stopIn k c ≡ suc (faultIn k c)
+unfolding stopIn
+stop-fault k c n = by (eqb (faultIn k c) 0 && eqb (nextKind k c) c) n
+  where
+    by : (t : Bool) → (cond t 0 (suc (faultIn k c)) ≡ 0 → ⊥) → cond t 0 (suc (faultIn k c)) ≡ suc (faultIn k c)
+    by true z = absurd (z refl)
+    by false z = refl
+
+-- so a first stop is no fault
+pub first-stop : (k c : ℕ) → stopIn k c < 2 → faultIn k c ≡ 0
+first-stop k c h = by (eqb (stopIn k c) 0) refl
+  where
+    by : (t : Bool) → eqb (stopIn k c) 0 ≡ t → faultIn k c ≡ 0
+    by true d = no-stop k c (eqb-true _ _ d) .0
+    by false d = let e = stop-fault k c (eqb-false _ _ d) in omega arith
+
+-- a letter that may be elided makes one code
+ask-width : (k c : ℕ) → k ≡ 7 → c ≡ 8 → (askIn k c ≡ 1) × (widthIn k c ≡ 1)
+unfolding everything
+ask-width k c e f = rw (e, f) (refl, refl)
+
+module _ (m : List ℕ) (i : ℕ) (bytes : (j : ℕ) → getD m j 0 < 256) where
+  -- only such a letter is elided
+  elided-asks : elidedAt m i ≡ true → (askIn (kindAt m i) (classAt m i) ≡ 1) × (widthIn (kindAt m i) (classAt m i) ≡ 1)
+  elided-asks e = by (eqb (kindAt m i) 7) refl (eqb (classAt m i) 8) refl
+    where
+      by : (t : Bool) → eqb (kindAt m i) 7 ≡ t → (u : Bool) → eqb (classAt m i) 8 ≡ u → (askIn (kindAt m i) (classAt m i) ≡ 1) × (widthIn (kindAt m i) (classAt m i) ≡ 1)
+      by true d true q = ask-width _ _ (eqb-true (kindAt m i) 7 d) (eqb-true (classAt m i) 8 q)
+      by true d false q = absurd (false≢true (sym (class-spoken m i (bytes i) (eqb-false (classAt m i) 8 q)) ∙ e))
+      by false d u q = absurd (false≢true (sym (kind-spoken m i bytes (eqb-false (kindAt m i) 7 d)) ∙ e))
+
+  -- so a byte asks where it loses a code, and has that code
+  pub silent-asks : (silentAt m i ≤ askIn (kindAt m i) (classAt m i)) × (silentAt m i ≤ widthIn (kindAt m i) (classAt m i))
+  silent-asks = by (elidedAt m i) elided-asks
+    where
+      by : (t : Bool) → (t ≡ true → (askIn (kindAt m i) (classAt m i) ≡ 1) × (widthIn (kindAt m i) (classAt m i) ≡ 1))
+          → (cond t 1 0 ≤ askIn (kindAt m i) (classAt m i)) × (cond t 1 0 ≤ widthIn (kindAt m i) (classAt m i))
+      by true a = let o = a refl in (omega (arith, o .0), omega (arith, o .1))
+      by false a = (omega arith, omega arith)
+
+  -- the codes it makes and the one it loses are those of its class
+  pub width-silent : widthAt m i (kindAt m i) + silentAt m i ≡ widthIn (kindAt m i) (classAt m i)
+  unfolding widthAt
+  width-silent = by (elidedAt m i) elided-asks
+    where
+      by : (t : Bool) → (t ≡ true → (askIn (kindAt m i) (classAt m i) ≡ 1) × (widthIn (kindAt m i) (classAt m i) ≡ 1))
+          → cond t 0 (widthIn (kindAt m i) (classAt m i)) + cond t 1 0 ≡ widthIn (kindAt m i) (classAt m i)
+      by true a = let o = a refl in omega (arith, o .1)
+      by false a = omega arith
+
+-- a byte makes at most two codes
+pub width-up : (m : List ℕ) (i k : ℕ) → Entry k (classOf (getD m i 0)) → widthAt m i k ≤ 2
+unfolding widthAt
+width-up m i k e = by (elidedAt m i)
+  where
+    by : (t : Bool) → cond t 0 (widthIn k (classOf (getD m i 0))) ≤ 2
+    by true = omega arith
+    by false = e .width

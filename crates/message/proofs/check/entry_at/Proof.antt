@@ -1,0 +1,66 @@
+-- The table of pairs has a row for each kind, and the table of classes a class for each byte.
+-- Assumes nothing.
+use Prim.Native.Nat.{_+_, _*_, _<_}
+use mathlib.Core.Path.{_≡_}
+use native.Mathlib.Omega.{arith}
+use lib.ListN.{getD}
+use Rattle.message.specs.Classes.{classAt}
+use Rattle.message.specs.Steps.{packed}
+use Rattle.message.proofs.Bytes.{by-class}
+use Rattle.message.proofs.StepTable.{entry-holds, unpacks, pairs-read}
+use borrow.Author.Needs.{needs}
+use Rattle.message.proofs.check.entry_at.Statement.{statement}
+use Rattle.message.proofs.check.entry_at.Tie as tie
+
+-- the class of the byte
+class : (c : tie.After-class-of) → let a = c .before .before .before .args in classAt (a .m .now) (a .i) < 13
+class c = let a = c .before .before .before .args in by-class (getD (a .m .now) (a .i) 0) (omega (arith, c .before .before .shared-slice-known .given (a .i))) .class
+
+-- the place in the table is within
+within : (c : tie.After-class-of) → 16 * (c .before .before .before .args .k) + c .class-of .result < 256
+within c = omega (arith, class c, c .class-of .ensures, c .before .before .before .pre .kind)
+
+-- what is read there
+read : (c : tie.After-class-of) → let a = c .before .before .before .args in getD (a .s .now) (16 * (a .k) + c .class-of .result) 0 ≡ packed (a .k) (classAt (a .m .now) (a .i))
+read c = let p = c .before .before .before .pre in rw (c .class-of .ensures) (pairs-read _ _ _ (p .tables .pairs) (p .kind) (omega (arith, class c)))
+
+-- and how small it is
+small : (c : tie.After-class-of) → let a = c .before .before .before .args in getD (a .s .now) (16 * (a .k) + c .class-of .result) 0 < 0x2000000
+small c = let s = c .before .before .before in rw (read c) (unpacks (s .args .k) (classAt (s .args .m .now) (s .args .i)) (entry-holds _ _ (s .pre .kind) (class c)) .small)
+
+shared-slice-read-class-of : tie.Need-shared-slice-read-class-of
+shared-slice-read-class-of c = search needs
+
+class-of-requires : tie.Need-class-of-requires
+class-of-requires c κs = search needs
+
+mul-result : tie.Need-mul-result
+mul-result c = search needs
+
+add-result : tie.Need-add-result
+add-result c = omega (arith, within c)
+
+mul-result-2 : tie.Need-mul-result-2
+mul-result-2 c = omega (arith, within c)
+
+element-copy-out-result : tie.Need-element-copy-out-result
+element-copy-out-result c = within c
+
+cast-result : tie.Need-cast-result
+cast-result c = omega (arith, small (c .before))
+
+returns : tie.Need-returns
+returns c = (read (c .before), small (c .before))
+
+pub entry-at-spec : {M : Type 1} → statement M
+entry-at-spec =
+    tie.close
+    (tie.spec
+    shared-slice-read-class-of
+    class-of-requires
+    mul-result
+    add-result
+    mul-result-2
+    element-copy-out-result
+    cast-result
+    returns)

@@ -1,0 +1,24 @@
+-- The table's first half is the class of each byte.
+-- Assumes nothing.
+use Prim.Native.Nat.{_<_}
+use native.Mathlib.Omega.{arith}
+use borrow.Author.Needs.{needs}
+use Rattle.message.proofs.Bytes.{by-class}
+use Rattle.message.proofs.StepTable.{class-read}
+use Rattle.message.proofs.classify.class_of.Statement.{statement}
+use Rattle.message.proofs.classify.class_of.Tie as tie
+
+element-copy-out-result : tie.Need-element-copy-out-result
+element-copy-out-result c = search needs
+
+cast-result : tie.Need-cast-result
+cast-result c =
+    let s = c .before in
+    let h : s .args .b < 256 = omega (arith, s .fits .b) in
+    rw (class-read (s .args .t .now) (s .args .b) (s .pre) h) (omega (arith, by-class (s .args .b) h .class))
+
+returns : tie.Need-returns
+returns c = let s = c .before in class-read (s .args .t .now) (s .args .b) (s .pre) (omega (arith, s .fits .b))
+
+pub class-of-spec : {M : Type 1} → statement M
+class-of-spec = tie.close (tie.spec element-copy-out-result cast-result returns)

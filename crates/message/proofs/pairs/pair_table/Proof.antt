@@ -1,0 +1,13 @@
+-- The numbers are the rule's, by one computation.
+-- Assumes nothing.
+use mathlib.Core.Path.{refl}
+use Rattle.message.proofs.Computed.{everything}
+use Rattle.message.proofs.pairs.pair_table.Statement.{statement}
+use Rattle.message.proofs.pairs.pair_table.Tie as tie
+
+returns : tie.Need-returns
+unfolding everything
+returns c = refl
+
+pub pair-table-spec : {M : Type 1} → statement M
+pair-table-spec = tie.close (tie.spec returns)

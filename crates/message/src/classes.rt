@@ -1,0 +1,89 @@
+// The numbers that code and tables agree on: classes of bytes, letters by their bytes, sizes.
+
+// The class of each byte (specs/Classes.antt, classOf). Signs, consonants and vowels are ranges, so a test of them is two comparisons.
+pub const UNNAMED: usize = 0;
+
+pub const MARK: usize = 1;
+
+pub const GAP: usize = 2;
+
+pub const PAUSE: usize = 3;
+
+pub const HARD_SIGN: usize = 4;
+
+pub const SOFT_SIGN: usize = 5;
+
+pub const HARD_ONLY: usize = 6;
+
+pub const PAIRED: usize = 7;
+// the letters that may be elided
+pub const T_OR_D: usize = 8;
+
+pub const SOFT_ONLY: usize = 9;
+// а о у ы э
+pub const PLAIN_VOWEL: usize = 10;
+// е ё ю я
+pub const GLIDE_VOWEL: usize = 11;
+// и
+pub const VOWEL_I: usize = 12;
+
+// The kind of what stands before a byte is the class of the byte before, or one of these where that is a sign after a vowel (specs/Steps.antt, nextKind).
+pub const HARD_SIGN_AFTER_VOWEL: usize = 14;
+
+pub const SOFT_SIGN_AFTER_VOWEL: usize = 15;
+
+pub const AFTER_VOWEL_STEP: usize = SOFT_SIGN_AFTER_VOWEL - SOFT_SIGN;
+
+// The first class of letters.
+pub const FIRST_LETTER: usize = HARD_SIGN;
+
+// Letters that code names, small, in the order of the alphabet.
+pub const DE: u8 = 0xE4;
+
+pub const ZE: u8 = 0xE7;
+
+pub const KA: u8 = 0xEA;
+
+pub const EN: u8 = 0xED;
+
+pub const ER: u8 = 0xF0;
+
+pub const ES: u8 = 0xF1;
+
+pub const TE: u8 = 0xF2;
+
+pub const TSE: u8 = 0xF6;
+
+pub const CHE: u8 = 0xF7;
+
+pub const SHA: u8 = 0xF8;
+
+// Capitals are FIRST_CAPITAL to LAST_CAPITAL, each CASE_STEP below its small letter, but for ё.
+pub const FIRST_CAPITAL: u8 = 0xC0;
+
+pub const LAST_CAPITAL: u8 = 0xDF;
+
+pub const CASE_STEP: u8 = 32;
+
+pub const YO: u8 = 0xB8;
+
+pub const CAPITAL_YO: u8 = 0xA8;
+
+// How many bytes there are, and so entries of a table by byte; the longest message and the longest word.
+pub const BYTES: usize = 256;
+
+pub const MESSAGE_MAX: usize = 4096;
+
+pub const LETTERS_MAX: usize = 64;
+
+// The table of pairs has a row for each kind and a column for each class.
+pub const COLUMNS: usize = 16;
+
+pub const PAIRS_SIZE: usize = 256;
+
+// An entry of it (specs/Steps.antt, packed): the codes, NAME for a name, ASK where the letter may be elided, and STOP where it is not enough to add, once more for each number of a fault.
+pub const NAME: usize = 0x4000;
+
+pub const ASK: usize = 0x20000;
+
+pub const STOP: usize = 0x100000;
