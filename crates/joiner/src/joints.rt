@@ -8,38 +8,38 @@ ghost use Rattle.joiner.specs.Writing.{Beside, Changing};
 use crate::Changes;
 use message::letters::letter_at;
 
-// Codes of sounds: of voiced obstruents from Б to З', but for J, and Ц1 and Ч1; of ы, stressed and not.
-const B: u8 = 16;
+// Codes of sounds (paper 01, 'Codes'): those of voiced obstruents are B to SOFT_Z but for the glide, and two more; Y is ы.
+const B: u8 = 16; // Б
 
-const SOFT_Z: u8 = 30;
+const SOFT_Z: u8 = 30; // З'
 
-const J: u8 = 28;
+const GLIDE: u8 = 28; // J
 
-const TS_VOICED: u8 = 52;
+const TS1: u8 = 52; // Ц1
 
-const CH_VOICED: u8 = 54;
+const CH1: u8 = 54; // Ч1
 
-const Y_STRESSED: u8 = 4;
+const Y_STRESSED: u8 = 4; // Ы*
 
-const Y: u8 = 9;
+const Y1: u8 = 9; // Ы1
 
 // Small letters.
-const I: u8 = 0xE8;
+const I: u8 = 0xE8; // и
 
-const E: u8 = 0xFD;
+const E: u8 = 0xFD; // э
 
 // Is it a voiced obstruent's sound?
 fn is_voiced(code: u8) -> bool
     ensures { λ r. ⌜ r ≡ isVoiced code ⌝ }
 {
-    (B <= code) & (code <= SOFT_Z) & (code != J) | (code == TS_VOICED) | (code == CH_VOICED)
+    (B <= code) & (code <= SOFT_Z) & (code != GLIDE) | (code == TS1) | (code == CH1)
 }
 
 // Is it a sound of ы?
 fn is_high(code: u8) -> bool
     ensures { λ r. ⌜ r ≡ isHigh code ⌝ }
 {
-    (code == Y_STRESSED) | (code == Y)
+    (code == Y_STRESSED) | (code == Y1)
 }
 
 // Is it и or э?
