@@ -9,7 +9,7 @@ use lib.ListN.{length, drop, getD}
 use mir.Val.{boolByte}
 use Rattle.spec.specs.Letters.{isBreak}
 use Rattle.spec.specs.Joints.{RisingFrom, liveCount}
-use Rattle.laws.proofs.Parts.{before-here, after-here, live-here}
+use Rattle.laws.proofs.Parts.{live-here}
 use Rattle.joiner.specs.Writing.{Changing}
 use Rattle.joiner.specs.declared.Changes.{Changes}
 
@@ -30,4 +30,4 @@ pub count-more : (m cuts : List ℕ) (c n : ℕ) (v : Changes) → isBreak (getD
     → n + boolByte (v .before || v .after) ≡ liveCount m (c ∷ cuts)
 unfolding liveCount
 count-more m cuts c n v b w e =
-    rw (live-here m c b, ← before-here m c b, ← after-here m c b, ← w .before, ← w .after, ← e) (count-byte (v .before || v .after) n)
+    rw (live-here m c b, ← w .before, ← w .after, ← e) (count-byte (v .before || v .after) n)

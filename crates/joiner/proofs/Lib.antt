@@ -1,6 +1,6 @@
 pub mod Answering
-pub mod Arms
 pub mod BadCuts
 pub mod Counting
 pub mod Laying
+pub mod Looking
 pub mod Sides

@@ -1,19 +1,23 @@
--- What the joiner's own functions ask for and give: the message and the parts whose tapes are written, and what a cut changes beside it.
+-- What the joiner's own functions ask for and give: the message and the parts whose tapes are written, where a mark stands, and what a cut changes beside it.
 -- Assumes nothing: these are definitions.
-use Prim.Native.Nat.{ℕ, _-_, _≤_}
+use Prim.Native.Nat.{ℕ, suc, _-_, _<_, _≤_}
 use mathlib.Core.Path.{_≡_}
-use mathlib.Core.Bool.{Bool, false, _&&_}
-use mathlib.Core.List.{List}
-use lib.ListN.{length, getD}
-use Rattle.spec.specs.Letters.{isGap}
+use mathlib.Core.Bool.{Bool, true, false, not}
+use mathlib.Core.List.{List, [], _∷_, _++_}
+use lib.ListN.{length, take, drop, getD}
+use Rattle.spec.specs.Letters.{between, isBreak}
+use Rattle.spec.specs.Codes.{markOf}
 use Rattle.spec.specs.Tape.{tape}
 use Rattle.message.specs.Places.{Steady}
 use Rattle.spec.specs.Refusals.{checkOf}
-use Rattle.spec.specs.Joints.{badCut, liveByVoice, liveByHardness}
+use Rattle.spec.specs.Joints.{badCut, joinedFrom, markIndex, liveCount}
 use Rattle.spec.specs.declared.Counts.{Counts}
 use Rattle.spec.specs.declared.Checked.the-variants.{Accepted}
+use Rattle.laws.proofs.Parts.{changedAfter, changedBefore}
+use Rattle.laws.proofs.MarkIndex.{Ends}
 use Rattle.transcriber.specs.Walk.{Put}
 use Rattle.joiner.specs.declared.Changes.{Changes}
+use Rattle.joiner.specs.declared.Progress.{Progress}
 
 -- the message and its cuts are accepted, and an output of this size is as long as its tape
 pub record TapeDue (m cuts : List ℕ) (size : ℕ) : Type 0 where
@@ -29,7 +33,69 @@ pub record PartDue (p out : List ℕ) (at : ℕ) (changed : Bool) : Type 0 where
   pub place : at ≤ length out
   pub stands : changed ≡ false → Put (tape p) out out at (at - length (tape p))
 
+-- a byte that is none of low to high
+abbrev pub outside : ℕ → ℕ → ℕ → Bool
+outside low high b = not (between low high b)
+
+-- some element of the list before index i passes the test
+pub record Behind (test : ℕ → Bool) (x : List ℕ) (i : ℕ) : Type 0 where
+  pub within : i ≤ length x
+  pub least : ℕ
+  pub below : least < i
+  pub here : test (getD x least 0) ≡ true
+
+-- the accepted message's tape stands in t up to index n, and what is there is the tape's code, too
+pub record Whole (m t : List ℕ) (n : ℕ) : Type 0 where
+  pub counts : Counts
+  pub accepted : checkOf m ≡ Accepted counts
+  pub size : n ≤ length t
+  pub same : (j : ℕ) → j ≤ n → getD t j 0 ≡ getD (tape m) j 0
+
+-- index n is that of the mark of place e, which is a break or the message's end, and the break at place c is not behind it
+pub record Reach (m t : List ℕ) (c e n : ℕ) : Type 0 where
+  pub steady : Steady m
+  pub whole : Whole m t n
+  pub break : isBreak (getD m c 0) ≡ true
+  pub order : c ≤ e
+  pub within : e ≤ length m
+  pub ends : Ends m e
+  pub place : n ≡ markIndex m e
+
+-- index at is that of the mark of the break at place c, and the codes beside it are the whole tape's
+pub record Beside (m t : List ℕ) (c at : ℕ) : Type 0 where
+  pub steady : Steady m
+  pub whole : Whole m t (suc at)
+  pub break : isBreak (getD m c 0) ≡ true
+  pub place : at ≡ markIndex m c
+
 -- w says which clauses of 'Joints' hold at a cut at place c: (a) changes the code before its mark, (b) the code after it
 pub record Changing (m : List ℕ) (c : ℕ) (w : Changes) : Type 0 where
-  pub before : w .before ≡ (isGap (getD m c 0) && liveByVoice m c)
-  pub after : w .after ≡ (isGap (getD m c 0) && liveByHardness m c)
+  pub before : w .before ≡ changedBefore m c
+  pub after : w .after ≡ changedAfter m (suc c)
+
+-- where a part ends that these cuts follow
+abbrev pub endOf : List ℕ → List ℕ → ℕ
+endOf m [] = length m
+endOf m (c ∷ cuts) = c
+
+-- what follows its tape on the second tape
+abbrev pub restOf : List ℕ → List ℕ → List ℕ
+restOf m [] = []
+restOf m (c ∷ cuts) = markOf (getD m c 0) ∷ joinedFrom m (suc c) cuts
+
+-- All cuts but the first k are passed: before the mark of the last one of them, or the message's end, the whole tape stands in the output, and from there on the second one.
+pub record Laid (m cuts : List ℕ) (k : ℕ) (out : List ℕ) (p : Progress) : Type 0 where
+  pub within : k ≤ length cuts
+  pub ends : p .e ≡ endOf m (drop k cuts)
+  pub place : p .at ≡ markIndex m (p .e)
+  pub bytes : out ≡ take (p .at) (tape m) ++ restOf m (drop k cuts)
+  pub counted : p .live ≡ liveCount m (drop k cuts)
+  pub last : p .changed ≡ changedBefore m (p .e)
+
+-- the cut of index k is next
+pub record CutDue (m cuts : List ℕ) (k : ℕ) (out : List ℕ) (p : Progress) : Type 0 where
+  pub counts : Counts
+  pub accepted : checkOf m ≡ Accepted counts
+  pub rising : badCut m cuts ≡ length cuts
+  pub steady : Steady m
+  pub laid : Laid m cuts (suc k) out p

@@ -1,14 +1,17 @@
-// The joiner: one walk from right to left over the whole message, and over it the parts whose tape a cut changes.
+// The joiner: the whole message's tape, and over it the tapes of the parts that a cut changes.
 ghost use mathlib.Core.Path.{_≡_};
 ghost use Prim.Native.Nat.{_-_};
-ghost use lib.ListN.{length, getD};
+ghost use lib.ListN.{length};
 ghost use Rattle.message.specs.Classes.{classes};
+ghost use Rattle.spec.specs.Letters.{between, isBreak};
 ghost use Rattle.spec.specs.Tape.{tape};
-ghost use Rattle.spec.specs.Joints.{badCut, row12, joined, liveCount};
+ghost use Rattle.spec.specs.Joints.{badCut, row12, joined, liveCount, markIndex};
 ghost use Rattle.spec.specs.Answers.{JoinPromise};
 ghost use Rattle.transcriber.specs.Sounds.{soundTable};
 ghost use Rattle.transcriber.specs.Walk.{Put};
-ghost use Rattle.joiner.specs.Writing.{TapeDue, PartDue};
+ghost use Rattle.laws.proofs.MarkIndex.{Last};
+ghost use Rattle.joiner.specs.Writing.{TapeDue, PartDue, outside, Behind, Reach, Laid, CutDue};
+use crate::Progress;
 use crate::joints::changes_at;
 use message::check::check;
 use message::classify::class_table;
@@ -17,9 +20,28 @@ use spec::Checked;
 use spec::Refusal;
 use transcriber::tables::sound_table;
 use transcriber::tape::refused;
-use transcriber::tape::start;
-use transcriber::tape::walk_back;
 use transcriber::tape::write_tape;
+
+// Bytes of breaks, and what the other bytes of an accepted message lie between.
+const GAP: u8 = 0x20;
+
+const PAUSE: u8 = 0x23;
+
+const STRESS_MARK: u8 = 0x2A;
+
+const LAST_LETTER: u8 = 0xFF;
+
+// Codes of sounds; a gap's mark is below them, a pause's above.
+const FIRST_SOUND: u8 = 1;
+
+const LAST_SOUND: u8 = 56;
+
+// Is it a gap or a pause?
+fn is_break(b: u8) -> bool
+    ensures { λ r. ⌜ r ≡ isBreak b ⌝ }
+{
+    (b == GAP) | (b == PAUSE)
+}
 
 // Number 12 at one cut: no break stands there, or it is below the least place that it may have.
 fn is_bad(m: &[u8], least: usize, c: usize) -> bool
@@ -31,11 +53,7 @@ fn is_bad(m: &[u8], least: usize, c: usize) -> bool
     if c < least {
         return true;
     }
-    let b = m[c];
-    if b == 0x20 {
-        return false;
-    }
-    b != 0x23
+    !is_break(m[c])
 }
 
 // The index of the first bad cut of the list, or the list's length.
@@ -55,11 +73,37 @@ fn bad_cut(m: &[u8], cuts: &[usize]) -> usize
     k
 }
 
-// The code at index i of a tape, or 0 past its end.
-fn code_at(t: &[u8], i: usize) -> u8
-    ensures { λ r. ⌜ r ≡ getD (now (t .entry)) i 0 ⌝ }
+// Is it one of low to high?
+fn is_between(b: u8, low: u8, high: u8) -> bool
+    ensures { λ r. ⌜ r ≡ between low high b ⌝ }
 {
-    if i < t.len() { t[i] } else { 0 }
+    (low <= b) & (b <= high)
+}
+
+// The last index before i where the list has none of low to high; there is one.
+fn last_outside(x: &[u8], i: usize, low: u8, high: u8) -> usize
+    requires { ⌜ Behind (outside low high) (now x) i ⌝ }
+    ensures { λ r. ⌜ Last (outside low high) (now (x .entry)) i r ⌝ }
+{
+    let mut j = i - 1;
+    while is_between(x[j], low, high) {
+        j -= 1;
+    }
+    j
+}
+
+// Where the mark of the cut at place c stands on the tape, if index end is that of place e behind it: message and tape are walked back together, break by break and mark by mark.
+fn mark_of(m: &[u8], t: &[u8], c: usize, e: usize, end: usize) -> usize
+    requires { ⌜ Reach (now m) (now t) c e end ⌝ }
+    ensures { λ r. ⌜ r ≡ markIndex (now (m .entry)) c ⌝ }
+{
+    let mut i = e;
+    let mut k = end;
+    while c < i {
+        i = last_outside(m, i, STRESS_MARK, LAST_LETTER);
+        k = last_outside(t, k, FIRST_SOUND, LAST_SOUND);
+    }
+    k
 }
 
 // Of a part the whole message's codes stand right before place end of the output; where a cut changes them the part's own tape is written over them.
@@ -72,34 +116,58 @@ fn write_part(p: &[u8], changed: bool, out: &mut [u8], end: usize, t: &[u8; 256]
     }
 }
 
-// Writes the second tape and counts the live cuts. The walk is the whole message's, so at each cut the code that stands after its mark there is at hand,
-// by which the cut is judged, and only the parts that a cut changes are written again.
+// Lays the part after the cut of index k. The cut is judged before that part is written, while the codes beside its mark are the whole message's.
+fn lay_part(
+    m: &[u8],
+    cuts: &[usize],
+    k: usize,
+    out: &mut [u8],
+    p: Progress,
+    t: &[u8; 256],
+    s: &[u8; 496],
+) -> Progress
+    requires { ⌜ (now t ≡ classes) × (now s ≡ soundTable) × CutDue (now m) (now cuts) k (now out) p ⌝ }
+    ensures { λ r. ⌜ Laid (now (m .entry)) (now (cuts .entry)) k (now (out .exit)) r ⌝ }
+{
+    let c = cuts[k];
+    let e = p.e;
+    let end = p.at;
+    let changed = p.changed;
+    let at = mark_of(m, out, c, e, end);
+    let w = changes_at(m, out, c, at);
+    let before = w.before;
+    let after = w.after;
+    write_part(&m[c + 1..e], changed | after, out, end, t, s);
+    let live = p.live + (before | after) as usize;
+    Progress {
+        e: c,
+        at,
+        live,
+        changed: before,
+    }
+}
+
+// Writes the second tape and counts the live cuts: the whole message's tape, and then from the right, over it, the parts that a cut changes.
 fn write_joined(m: &[u8], cuts: &[usize], out: &mut [u8], t: &[u8; 256], s: &[u8; 496]) -> usize
     requires { ⌜ (now t ≡ classes) × (now s ≡ soundTable) × TapeDue (now m) (now cuts) (length (now out)) ⌝ }
     ensures { λ r. ⌜ (now (out .exit) ≡ joined (now (m .entry)) (now (cuts .entry))) × (r ≡ liveCount (now (m .entry)) (now (cuts .entry))) ⌝ }
 {
-    let mut e = m.len();
+    let n = out.len();
+    write_tape(m, out, n, t, s);
+    let mut p = Progress {
+        e: m.len(),
+        at: n,
+        live: 0,
+        changed: false,
+    };
     let mut k = cuts.len();
-    let mut live = 0;
-    // Does the cut at place e change the last code before it?
-    let mut changed = false;
-    let mut r = start(m, out.len());
     while 0 < k {
         k -= 1;
-        let c = cuts[k];
-        let end = r.at;
-        r = walk_back(m, out, e, c, r, t, s);
-        // The cut's mark stands at index r.at, and after it the first code of the rest.
-        let w = changes_at(m, c, code_at(out, r.at + 1));
-        write_part(&m[c + 1..e], changed | w.after, out, end, t, s);
-        live += (w.before | w.after) as usize;
-        changed = w.before;
-        e = c;
+        p = lay_part(m, cuts, k, out, p, t, s);
     }
-    let end = r.at;
-    walk_back(m, out, e, 0, r, t, s);
-    write_part(&m[..e], changed, out, end, t, s);
-    live
+    let e = p.e;
+    write_part(&m[..e], p.changed, out, p.at, t, s);
+    p.live
 }
 
 // The joiner (paper 01, 'Joints'): writes the tape of the message's parts at the start of the lent output, or refuses and leaves every byte.

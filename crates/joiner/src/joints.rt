@@ -1,141 +1,82 @@
-// Which cuts are live, told by the bytes beside them and the code after the cut's mark (paper 01, 'Joints').
+// What a cut changes, told by the codes on both sides of its mark on the whole message's tape (paper 01, 'Joints').
 ghost use mathlib.Core.Path.{_≡_};
-ghost use mathlib.Core.Bool.{true};
-ghost use Prim.Native.Nat.{suc, _+_, _<_, _≤_};
+ghost use mathlib.Core.List.{_∷_};
+ghost use Prim.Native.Nat.{_≤_};
 ghost use lib.ListN.{length, getD};
-ghost use Rattle.spec.specs.Letters.{isBreak, isObstruent, isHardOnly, isPaired};
-ghost use Rattle.spec.specs.Codes.{isVoicing};
-ghost use Rattle.spec.specs.Vowels.{endsHard};
-ghost use Rattle.spec.specs.Tape.{tape};
-ghost use Rattle.message.specs.Places.{Steady};
-ghost use Rattle.spec.specs.Joints.{wordBefore, wordAfter, endsInObstruent, beginsWithIOrE, liveByVoice, liveByHardness, markIndex};
-ghost use Rattle.joiner.specs.Writing.{Changing};
+ghost use Rattle.laws.proofs.Beside.{isVoiced, isHigh, isIOrE};
+ghost use Rattle.joiner.specs.Writing.{Beside, Changing};
 use crate::Changes;
 use message::letters::letter_at;
-use message::letters::letter_before;
 
-// A small letter that is a noise letter of the paper.
-fn is_obstruent(b: u8) -> bool
-    ensures { λ r. ⌜ r ≡ isObstruent b ⌝ }
+// Codes of sounds (paper 01, 'Codes'): those of voiced obstruents are B to SOFT_Z but for the glide, and two more; Y is ы.
+const B: u8 = 16; // Б
+
+const SOFT_Z: u8 = 30; // З'
+
+const GLIDE: u8 = 28; // J
+
+const TS1: u8 = 52; // Ц1
+
+const CH1: u8 = 54; // Ч1
+
+const Y_STRESSED: u8 = 4; // Ы*
+
+const Y1: u8 = 9; // Ы1
+
+// Small letters.
+const I: u8 = 0xE8; // и
+
+const E: u8 = 0xFD; // э
+
+// Is it a voiced obstruent's sound?
+fn is_voiced(code: u8) -> bool
+    ensures { λ r. ⌜ r ≡ isVoiced code ⌝ }
 {
-    match b {
-        0xE1..=0xE4 | 0xE6..=0xE7 | 0xEA | 0xEF | 0xF1..=0xF2 | 0xF4..=0xF9 => true,
-        _ => false,
-    }
+    (B <= code) & (code <= SOFT_Z) & (code != GLIDE) | (code == TS1) | (code == CH1)
 }
 
-// Is the code in the set D?
-fn is_voicing(code: u8) -> bool
-    ensures { λ r. ⌜ r ≡ isVoicing code ⌝ }
+// Is it a sound of ы?
+fn is_high(code: u8) -> bool
+    ensures { λ r. ⌜ r ≡ isHigh code ⌝ }
 {
-    match code {
-        16..=17 | 20..=27 | 29..=30 | 52 | 54 => true,
-        _ => false,
-    }
+    (code == Y_STRESSED) | (code == Y1)
 }
 
-// Does the word before place c end in an obstruent, signs passed over?
-fn ends_in_obstruent(m: &[u8], c: usize) -> bool
-    requires { ⌜ c ≤ length (now m) ⌝ }
-    ensures { λ r. ⌜ r ≡ endsInObstruent (wordBefore (now (m .entry)) c) ⌝ }
+// Is it и or э?
+fn is_i_or_e(b: u8) -> bool
+    ensures { λ r. ⌜ r ≡ isIOrE b ⌝ }
 {
-    let mut j = c;
-    while 0 < j {
-        j -= 1;
-        let b = letter_at(m, j);
-        match b {
-            0x2A | 0xFA | 0xFC => {}
-            _ => return is_obstruent(b),
-        }
-    }
-    false
+    (b == I) | (b == E)
 }
 
-// One of ж ш ц.
-fn is_hard_only(b: u8) -> bool
-    ensures { λ r. ⌜ r ≡ isHardOnly b ⌝ }
+// The code at index i of a tape, or 0 past its end.
+fn code_at(t: &[u8], i: usize) -> u8
+    ensures { λ r. ⌜ r ≡ getD (now (t .entry)) i 0 ⌝ }
 {
-    match b {
-        0xE6 | 0xF6 | 0xF8 => true,
-        _ => false,
-    }
+    if i < t.len() { t[i] } else { 0 }
 }
 
-// A consonant with a hard and a palatalized sound.
-fn is_paired(b: u8) -> bool
-    ensures { λ r. ⌜ r ≡ isPaired b ⌝ }
+// The code before index i of a tape, or 0 at its start.
+fn code_before(t: &[u8], i: usize) -> u8
+    requires { ⌜ i ≤ length (now t) ⌝ }
+    ensures { λ r. ⌜ r ≡ getD (0 ∷ now (t .entry)) i 0 ⌝ }
 {
-    match b {
-        0xE1..=0xE4 | 0xE7 | 0xEA..=0xED | 0xEF..=0xF2 | 0xF4..=0xF5 => true,
-        _ => false,
-    }
+    if 0 < i { t[i - 1] } else { 0 }
 }
 
-// Does the word before place c end so that a hard boundary stands behind a gap there?
-fn ends_hard(m: &[u8], c: usize) -> bool
-    requires { ⌜ Steady (now m) × (c ≤ length (now m)) ⌝ }
-    ensures { λ r. ⌜ r ≡ endsHard (wordBefore (now (m .entry)) c) ⌝ }
-{
-    let p = letter_before(m, c);
-    if is_hard_only(p) {
-        return true;
-    }
-    if p == 0xFC {
-        return is_hard_only(letter_before(m, c - 1));
-    }
-    is_paired(p)
-}
-
-// Does the word after the break at place c begin with и, or with э that has no stress mark?
-fn begins_with_i_or_e(m: &[u8], c: usize) -> bool
-    requires { ⌜ Steady (now m) × (isBreak (getD (now m) c 0) ≡ true) ⌝ }
-    ensures { λ r. ⌜ r ≡ beginsWithIOrE (wordAfter (now (m .entry)) c) ⌝ }
-{
-    let b = letter_at(m, c + 1);
-    if b == 0xE8 {
-        return true;
-    }
-    if b == 0xFD {
-        return letter_at(m, c + 2) != 0x2A;
-    }
-    false
-}
-
-// (a): does the word before place c end in an obstruent, and is the code after the cut's mark a voicing sound?
-fn is_live_by_voice(m: &[u8], c: usize, code: u8) -> bool
-    requires { ⌜ (c ≤ length (now m)) × (code ≡ getD (tape (now m)) (suc (markIndex (now m) c)) 0) ⌝ }
-    ensures { λ r. ⌜ r ≡ liveByVoice (now (m .entry)) c ⌝ }
-{
-    if is_voicing(code) {
-        return ends_in_obstruent(m, c);
-    }
-    false
-}
-
-// (b): does the word after the break at place c begin with и or unmarked э, and does the word before it end hard?
-fn is_live_by_hardness(m: &[u8], c: usize) -> bool
-    requires { ⌜ Steady (now m) × (isBreak (getD (now m) c 0) ≡ true) ⌝ }
-    ensures { λ r. ⌜ r ≡ liveByHardness (now (m .entry)) c ⌝ }
-{
-    if begins_with_i_or_e(m, c) {
-        return ends_hard(m, c);
-    }
-    false
-}
-
-// What the cut at place c changes: at a gap (a) changes the code before its mark and (b) the code after it, at a pause there is nothing to change. code is
-// what stands after the mark on the whole message's tape.
-pub fn changes_at(m: &[u8], c: usize, code: u8) -> Changes
-    requires { ⌜ Steady (now m) × (isBreak (getD (now m) c 0) ≡ true) × (code ≡ getD (tape (now m)) (suc (markIndex (now m) c)) 0) ⌝ }
+// (a) changes the code before the mark: at the end of a word an obstruent is voiced only from over a gap. (b) changes the code after it: и and э at the start of
+// a word sound Ы only behind a hard boundary. index at is that of the mark of the break at place c.
+pub fn changes_at(m: &[u8], t: &[u8], c: usize, at: usize) -> Changes
+    requires { ⌜ Beside (now m) (now t) c at ⌝ }
     ensures { λ r. ⌜ Changing (now (m .entry)) c r ⌝ }
 {
-    if m[c] != 0x20 {
-        return Changes {
-            before: false,
-            after: false,
-        };
+    let before = is_voiced(code_before(t, at));
+    if is_high(code_at(t, at + 1)) {
+        let after = is_i_or_e(letter_at(m, c + 1));
+        return Changes { before, after };
     }
-    let before = is_live_by_voice(m, c, code);
-    let after = is_live_by_hardness(m, c);
-    Changes { before, after }
+    Changes {
+        before,
+        after: false,
+    }
 }

@@ -59,7 +59,7 @@ Spelled [] = Unit {0}
 Spelled (l ∷ w) = (spells (l .byte) ≡ true) × Spelled w
 
 -- pass 1 only takes letters away
-elide-spelled : (p : ℕ) (w : List Letter) → Spelled w → Spelled (elideFrom p w)
+pub elide-spelled : (p : ℕ) (w : List Letter) → Spelled w → Spelled (elideFrom p w)
 unfolding elideFrom
 elide-spelled p [] s = tt
 elide-spelled p (l ∷ w) s = by (elides p (l .byte) w) (elide-spelled (l .byte) w (s .1))

@@ -13,3 +13,5 @@ pub mod Phrases
 pub mod Bounds
 pub mod Promises
 pub mod Demands
+pub mod Beside
+pub mod MarkIndex

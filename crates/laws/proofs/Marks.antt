@@ -64,7 +64,7 @@ module _ (m : List ℕ) where
   mark-last e q = rw (q, take-length)
 
   -- the tape from place a on, and what stands before it
-  tape-from : (a : ℕ) → Begins m a → Stands m a
+  pub tape-from : (a : ℕ) → Begins m a → Stands m a
   tape-from zero b = record { front = []; split = sym (onward-first m); size = sym mark-first }
   tape-from (suc c) b = record {
     front = segment false (voicedAt m c) (read (take c m)) ++ (markOf (getD m c 0) ∷ []);

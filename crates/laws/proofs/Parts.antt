@@ -51,7 +51,7 @@ unfoldable pub changedBefore : List ℕ → ℕ → Bool
 changedBefore m c = voicedAt m c && endsInObstruent (wordBefore m c)
 
 -- the last code of a tape stands at the index before its end
-last-at : (x : ℕ) (s u : List ℕ) (n : ℕ) → length s ≡ n → getD (x ∷ (s ++ u)) n 0 ≡ lastCodeFrom x s
+pub last-at : (x : ℕ) (s u : List ℕ) (n : ℕ) → length s ≡ n → getD (x ∷ (s ++ u)) n 0 ≡ lastCodeFrom x s
 unfolding lastCodeFrom
 last-at x [] u zero e = refl
 last-at x [] u (suc n) e = absurd (omega arith)

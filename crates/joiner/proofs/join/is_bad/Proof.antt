@@ -2,7 +2,7 @@
 -- Assumes nothing.
 use mathlib.Core.Bool.{or-true, or-false}
 use borrow.Author.Needs.{needs}
-use borrow.Author.Tests.{ne-eqb, le-leb, lt-leb}
+use borrow.Author.Tests.{le-leb, lt-leb}
 use lib.ListN.{List·getD-eq-default}
 use Rattle.spec.specs.Letters.{isBreak}
 use Rattle.spec.specs.Joints.{row12}
@@ -11,22 +11,21 @@ use Rattle.joiner.proofs.join.is_bad.Tie as tie
 
 returns : tie.Need-returns
 unfolding row12 isBreak
-returns c = rw (List·getD-eq-default (c .before .args .m .now) 0 (c .if1 .taken))
+returns c = rw (List·getD-eq-default (c .before .before .args .m .now) 0 (c .if1 .taken))
 
 returns-2 : tie.Need-returns-2
 unfolding row12
 returns-2 c = rw (lt-leb _ _ (c .if2 .taken), or-true)
 
-shared-slice-read-b : tie.Need-shared-slice-read-b
-shared-slice-read-b c = search needs
+shared-slice-read-is-break : tie.Need-shared-slice-read-is-break
+shared-slice-read-is-break c = search needs
+
+is-break-requires : tie.Need-is-break-requires
+is-break-requires c κs = search needs
 
 returns-3 : tie.Need-returns-3
-unfolding row12 isBreak
-returns-3 c = rw (c .if3 .taken, le-leb _ _ (c .before .before .if2 .left))
-
-returns-4 : tie.Need-returns-4
-unfolding row12 isBreak
-returns-4 c = rw (ne-eqb _ _ (c .if3 .left), le-leb _ _ (c .before .before .if2 .left), or-false)
+unfolding row12
+returns-3 c = rw (c .is-break .ensures, le-leb _ _ (c .before .before .if2 .left), or-false)
 
 pub is-bad-spec : {M : Type 1} → statement M
-is-bad-spec = tie.close (tie.spec returns returns-2 shared-slice-read-b returns-3 returns-4)
+is-bad-spec = tie.close (tie.spec returns returns-2 shared-slice-read-is-break is-break-requires returns-3)

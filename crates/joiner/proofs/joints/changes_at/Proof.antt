@@ -1,41 +1,68 @@
--- At a pause no clause holds, and at a gap each is asked.
+-- The codes beside the mark tell what a cut changes, and each branch settles one test of them.
 -- Assumes nothing.
-use Prim.Native.Nat.{_<_}
+use Prim.Native.Nat.{suc, _+_}
+use mathlib.Core.Path.{_≡_, _∙_}
+use mathlib.Core.Bool.{_&&_}
 use native.Mathlib.Omega.{arith}
-use lib.ListN.{length, getD}
-use borrow.Author.Needs.{needs}
-use borrow.Author.Tests.{ne-eqb}
-use Rattle.spec.specs.Alphabet.{gap}
-use Rattle.spec.specs.Letters.{isGap}
+use Rattle.message.specs.Classes.{letterAt}
 use Rattle.laws.proofs.Cuts.{break-within}
+use Rattle.laws.proofs.Parts.{changedAfter, changedBefore}
+use Rattle.laws.proofs.Beside.{isIOrE}
+use Rattle.joiner.proofs.Sides.{voice-told, hardness-told}
 use Rattle.joiner.proofs.joints.changes_at.Statement.{statement}
 use Rattle.joiner.proofs.joints.changes_at.Tie as tie
 
--- the break stands within the message
-within : (c : tie.Start) → c .args .c < length (c .args .m .now)
-within c = break-within (c .args .m .now) (c .args .c) (c .pre .1)
+-- (a)
+voice : (c : tie.After-is-voiced) → let s = c .before .before .before .before .args in c .is-voiced .result ≡ changedBefore (s .m .now) (s .c)
+voice c = rw (c .is-voiced .ensures, c .before .code-before .ensures) (voice-told (c .before .before .before .before .pre))
 
-shared-slice-read-if1 : tie.Need-shared-slice-read-if1
-shared-slice-read-if1 c = within (c .before .before)
+-- (b)
+hardness : (c : tie.After-is-high) → let s = c .before .before .before .before .before .before .args in
+    (c .is-high .result && isIOrE (letterAt (s .m .now) (s .c + 1))) ≡ changedAfter (s .m .now) (suc (s .c))
+hardness c = rw (c .is-high .ensures, c .before .code-at .ensures) (hardness-told (c .before .before .before .before .before .before .pre))
+
+code-before-requires : tie.Need-code-before-requires
+code-before-requires c κs = omega (arith, c .before .before .pre .whole .size)
+
+is-voiced-requires : tie.Need-is-voiced-requires
+is-voiced-requires c κs = tt
+
+add-code-at : tie.Need-add-code-at
+add-code-at c = omega (arith, c .before .before .before .before .pre .whole .size)
+
+code-at-requires : tie.Need-code-at-requires
+code-at-requires c κs = tt
+
+is-high-requires : tie.Need-is-high-requires
+is-high-requires c κs = tt
+
+add-letter-at : tie.Need-add-letter-at
+add-letter-at c = let s = c .before .before .before .before .before .before .before in
+    omega (arith, break-within (s .args .m .now) (s .args .c) (s .pre .break))
+
+letter-at-requires : tie.Need-letter-at-requires
+letter-at-requires c κs = tt
+
+is-i-or-e-requires : tie.Need-is-i-or-e-requires
+is-i-or-e-requires c κs = tt
 
 returns : tie.Need-returns
-unfolding isGap
-returns c = let s = c .before .before .before in
-    let e = ne-eqb (getD (s .args .m .now) (s .args .c) 0) gap (c .if1 .taken) in
-    record { before = rw e; after = rw e }
-
-is-live-by-voice-requires : tie.Need-is-live-by-voice-requires
-is-live-by-voice-requires c κs = let s = c .before .before .before in (omega (arith, within s), s .pre .2)
-
-is-live-by-hardness-requires : tie.Need-is-live-by-hardness-requires
-is-live-by-hardness-requires c κs = search needs
+returns c = record { before = voice (c .before .before .before .before .before); after = c .is-i-or-e .ensures ∙ rw (c .before .letter-at .ensures) (rw (c .before .before .if1 .taken) at (hardness (c .before .before .before))) }
 
 returns-2 : tie.Need-returns-2
-unfolding isGap
-returns-2 c =
-    let v = c .before in
-    let g = v .before .if1 .left in
-    record { before = rw g (v .is-live-by-voice .ensures); after = rw g (c .is-live-by-hardness .ensures) }
+returns-2 c = record { before = voice (c .before .before .before); after = rw (c .if1 .left) at (hardness (c .before)) }
 
 pub changes-at-spec : {M : Type 1} → statement M
-changes-at-spec = tie.close (tie.spec shared-slice-read-if1 returns is-live-by-voice-requires is-live-by-hardness-requires returns-2)
+changes-at-spec =
+    tie.close
+    (tie.spec
+    code-before-requires
+    is-voiced-requires
+    add-code-at
+    code-at-requires
+    is-high-requires
+    add-letter-at
+    letter-at-requires
+    is-i-or-e-requires
+    returns
+    returns-2)

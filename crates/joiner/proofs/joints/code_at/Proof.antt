@@ -3,8 +3,8 @@
 use mathlib.Core.Path.{sym}
 use borrow.Author.Needs.{needs}
 use lib.ListN.{List·getD-eq-default}
-use Rattle.joiner.proofs.join.code_at.Statement.{statement}
-use Rattle.joiner.proofs.join.code_at.Tie as tie
+use Rattle.joiner.proofs.joints.code_at.Statement.{statement}
+use Rattle.joiner.proofs.joints.code_at.Tie as tie
 
 shared-slice-read-result : tie.Need-shared-slice-read-result
 shared-slice-read-result c = search needs

@@ -1,0 +1,139 @@
+-- Where the codes of a part and the marks of breaks stand on a tape: before a place as many codes stand as the bytes before it make, so a part's codes in the whole tape are as many
+-- as its own, and since each code of a word is a sound the last mark before that of a place is that of the last break before it.
+-- Assumes nothing.
+use Prim.Native.Nat.{ℕ, suc, _+_, _-_, _<_, _≤_}
+use mathlib.Core.Path.{_≡_, refl, sym, ap, _∙_}
+use mathlib.Core.Bool.{Bool, true, false, cond, not, _&&_, true≢false}
+use mathlib.Core.Logic.{_⊎_, ⊎-elim}
+use mathlib.Core.List.{List, [], _∷_, _++_, append-nil}
+use native.Mathlib.Omega.{arith}
+use lib.Dec.{eqb, leb}
+use lib.ListN.{length, take, drop, getD, length-append, length-drop, List·getD-eq-default}
+use lib.Seq.{take-all}
+use borrow.Author.Tests.{leb-true, leb-false, le-leb}
+use Rattle.spec.specs.Alphabet.{pause}
+use Rattle.spec.specs.Letters.{between, read, firstByte, isGap, isBreak}
+use Rattle.spec.specs.Codes.{А*, Щ, markOf}
+use Rattle.spec.specs.Tape.{segment, tape}
+use Rattle.spec.specs.Refusals.{checkOf}
+use Rattle.spec.specs.Joints.{markIndex, wordBefore, wordAfter}
+use Rattle.spec.specs.declared.Counts.{Counts}
+use Rattle.spec.specs.declared.Checked.the-variants.{Accepted}
+use Rattle.laws.proofs.Accepted.{accepted-passes}
+use Rattle.laws.proofs.Stretch.{segment-length}
+use Rattle.laws.proofs.Codes.{part-spells}
+use Rattle.laws.proofs.Parts.{part, Begins, hardAt, onward, voicedAt, changedAfter, changedBefore, last-at, onward-cut, part-own, tape-cut, mark-index, mark-there, code-after, onward-alone}
+use Rattle.laws.proofs.Marks.{tape-from, mark-next, mark-last, sounds-between, sound-range}
+use Rattle.laws.proofs.Beside.{isVoiced, isHigh, isIOrE, segment-ends, segment-starts}
+
+-- a part may end at e: at the message's end, or at a break
+abbrev pub Ends : List ℕ → ℕ → Type 0
+Ends m e = (isBreak (getD m e 0) ≡ true) ⊎ (e ≡ length m)
+
+-- r is the last index below i where the list passes the test
+pub record Last (test : ℕ → Bool) (x : List ℕ) (i r : ℕ) : Type 0 where
+  pub below : r < i
+  pub here : test (getD x r 0) ≡ true
+  pub past : (j : ℕ) → r < j → j < i → test (getD x j 0) ≡ false
+
+-- it is not below another such index
+pub last-above : (test : ℕ → Bool) (x y : List ℕ) (i r s : ℕ) → ((j : ℕ) → j < i → getD x j 0 ≡ getD y j 0) → Last test x i r → s < i → test (getD y s 0) ≡ true → s ≤ r
+last-above test x y i r s same l b h = by (leb s r) refl
+  where
+    by : (t : Bool) → leb s r ≡ t → s ≤ r
+    by true q = leb-true s r q
+    by false q = absurd (true≢false (sym h ∙ ap test (sym (same s b)) ∙ l .past s (omega (arith, leb-false s r q)) b))
+
+-- so lists that are the same below i have one
+pub last-once : (test : ℕ → Bool) (x y : List ℕ) (i r s : ℕ) → ((j : ℕ) → j < i → getD x j 0 ≡ getD y j 0) → Last test x i r → Last test y i s → r ≡ s
+last-once test x y i r s same l k =
+    omega (arith, last-above test x y i r s same l (k .below) (k .here), last-above test y x i s r (λ j b. sym (same j b)) k (l .below) (l .here))
+
+-- a code that is no sound
+abbrev pub isNoSound : ℕ → Bool
+isNoSound c = not (between А* Щ c)
+
+-- a break's mark is none
+mark-no-sound : (x : ℕ) → isNoSound (markOf x) ≡ true
+unfolding markOf
+mark-no-sound x = by (eqb x pause)
+  where
+    by : (t : Bool) → isNoSound (cond t 63 0) ≡ true
+    by true = refl
+    by false = refl
+
+-- the whole message's codes of the bytes from a up to e
+abbrev pub stretch : List ℕ → ℕ → ℕ → List ℕ
+stretch m a e = segment (hardAt m a) (voicedAt m e) (read (part m a e))
+
+-- Where they stand on its tape.
+pub record Placed (m : List ℕ) (a e : ℕ) : Type 0 where
+  pub front : List ℕ
+  pub rest : List ℕ
+  pub split : tape m ≡ front ++ (stretch m a e ++ rest)
+  pub start : length front ≡ markIndex m a
+  pub size : markIndex m a + length (stretch m a e) ≡ markIndex m e
+
+module _ (m : List ℕ) where
+  -- nothing follows the message's end
+  end-unvoiced : voicedAt m (length m) ≡ false
+  unfolding voicedAt isGap
+  end-unvoiced = rw (List·getD-eq-default m 0 {n = length m} (omega arith))
+
+  -- so nothing changes the last code
+  pub end-own : changedBefore m (length m) ≡ false
+  unfolding changedBefore
+  end-own = rw end-unvoiced
+
+  -- the last part has all bytes from its place on
+  last-stretch : (a : ℕ) → onward m a ≡ stretch m a (length m)
+  unfolding onward
+  last-stretch a = rw (end-unvoiced, take-all (length m - a) (drop a m) (omega (arith, length-drop a m)))
+
+  module _ (a e : ℕ) (begins : Begins m a) (le : a ≤ e) (ends : Ends m e) where
+    pub placed : Placed m a e
+    placed = let f = tape-from m a begins in ⊎-elim (λ k.
+        let t = f .split ∙ ap (λ (x : List ℕ). f .front ++ x) (onward-cut m a e begins le k) in
+        let n = simp length-append at (ap length (sym t ∙ tape-cut m e k)) in
+        record { front = f .front; rest = _; split = t; start = f .size; size = omega (arith, f .size, n, mark-index m e k) })
+        (λ k.
+        let t = f .split ∙ ap (λ (x : List ℕ). f .front ++ x) (last-stretch a ∙ sym (append-nil (stretch m a (length m)))) in
+        let n = simp (length-append, append-nil) at (ap length t) in
+        rw k (record { front = f .front; rest = []; split = t; start = f .size; size = omega (arith, f .size, n, mark-last m (length m) refl) })) ends
+
+    -- they are as many as the part's own
+    pub own-length : length (tape (part m a e)) ≡ length (stretch m a e)
+    unfolding tape
+    own-length = segment-length false (hardAt m a) false (voicedAt m e) (read (part m a e))
+
+    -- and they are its own where no break changes the first or the last of them
+    pub own-codes : changedAfter m a ≡ false → changedBefore m e ≡ false → tape (part m a e) ≡ stretch m a e
+    own-codes q o = ⊎-elim (λ k. part-own m a e begins le k q o)
+        (λ k. rw k (ap tape (take-all (length m - a) (drop a m) (omega (arith, length-drop a m))) ∙ onward-alone m a q ∙ last-stretch a)) ends
+
+  module _ {counts : Counts} (accepted : checkOf m ≡ Accepted counts) where
+    -- The last mark before that of a place is the mark of the last break before it.
+    pub last-mark : (b e : ℕ) → e ≤ length m → Ends m e → Last isBreak m e b → Last isNoSound (tape m) (markIndex m e) (markIndex m b)
+    last-mark b e within ends l =
+        let s = placed (suc b) e (l .here) (l .below) ends in
+        let n = mark-next m b (l .here) in
+        record {
+          below = omega (arith, s .size, n);
+          here = rw (mark-there m b (l .here)) (mark-no-sound (getD m b 0));
+          past = λ j lo hi.
+              let r = sound-range (getD (tape m) j 0) (sounds-between m counts accepted (suc b) e (l .here) (l .below) within ends (λ i p q. l .past i p q) j (omega (arith, n)) hi) in
+              rw (le-leb А* (getD (tape m) j 0) (r .0), le-leb (getD (tape m) j 0) Щ (r .1));
+        }
+
+    -- At a break a voiced code before its mark, the first tape's, is one that a cut changes.
+    pub before-told : (c : ℕ) → isBreak (getD m c 0) ≡ true → isVoiced (getD (0 ∷ tape m) (markIndex m c) 0) ≡ changedBefore m c
+    unfolding changedBefore wordBefore
+    before-told c b =
+        let s = segment false (voicedAt m c) (read (take c m)) in
+        rw (tape-cut m c b, last-at 0 s (markOf (getD m c 0) ∷ onward m (suc c)) (markIndex m c) (mark-index m c b))
+        (segment-ends false (voicedAt m c) 0 (read (take c m)) refl (part-spells m (accepted-passes m counts accepted) 0 c))
+
+  -- And Ы after it, where the next word begins with и or э, is too.
+  pub after-told : (c : ℕ) → isBreak (getD m c 0) ≡ true → (isHigh (getD (tape m) (suc (markIndex m c)) 0) && isIOrE (firstByte (wordAfter m c))) ≡ changedAfter m (suc c)
+  unfolding changedAfter wordAfter onward
+  after-told c b = rw (code-after m c b) (segment-starts (hardAt m (suc c)) false (read (drop (suc c) m)))
