@@ -8,8 +8,8 @@ use lib.ListN.{length, getD, drop}
 use lib.Seq.{drop-length}
 use Rattle.spec.specs.Letters.{isBreak, isMark, beginsWithMark}
 use Rattle.spec.specs.Refusals.{vowelByte}
-use Rattle.spec.specs.Syllables.{nextStressed, syllableOf}
-use Rattle.message.specs.Places.{Steady, leftAt, letterOf, wordAt, markBefore, markedAt, factsAt}
+use Rattle.spec.specs.Syllables.{nextStressed}
+use Rattle.message.specs.Places.{Steady, letterOf, wordAt, markBefore, markedAt}
 use Rattle.spec.specs.declared.Level.{Level}
 use Rattle.spec.specs.declared.Level.the-variants.{Stressed}
 use Rattle.message.proofs.Bytes.{not-both, vowel-break, vowel-mark}
@@ -17,7 +17,7 @@ use Rattle.message.proofs.Computed.{everything}
 use Rattle.message.proofs.Left.{begins-at, mark-within, unmarked-after}
 use Rattle.message.proofs.Tail.{word-letter, word-break, word-end, marked-within, marked-break, marked-end}
 use Rattle.transcriber.specs.Sounds.{classBefore, levelBy, farLevel, levelBefore, syllableBy}
-use Rattle.transcriber.specs.Walk.{Levels}
+use Rattle.transcriber.specs.Walk.{Levels, syllableAt}
 use Rattle.transcriber.proofs.Raw.{syllable-raw}
 
 -- the level before a vowel that is stressed or not
@@ -42,9 +42,9 @@ break-mark b = not-both isBreak isMark b refl
 
 module _ (m : List ℕ) (steady : Steady m) (i : ℕ) (h : i < length m) where
   -- the syllable of a vowel
-  pub levels-syllable : {n f : Level} → vowelByte (getD m i 0) ≡ true → Levels m (suc i) n f
-      → syllableOf (factsAt m i) (leftAt m i .p) (letterOf m i) (wordAt m (suc i)) ≡ syllableBy (classBefore m i) n
-  levels-syllable v l = rw (syllable-raw m steady i h, marked-within m steady i h (vowel-break (getD m i 0) (steady .bytes i) v), l .near)
+  pub levels-syllable : {n : Level} → vowelByte (getD m i 0) ≡ true → n ≡ levelBy (beginsWithMark (drop (suc i) m)) (nextStressed (wordAt m (suc i))) (markedAt m (suc i))
+      → syllableAt m i ≡ syllableBy (classBefore m i) n
+  levels-syllable v e = rw (syllable-raw m steady i h, marked-within m steady i h (vowel-break (getD m i 0) (steady .bytes i) v), e)
 
   -- over a vowel
   pub levels-vowel : {n f : Level} → vowelByte (getD m i 0) ≡ true → Levels m (suc i) n f → Levels m i (levelBefore n f) f

@@ -4,6 +4,5 @@ pub mod Levels
 pub mod Namings
 pub mod Putting
 pub mod Raw
-pub mod Rows
 pub mod SoundTable
 pub mod Walking

@@ -2,20 +2,23 @@
 -- Assumes nothing: these are definitions.
 use Prim.Native.Nat.{ℕ, suc, _+_, _<_, _≤_}
 use mathlib.Core.Path.{_≡_}
-use mathlib.Core.Bool.{cond}
+use mathlib.Core.Bool.{true, cond}
 use mathlib.Core.List.{List, [], _∷_, _++_}
 use lib.ListN.{length, take, drop, getD}
-use Rattle.spec.specs.Letters.{firstByte, beginsWithMark, isBreak, isMark}
-use Rattle.spec.specs.Codes.{markOf}
+use Rattle.spec.specs.Letters.{small, firstByte, beginsWithMark, isBreak, isMark}
+use Rattle.spec.specs.Codes.{J, markOf}
 use Rattle.spec.specs.Syllables.{nextStressed, incomplete, nameOf, syllableOf}
-use Rattle.spec.specs.Vowels.{softens}
+use Rattle.spec.specs.Vowels.{vowelSound, glides, softens}
 use Rattle.spec.specs.Tape.{tape}
 use Rattle.spec.specs.Refusals.{vowelByte}
 use Rattle.message.specs.Places.{Steady, tapeAt, leftAt, letterOf, wordAt, toneAt, soundAt, markedAt, factsAt, codesAt}
+use Rattle.message.specs.Scan.{classOf, isVowelClass}
 use Rattle.spec.specs.declared.Level.{Level}
+use Rattle.spec.specs.declared.Syllable.{Syllable}
 use Rattle.transcriber.specs.Sounds.{levelBy, farLevel, toneNo}
 use Rattle.transcriber.specs.declared.Right.{Right}
-use Rattle.transcriber.specs.declared.Vowels.{Vowels}
+use Rattle.transcriber.specs.declared.Vowel.{Vowel}
+use Rattle.transcriber.specs.declared.NameState.{NameState}
 
 -- At place i: n is the level of the next vowel of the word to the left, and f that of a vowel of the word that has no mark near.
 pub record Levels (m : List ℕ) (i : ℕ) (n f : Level) : Type 0 where
@@ -32,6 +35,26 @@ pub record Stands (m : List ℕ) (i : ℕ) (r : Right) : Type 0 where
 pub record Put (codes out out′ : List ℕ) (at r : ℕ) : Type 0 where
   pub place : r + length codes ≡ at
   pub bytes : out′ ≡ take r out ++ (codes ++ drop at out)
+
+-- a vowel of class c may be sung at place i: n is the level of its syllable
+pub record VowelAt (m : List ℕ) (i c : ℕ) (n : Level) : Type 0 where
+  pub within : i < length m
+  pub steady : Steady m
+  pub class : c ≡ classOf (getD m i 0)
+  pub vowel : isVowelClass c ≡ true
+  pub level : n ≡ levelBy (beginsWithMark (drop (suc i) m)) (nextStressed (wordAt m (suc i))) (markedAt m (suc i))
+
+-- the syllable of the vowel at place i
+abbrev pub syllableAt : List ℕ → ℕ → Syllable
+syllableAt m i = syllableOf (factsAt m i) (leftAt m i .p) (letterOf m i) (wordAt m (suc i))
+
+-- v is what passes 2 and 3 make of the vowel at place i
+pub record Sung (m : List ℕ) (i : ℕ) (v : Vowel) : Type 0 where
+  pub sound : v .sound ≡ vowelSound (leftAt m i .hard) (leftAt m i .p) (syllableAt m i) (small (getD m i 0))
+  pub glide : v .glide ≡ glides (leftAt m i .p) (syllableAt m i .cover) (small (getD m i 0))
+
+abbrev pub sungCodes : Vowel → List ℕ
+sungCodes v = cond (v .glide) (J ∷ v .sound ∷ []) (v .sound ∷ [])
 
 -- what the byte at place i puts on the tape
 unfoldable pub pieceAt : List ℕ → ℕ → List ℕ
@@ -70,15 +93,15 @@ pub record MayWalk (m out : List ℕ) (start to : ℕ) (r : Right) : Type 0 wher
 unfoldable pub namePiece : List ℕ → ℕ → List ℕ
 namePiece m i =
     cond (isBreak (getD m i 0)) (incomplete (leftAt m i .p))
-    (cond (vowelByte (getD m i 0)) (nameOf (syllableOf (factsAt m i) (leftAt m i .p) (letterOf m i) (wordAt m (suc i))) ∷ []) [])
+    (cond (vowelByte (getD m i 0)) (nameOf (syllableAt m i) ∷ []) [])
 
-pub record NameReady (m out : List ℕ) (i : ℕ) (v : Vowels) : Type 0 where
+pub record NameReady (m out : List ℕ) (i : ℕ) (v : NameState) : Type 0 where
   pub within : i < length m
   pub steady : Steady m
   pub levels : Levels m (suc i) (v .near) (v .far)
   pub room : length (namePiece m i) ≤ v .at
   pub place : v .at ≤ length out
 
-pub record Named (m out out′ : List ℕ) (i : ℕ) (v q : Vowels) : Type 0 where
+pub record Named (m out out′ : List ℕ) (i : ℕ) (v q : NameState) : Type 0 where
   pub levels : Levels m i (q .near) (q .far)
   pub put : Put (namePiece m i) out out′ (v .at) (q .at)

@@ -1,17 +1,19 @@
+mod before;
+mod classes;
+mod codes;
+mod letters;
 pub mod naming;
 pub mod sounds;
 pub mod tables;
 pub mod tape;
-mod walk;
+mod vowels;
 
 use spec::Level;
 
-// What a vowel's sound asks of the letter before it: none, one of ж ш ц, one of ч щ й, or another.
-pub enum After {
-    Start,
-    HardOnly,
-    SoftOnly,
-    Other,
+// What a vowel puts on the tape: its sound, and whether a glide stands before it.
+pub struct Vowel {
+    pub sound: u8,
+    pub glide: bool,
 }
 
 // What stands right of a place of the message, in the walk from its end: where the tape written so far begins, how an obstruent would sound before it (where the codes
@@ -27,7 +29,7 @@ pub struct Right {
 }
 
 // The same for the naming, which needs to know less.
-pub struct Vowels {
+pub struct NameState {
     pub at: usize,
     pub near: Level,
     pub far: Level,

@@ -10,15 +10,15 @@ ghost use Rattle.spec.specs.Tape.{names};
 ghost use Rattle.message.specs.Places.{Steady, leftAt};
 ghost use Rattle.spec.specs.Answers.{Answered, nameAnswer};
 ghost use Rattle.transcriber.specs.Walk.{Put, NameReady, Named};
-use crate::Vowels;
+use crate::NameState;
+use crate::before::class_before;
+use crate::before::mark_before;
 use crate::sounds::far_level;
 use crate::sounds::level_before;
 use crate::sounds::name_of;
 use crate::sounds::syllable_by;
 use crate::tape::put;
 use crate::tape::refused;
-use crate::walk::class_before;
-use crate::walk::mark_before;
 use message::check::check;
 use message::check::class_of;
 use message::tables::class_table;
@@ -43,7 +43,7 @@ fn put_end(m: &[u8], i: usize, at: usize, out: &mut [u8], t: &[u8; 256]) -> usiz
 }
 
 // The vowel at place i names its syllable.
-fn put_name(m: &[u8], i: usize, v: Vowels, out: &mut [u8], t: &[u8; 256]) -> Vowels
+fn put_name(m: &[u8], i: usize, v: NameState, out: &mut [u8], t: &[u8; 256]) -> NameState
     requires { ⌜ (now t ≡ classes) × (isVowelClass (classOf (getD (now m) i 0)) ≡ true) × NameReady (now m) (now out) i v ⌝ }
     ensures { λ q. ⌜ Named (now (m .entry)) (now (out .entry)) (now (out .exit)) i v q ⌝ }
 {
@@ -52,11 +52,11 @@ fn put_name(m: &[u8], i: usize, v: Vowels, out: &mut [u8], t: &[u8; 256]) -> Vow
     let far = v.far;
     let at = put(out, v.at, name_of(syllable_by(k, level)));
     let near = level_before(level, far);
-    Vowels { at, near, far }
+    NameState { at, near, far }
 }
 
 // The byte at place i.
-fn step(m: &[u8], i: usize, v: Vowels, out: &mut [u8], t: &[u8; 256]) -> Vowels
+fn step(m: &[u8], i: usize, v: NameState, out: &mut [u8], t: &[u8; 256]) -> NameState
     requires { ⌜ (now t ≡ classes) × NameReady (now m) (now out) i v ⌝ }
     ensures { λ q. ⌜ Named (now (m .entry)) (now (out .entry)) (now (out .exit)) i v q ⌝ }
 {
@@ -70,7 +70,7 @@ fn step(m: &[u8], i: usize, v: Vowels, out: &mut [u8], t: &[u8; 256]) -> Vowels
     let at = v.at;
     if c == 1 {
         let far = v.far;
-        return Vowels {
+        return NameState {
             at,
             near: Level::Stressed,
             far,
@@ -78,7 +78,7 @@ fn step(m: &[u8], i: usize, v: Vowels, out: &mut [u8], t: &[u8; 256]) -> Vowels
     }
     let end = put_end(m, i, at, out, t);
     let far = far_level(mark_before(m, i));
-    Vowels {
+    NameState {
         at: end,
         near: far,
         far,
@@ -94,7 +94,7 @@ fn fill_names(m: &[u8], out: &mut [u8], n: usize)
     let mut i = m.len();
     let at = put_end(m, i, n, out, &t);
     let far = far_level(mark_before(m, i));
-    let mut v = Vowels { at, near: far, far };
+    let mut v = NameState { at, near: far, far };
     while 0 < i {
         i -= 1;
         v = step(m, i, v, out, &t);

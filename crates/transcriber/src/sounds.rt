@@ -4,88 +4,14 @@ ghost use mathlib.Core.Bool.{true};
 ghost use Prim.Native.Nat.{_%_, _<_};
 ghost use lib.Dec.{leb};
 ghost use Rattle.spec.specs.Letters.{small};
-ghost use Rattle.spec.specs.Refusals.{consonantByte, vowelByte};
+ghost use Rattle.spec.specs.Refusals.{consonantByte};
 ghost use Rattle.message.specs.Scan.{isSignClass};
 ghost use Rattle.spec.specs.Syllables.{nameOf};
 ghost use Rattle.message.specs.Fused.{toneBefore, consonantCode};
-ghost use Rattle.transcriber.specs.Sounds.{Sounds, Row, groupPlace, levelPlace, afterClass, coverClass, farLevel, levelBefore, syllableBy, glideBy, soundTable, toneBy, toneNo};
-use crate::After;
+ghost use Rattle.transcriber.specs.Sounds.{coverClass, farLevel, levelBefore, syllableBy, glideBy, soundTable, toneBy, toneNo};
 use spec::Cover;
 use spec::Level;
 use spec::Syllable;
-
-// The vowel rows of pass 3, one arm a vowel, small or capital. A digit of a row is a sound's code, and there are five groups of three:
-// initial at a hard boundary, initial, after ж ш ц, after ч щ й, after another letter; in each group levels S, 1 and 2.
-fn row_of(b: u8) -> u64
-    requires { ⌜ vowelByte b ≡ true ⌝ }
-    ensures { λ r. ⌜ Row (small b) r ⌝ }
-{
-    match b {
-        0xE0 | 0xC0 => 0x177_177_17C_18D_17C, // а
-        0xEE | 0xCE => 0x277_277_27C_27D_27C, // о
-        0xF3 | 0xD3 => 0x6BB_6BB_6BB_6BB_6BB, // у
-        0xFB | 0xDB => 0x499_499_499_499_499, // ы
-        0xFD | 0xDD => 0x399_38D_38D_38D_38D, // э
-        0xE5 | 0xC5 => 0x388_388_39C_38D_38D, // е
-        0xB8 | 0xA8 => 0x222_222_222_222_222, // ё
-        0xFE | 0xDE => 0x6BB_6BB_6BB_6BB_6BB, // ю
-        0xFF | 0xDF => 0x188_188_18D_18D_18D, // я
-        _ => 0x499_5AA_499_5AA_5AA, // и
-    }
-}
-
-// How many bits stand right of the first digit of a group.
-fn group_place(after: After, hard: bool) -> u64
-    ensures { λ r. ⌜ r ≡ groupPlace hard after ⌝ }
-{
-    match after {
-        After::Start => { if hard { 56 } else { 44 } }
-        After::HardOnly => 32,
-        After::SoftOnly => 20,
-        After::Other => 8,
-    }
-}
-
-// How many bits further right a level's digit stands in its group.
-fn level_place(level: Level) -> u64
-    ensures { λ r. ⌜ r ≡ levelPlace level ⌝ }
-{
-    match level {
-        Level::Stressed => 0,
-        Level::First => 4,
-        Level::Second => 8,
-    }
-}
-
-// The sound of the vowel b, a small letter or a capital: a digit of its row.
-pub fn vowel_sound(b: u8, s: Syllable, after: After, hard: bool) -> u8
-    requires { ⌜ vowelByte b ≡ true ⌝ }
-    ensures { λ r. ⌜ Sounds hard after (s .level) (small b) r ⌝ }
-{
-    let level = s.level;
-    let place = group_place(after, hard) - level_place(level);
-    ((row_of(b) >> place) % 16) as u8
-}
-
-// What the vowel rows ask of the letter before, told by the class of the byte before: a break is class 2 or 3. Most vowels are after a paired consonant, so those
-// classes come first.
-pub fn after_class(k: usize) -> After
-    ensures { λ r. ⌜ r ≡ afterClass k ⌝ }
-{
-    if 6 < k {
-        if k == 9 {
-            return After::SoftOnly;
-        }
-        return After::Other;
-    }
-    if k == 6 {
-        return After::HardOnly;
-    }
-    if k / 2 == 1 {
-        return After::Start;
-    }
-    After::Other
-}
 
 // A syllable is covered where a consonant or a sign stands before its vowel.
 fn cover_class(k: usize) -> Cover

@@ -9,20 +9,20 @@ ghost use Rattle.spec.specs.Tape.{tape};
 ghost use Rattle.message.specs.Places.{Steady};
 ghost use Rattle.spec.specs.Answers.{Answered, afterCheck, tapeAnswer};
 ghost use Rattle.transcriber.specs.Sounds.{soundTable, gapTone};
-ghost use Rattle.transcriber.specs.Walk.{Stands, Put, Ready, Stepped, MayWalk, Walked};
+ghost use Rattle.transcriber.specs.Walk.{Stands, Put, sungCodes, Ready, Stepped, MayWalk, Walked};
 use crate::Right;
-use crate::sounds::after_class;
+use crate::Vowel;
+use crate::before::class_before;
+use crate::before::mark_before;
+use crate::classes;
+use crate::codes;
 use crate::sounds::consonant_code;
 use crate::sounds::far_level;
-use crate::sounds::has_glide;
 use crate::sounds::level_before;
-use crate::sounds::syllable_by;
 use crate::sounds::tone_before;
-use crate::sounds::vowel_sound;
 use crate::tables::sound_table;
-use crate::walk::class_before;
-use crate::walk::hard_before;
-use crate::walk::mark_before;
+use crate::vowels::first_code;
+use crate::vowels::vowel_at;
 use message::check::check;
 use message::check::class_of;
 use message::letters::is_elided;
@@ -31,6 +31,13 @@ use spec::Answer;
 use spec::Checked;
 use spec::Level;
 use spec::Refusal;
+
+// How an obstruent sounds: where the codes of that tone begin in the table.
+const AS_WRITTEN: usize = 0;
+
+const VOICED: usize = 32;
+
+const VOICELESS: usize = 64;
 
 // Puts a code right before place at.
 pub fn put(out: &mut [u8], at: usize, code: u8) -> usize
@@ -41,15 +48,15 @@ pub fn put(out: &mut [u8], at: usize, code: u8) -> usize
     at - 1
 }
 
-// How an obstruent at the end of a word sounds, where a gap and a word that begins with this sound follow: 32 is voiced, 64 voiceless.
+// How an obstruent at the end of a word sounds, where a gap and a word that begins with this sound follow.
 fn tone_at_gap(sound: usize, s: &[u8; 496]) -> usize
     requires { ⌜ now s ≡ soundTable ⌝ }
     ensures { λ r. ⌜ r ≡ gapTone (sound % 64) ⌝ }
 {
-    if tone_before(sound % 64, s) == 32 {
-        return 32;
+    if tone_before(sound % 64, s) == VOICED {
+        return VOICED;
     }
-    64
+    VOICELESS
 }
 
 // A break puts its mark, and left of it stands another word.
@@ -62,7 +69,7 @@ fn put_break(m: &[u8], i: usize, c: usize, r: Right, out: &mut [u8], s: &[u8; 49
         let at = put(out, r.at, 63);
         return Right {
             at,
-            tone: 64, // voiceless
+            tone: VOICELESS,
             sound: 0,
             near: far,
             far,
@@ -125,33 +132,32 @@ fn put_consonant(m: &[u8], i: usize, r: Right, out: &mut [u8], s: &[u8; 496]) ->
     }
 }
 
+// Puts the codes of a vowel.
+fn put_sung(out: &mut [u8], at: usize, v: Vowel) -> usize
+    requires { ⌜ (length (sungCodes v) ≤ at) × (at ≤ length (now out)) ⌝ }
+    ensures { λ r. ⌜ Put (sungCodes v) (now (out .entry)) (now (out .exit)) at r ⌝ }
+{
+    let place = put(out, at, v.sound);
+    if v.glide {
+        return put(out, place, codes::GLIDE);
+    }
+    place
+}
+
 // A vowel puts its sound, and a glide before it where it has one. c is its class.
 fn put_vowel(m: &[u8], i: usize, c: usize, r: Right, out: &mut [u8], t: &[u8; 256]) -> Right
     requires { ⌜ (now t ≡ classes) × (c ≡ classOf (getD (now m) i 0)) × (isVowelClass c ≡ true) × Ready (now m) (now out) i r ⌝ }
     ensures { λ q. ⌜ Stepped (now (m .entry)) (now (out .entry)) (now (out .exit)) i r q ⌝ }
 {
-    let k = class_before(m, i, t);
     let level = r.near;
     let far = r.far;
-    let syllable = syllable_by(k, level);
-    let hard = hard_before(m, i, k, t);
-    let vowel = vowel_sound(m[i], syllable, after_class(k), hard);
-    let at = put(out, r.at, vowel);
+    let vowel = vowel_at(m, i, c, level, t);
+    let at = put_sung(out, r.at, vowel);
+    let sound = seen_over(first_code(vowel) as usize, c != classes::VOWEL);
     let near = level_before(level, far);
-    if has_glide(c, syllable, k) {
-        let before = put(out, at, 28);
-        return Right {
-            at: before,
-            tone: 0, // as written
-            sound: 92, // the glide, of a vowel that palatalizes
-            near,
-            far,
-        };
-    }
-    let sound = seen_over(vowel as usize, c != 10);
     Right {
         at,
-        tone: 0, // as written
+        tone: AS_WRITTEN,
         sound,
         near,
         far,
@@ -195,7 +201,7 @@ pub fn start(m: &[u8], end: usize) -> Right
     let far = far_level(mark_before(m, m.len()));
     Right {
         at: end,
-        tone: 64, // voiceless
+        tone: VOICELESS,
         sound: 0,
         near: far,
         far,

@@ -13,7 +13,7 @@ use Rattle.spec.specs.Refusals.{consonantByte, signByte}
 use Rattle.message.specs.Scan.{classOf, elidedAt}
 use Rattle.message.proofs.Bytes.{ByClass, by-class}
 use Rattle.message.proofs.ScanTable.{class-spoken, before-spoken}
-use Rattle.transcriber.specs.Sounds.{classBefore}
+use Rattle.transcriber.specs.Sounds.{byteBefore, classBefore}
 use Rattle.transcriber.proofs.Walking.{spelt-sign, spelt-consonant, sign-softens, consonant-softens, codes-silent, codes-sign, between-true, right-sound, silent-steps, mark-steps}
 use Rattle.transcriber.proofs.tape.step.Statement.{statement}
 use Rattle.transcriber.proofs.tape.step.Tie as tie
@@ -28,7 +28,7 @@ above c z o = omega arith
 
 -- a byte after another class than 7 is heard
 after-others : (m : List ℕ) (i : ℕ) → ((j : ℕ) → getD m j 0 < 256) → (classBefore m i ≡ 7 → ⊥) → elidedAt m i ≡ false
-unfolding classBefore
+unfolding byteBefore
 after-others m i h n = before-spoken m i h (λ j e k. n (rw (e, k)))
 
 -- so is a byte that is not told to be elided

@@ -13,8 +13,8 @@ use Rattle.message.specs.Scan.{classOf}
 use Rattle.message.specs.Places.{markBefore}
 use Rattle.message.proofs.Bytes.{below-same}
 use Rattle.message.proofs.Computed.{everything}
-use Rattle.transcriber.proofs.walk.mark_before.Statement.{statement}
-use Rattle.transcriber.proofs.walk.mark_before.Tie as tie
+use Rattle.transcriber.proofs.before.mark_before.Statement.{statement}
+use Rattle.transcriber.proofs.before.mark_before.Tie as tie
 
 abbrev Inv-loop : tie.InvT-loop
 Inv-loop m i j₀ j = (j ≤ i) × (markBefore m j ≡ markBefore m i)
