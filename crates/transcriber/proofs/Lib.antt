@@ -1,6 +1,6 @@
 pub mod Answering
 pub mod Filling
-pub mod Levels
+pub mod Levelling
 pub mod Namings
 pub mod Putting
 pub mod Raw

@@ -30,7 +30,8 @@ use Rattle.laws.proofs.Classes.{among-same}
 use Rattle.message.proofs.Before.{vowel-before}
 use Rattle.message.proofs.Left.{left-letter, left-mark, left-break}
 use Rattle.message.proofs.Computed.{everything}
-use Rattle.transcriber.specs.Sounds.{byteBefore, classBefore, isHardOrPaired, Told, coverClass, levelBy, syllableBy, glideBy, hardBefore, hardCode, toneNo}
+use Rattle.transcriber.specs.Levels.{levelBy}
+use Rattle.transcriber.specs.Sounds.{byteBefore, classBefore, isHardOrPaired, Told, coverClass, syllableBy, glideBy, hardBefore, hardCode, toneNo}
 
 -- two functions that agree on the bytes that pass a test agree at each of them
 pub where-same : {A : Type 0} (t : ℕ → Bool) (f g : ℕ → A) (d : A) (b : ℕ) → map (λ x. cond (t x) (f x) d) (below 256) ≡ map (λ x. cond (t x) (g x) d) (below 256)
@@ -150,7 +151,7 @@ module _ (m : List ℕ) (steady : Steady m) where
 
   -- so whether a syllable after it is covered
   pub cover-raw : (i : ℕ) → i ≤ length m → coverAfter (leftAt m i .p) ≡ coverClass (classBefore m i)
-  unfolding coverAfter coverClass
+  unfolding coverAfter
   cover-raw i h = rw (letters-raw i h)
 
   -- whether it is a sign
@@ -212,13 +213,13 @@ module _ (m : List ℕ) (steady : Steady m) where
   pub syllable-raw : (i : ℕ) → i < length m
       → syllableOf (factsAt m i) (leftAt m i .p) (letterOf m i) (wordAt m (suc i))
       ≡ syllableBy (classBefore m i) (levelBy (beginsWithMark (drop (suc i) m)) (nextStressed (wordAt m (suc i))) (markedAt m i))
-  unfolding syllableOf levelOf letterOf syllableBy levelBy
+  unfolding syllableOf levelOf letterOf levelBy
   syllable-raw i h = rw (cover-raw i (omega arith))
 
   -- whether the vowel there has a glide
   pub glide-raw : (i : ℕ) → i < length m → vowelByte (getD m i 0) ≡ true → (cover : Cover)
       → glides (leftAt m i .p) cover (small (getD m i 0)) ≡ glideBy (classOf (getD m i 0)) cover (classBefore m i)
-  unfolding glides glideBy
+  unfolding glides
   glide-raw i h v cover = let t = steady .bytes i in rw (sign-raw i (omega arith), iotated-class (getD m i 0) t, i-class (getD m i 0) t)
 
 -- are the codes of a table at most n?

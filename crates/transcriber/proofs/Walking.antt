@@ -15,12 +15,11 @@ use Rattle.spec.specs.Syllables.{syllableOf}
 use Rattle.spec.specs.Vowels.{vowelSound, softens}
 use Rattle.spec.specs.Voicing.{Tone, voiced, voiceless, asWritten}
 use Rattle.spec.specs.Refusals.{vowelByte, signByte, consonantByte}
-use Rattle.message.specs.Scan.{classOf, isVowelClass, elidedAt}
+use Rattle.message.specs.Scan.{classOf, isBreakClass, isSignClass, isConsonantClass, isVowelClass, elidedAt}
 use Rattle.message.specs.Fused.{toneBefore, vowelCodes, consonantCode, letterCodes}
 use Rattle.message.specs.Places.{Steady, leftAt, letterOf, markBefore, factsAt, tapeAt, wordAt, toneAt, soundAt, codesAt, toneAfter, soundAfter}
 use Rattle.spec.specs.declared.Cover.{Cover}
 use Rattle.spec.specs.declared.Level.{Level}
-use Rattle.spec.specs.declared.Level.the-variants.{Stressed}
 use Rattle.spec.specs.declared.Syllable.{Syllable}
 use Rattle.message.proofs.Bytes.{below, below-same, by-class, not-both}
 use Rattle.message.proofs.Computed.{everything}
@@ -28,12 +27,14 @@ use Rattle.message.proofs.Left.{mark-within}
 use Rattle.message.proofs.ScanTable.{class-spoken}
 use Rattle.message.proofs.Silent.{elided-at}
 use Rattle.message.proofs.Tail.{tape-letter, tape-mark, tape-break, word-letter, word-mark, word-break, tone-letter, sound-letter, tone-mark, sound-mark, tone-break, sound-break}
-use Rattle.transcriber.specs.Sounds.{byteBefore, classBefore, AtBoundary, rowOf, farLevel, syllableBy, glideBy, hardBefore, toneNo, toneBy, gapTone}
-use Rattle.transcriber.specs.Walk.{Levels, VowelAt, syllableAt, Sung, sungCodes, Put, pieceAt, Ready, Stepped}
+use Rattle.transcriber.specs.Sounds.{byteBefore, classBefore, AtBoundary, rowOf, syllableBy, glideBy, hardBefore, toneNo, toneBy, gapTone}
+use Rattle.transcriber.specs.Walk.{VowelAt, syllableAt, Sung, sungCodes, Put, pieceAt, Ready, ReadyFor, Stepped}
+use Rattle.transcriber.specs.declared.levels.Levels.{Levels}
+use Rattle.transcriber.specs.Levels.{wordEnd, overMark, LevelsAt}
 use Rattle.transcriber.specs.declared.Right.{Right}
 use Rattle.transcriber.specs.declared.Vowel.{Vowel}
 use Rattle.transcriber.proofs.Putting.{put-none}
-use Rattle.transcriber.proofs.Levels.{levels-syllable, levels-letter, levels-mark, levels-break}
+use Rattle.transcriber.proofs.Levelling.{levels-syllable, levels-letter, levels-mark, levels-break}
 use Rattle.transcriber.proofs.Raw.{where-same, told-at, hard-raw, glide-raw, vowel-tone, vowel-small, sound-small}
 
 -- a tone is told by its number
@@ -185,14 +186,14 @@ module _ (m out : List ℕ) (i : ℕ) (r : Right) (a : Ready m out i r) where
   right-sound = rw (a .stands .sound) (sound-split (soundAt m (suc i)) (softens (firstByte (wordAt m (suc i)))) (sound-small m (suc i)))
 
   -- a letter that is no vowel leaves the levels as they are
-  pub plain-levels : {s : Bool} → Spelt (getD m i 0) s false → Levels m i (r .near) (r .far)
+  pub plain-levels : {s : Bool} → Spelt (getD m i 0) s false → LevelsAt m i (r .levels)
   plain-levels p = levels-letter m (a .steady) i (a .within) (p .break) (p .mark) (p .sings) (a .stands .levels)
 
   -- a letter has put its codes, and left of it stands the same word with these sounds and this letter first
-  pub letter-steps : {s v : Bool} {near : Level} (out′ codes : List ℕ) (at tone sound seen : ℕ) (soft : Bool) → Spelt (getD m i 0) s v → codesAt m i ≡ codes
+  pub letter-steps : {s v : Bool} {l : Levels} (out′ codes : List ℕ) (at tone sound seen : ℕ) (soft : Bool) → Spelt (getD m i 0) s v → codesAt m i ≡ codes
       → tone ≡ toneNo (toneAfter codes (toneAt m (suc i))) → sound ≡ soundAfter codes (soundAt m (suc i)) → soft ≡ softens (small (getD m i 0))
-      → seen ≡ sound + cond soft 64 0 → Levels m i near (r .far) → Put codes out out′ (r .at) at
-      → Stepped m out out′ i r (record { at = at; tone = tone; sound = seen; near = near; far = r .far })
+      → seen ≡ sound + cond soft 64 0 → LevelsAt m i l → Put codes out out′ (r .at) at
+      → Stepped m out out′ i r (record { at = at; tone = tone; sound = seen; levels = l })
   unfolding pieceAt firstByte letterOf
   letter-steps out′ codes at tone sound seen soft p e t c s n x q =
       let y = a .steady in
@@ -209,12 +210,12 @@ module _ (m out : List ℕ) (i : ℕ) (r : Right) (a : Ready m out i r) where
 
   -- a letter that is not heard puts nothing
   pub silent-steps : {s : Bool} {seen : ℕ} (soft : Bool) → Spelt (getD m i 0) s false → codesAt m i ≡ [] → soft ≡ softens (small (getD m i 0)) → seen ≡ r .sound % 64 + cond soft 64 0
-      → Stepped m out out i r (record { at = r .at; tone = r .tone; sound = seen; near = r .near; far = r .far })
+      → Stepped m out out i r (record { at = r .at; tone = r .tone; sound = seen; levels = r .levels })
   silent-steps soft p e s n = letter-steps out [] (r .at) (r .tone) (r .sound % 64) _ soft p e (a .stands .tone) (right-sound .1) s n (plain-levels p) (put-none out (r .at))
 
   -- nor does a mark, which is seen by the letter before it
   pub mark-steps : isMark (getD m i 0) ≡ true
-      → Stepped m out out i r (record { at = r .at; tone = r .tone; sound = r .sound; near = Stressed; far = r .far })
+      → Stepped m out out i r (record { at = r .at; tone = r .tone; sound = r .sound; levels = overMark (r .levels) })
   unfolding pieceAt
   mark-steps k =
       let y = a .steady in
@@ -231,11 +232,11 @@ module _ (m out : List ℕ) (i : ℕ) (r : Right) (a : Ready m out i r) where
       }
 
   -- a break has put its mark, and left of it stands another word
-  pub break-steps : (out′ : List ℕ) (at tone : ℕ) (far : Level) (pause : Bool) → isBreak (getD m i 0) ≡ true → eqb (classOf (getD m i 0)) 3 ≡ pause
-      → tone ≡ cond pause 64 (gapTone (r .sound % 64)) → far ≡ farLevel (markBefore m i) → Put (cond pause 63 0 ∷ []) out out′ (r .at) at
-      → Stepped m out out′ i r (record { at = at; tone = tone; sound = 0; near = far; far = far })
+  pub break-steps : (out′ : List ℕ) (at tone : ℕ) (l : Levels) (pause : Bool) → isBreak (getD m i 0) ≡ true → eqb (classOf (getD m i 0)) 3 ≡ pause
+      → tone ≡ cond pause 64 (gapTone (r .sound % 64)) → l ≡ wordEnd (markBefore m i) → Put (cond pause 63 0 ∷ []) out out′ (r .at) at
+      → Stepped m out out′ i r (record { at = at; tone = tone; sound = 0; levels = l })
   unfolding pieceAt
-  break-steps out′ at tone far pause b k t e q =
+  break-steps out′ at tone l pause b k t e q =
       let y = a .steady in
       let h = a .within in
       let w = word-break m y i h b in
@@ -254,6 +255,42 @@ module _ (m out : List ℕ) (i : ℕ) (r : Right) (a : Ready m out i r) where
   consonant-codes code k e c =
       codes-consonant m (a .steady) i (a .within) (spelt-consonant (getD m i 0) (a .steady .bytes i) k) e
       ∙ rw (c, right-sound .0, right-sound .1, a .stands .tone, tone-by (toneAt m (suc i)))
+
+-- a step may be taken at a byte whose class is within bounds
+pub ready-for : (lo hi : ℕ) {m out : List ℕ} {i c : ℕ} {r : Right} → Ready m out i r → c ≡ classOf (getD m i 0) → lo ≤ c → c ≤ hi → ReadyFor (between lo hi) m out i c r
+ready-for lo hi {c = c} a e l h = record { ready = a; class = e; kind = between-true lo hi c l h }
+
+-- the byte's own test, which its class tells
+tested : {test : ℕ → Bool} {m out : List ℕ} {i c : ℕ} {r : Right} → ReadyFor test m out i c r → test (classOf (getD m i 0)) ≡ true
+tested {test} a = ap test (sym (a .class)) ∙ a .kind
+
+-- a break
+pub ready-break : {m out : List ℕ} {i c : ℕ} {r : Right} → ReadyFor isBreakClass m out i c r → isBreak (getD m i 0) ≡ true
+ready-break {m} {i = i} a = by-class (getD m i 0) (a .ready .steady .bytes i) .break ∙ tested a
+
+-- a consonant
+pub ready-consonant : {m out : List ℕ} {i c : ℕ} {r : Right} → ReadyFor isConsonantClass m out i c r → consonantByte (getD m i 0) ≡ true
+ready-consonant {m} {i = i} a = by-class (getD m i 0) (a .ready .steady .bytes i) .consonant ∙ tested a
+
+-- a sign is not heard
+pub sign-steps : {m out : List ℕ} {i c seen : ℕ} {r : Right} → ReadyFor isSignClass m out i c r → seen ≡ r .sound % 64 + cond (eqb c 5) 64 0
+    → Stepped m out out i r (record { at = r .at; tone = r .tone; sound = seen; levels = r .levels })
+sign-steps {m} {out} {i} {c} {seen} {r} a n =
+    let b = getD m i 0 in
+    let t = a .ready .steady .bytes i in
+    let e : signByte b ≡ true = by-class b t .sign ∙ tested a in
+    let p = spelt-sign b t e in
+    silent-steps m out i r (a .ready) (eqb c 5) p (codes-sign m (a .ready .steady) i (a .ready .within) p) (rw (a .class) (sym (sign-softens b t e))) n
+
+-- nor is a silent consonant
+pub elided-steps : {m out : List ℕ} {i c seen : ℕ} {r : Right} → ReadyFor isConsonantClass m out i c r → elidedAt m i ≡ true → seen ≡ r .sound % 64 + 0
+    → Stepped m out out i r (record { at = r .at; tone = r .tone; sound = seen; levels = r .levels })
+elided-steps {m} {out} {i} {c} {seen} {r} a e n =
+    let b = getD m i 0 in
+    let t = a .ready .steady .bytes i in
+    let k = ready-consonant a in
+    let p = spelt-consonant b t k in
+    silent-steps m out i r (a .ready) false p (codes-silent m (a .ready .steady) i (a .ready .within) p e) (sym (consonant-softens b t k)) n
 
 -- the glide leaves an obstruent before it as written
 pub glide-tone : toneNo (toneBefore J) ≡ 0
@@ -278,8 +315,8 @@ module _ (m : List ℕ) (i : ℕ) (v : Vowel) (f : Sung m i v) where
       by false = (refl, rw (f .sound) (vowel-small (leftAt m i .hard) (leftAt m i .p) (syllableAt m i) (small (getD m i 0))))
 
 -- where a step may be taken
-pub vowel-ready : (m out : List ℕ) (i : ℕ) (r : Right) → Ready m out i r → (c : ℕ) → c ≡ classOf (getD m i 0) → isVowelClass c ≡ true → VowelAt m i c (r .near)
-vowel-ready m out i r a c e v = record { within = a .within; steady = a .steady; class = e; vowel = v; level = a .stands .levels .near }
+pub vowel-ready : {m out : List ℕ} {i c : ℕ} {r : Right} → ReadyFor isVowelClass m out i c r → VowelAt m i c (r .levels .near)
+vowel-ready a = record { within = a .ready .within; steady = a .ready .steady; class = a .class; vowel = a .kind; level = a .ready .stands .levels .near }
 
 -- what is found of a vowel by the byte before it, its class, and the level is what the passes make of it
 module _ (m : List ℕ) (i c : ℕ) (level : Level) (a : VowelAt m i c level) where

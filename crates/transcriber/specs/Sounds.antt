@@ -1,12 +1,13 @@
 -- How the code finds a letter's codes: by the class of the byte before it and one table. These are not the paper's words: `proofs/` shows that they agree with them.
 -- Assumes nothing: these are definitions.
-use Prim.Native.Nat.{ℕ, zero, suc, _+_, _-_, _*_, _/_, _%_, _^_}
+use Prim.Native.Nat.{ℕ, zero, suc, _+_, _-_, _*_, _/_, _%_, _<_}
 use mathlib.Core.Path.{_≡_}
-use mathlib.Core.Bool.{Bool, false, cond, _&&_, _||_, not}
+use mathlib.Core.Bool.{Bool, true, false, cond, _&&_, _||_}
 use mathlib.Core.List.{List, [], _∷_, _++_}
 use lib.Dec.{eqb, leb}
 use lib.ListN.{getD}
 use Rattle.spec.specs.Alphabet.{pause, «б», «в», «г», «д», «з», «к», «л», «м», «н», «п», «р», «с», «т», «ф», «х», «ь»}
+use Rattle.spec.specs.Refusals.{consonantByte}
 use Rattle.spec.specs.Tables.{_gives_, entry}
 use Rattle.spec.specs.Letters.{between, small, isBreak, isGap, isHardOnly, isPaired, isSoftOnly, isConsonant, isSign, isObstruent}
 use Rattle.spec.specs.Codes.{Б', В', Г', Х1', Д', Ж', З', К', Л', М', Н', П', Р', С', Т', Ф', Х', Ч, Ч1, Щ, А1, А2, Э2, isVoicing}
@@ -17,7 +18,6 @@ use Rattle.message.specs.Scan.{classOf, isBreakClass, isSignClass, tabulate}
 use Rattle.spec.specs.declared.Cover.{Cover}
 use Rattle.spec.specs.declared.Cover.the-variants.{Bare, Covered}
 use Rattle.spec.specs.declared.Level.{Level}
-use Rattle.spec.specs.declared.Level.the-variants.{Stressed, First, Second}
 use Rattle.spec.specs.declared.Syllable.{Syllable}
 
 -- the byte before place i; a pause at the start of the message
@@ -62,28 +62,16 @@ rowOf b hard q s = vowelSound hard q s b
 abbrev pub secondА : ℕ → ℕ
 secondА q = cond (initial q) А1 (cond (isSoftOnly q) Э2 А2)
 
-unfoldable pub coverClass : ℕ → Cover
+-- a syllable is covered after a consonant or a sign
+abbrev pub coverClass : ℕ → Cover
 coverClass k = cond (between 4 9 k) Covered Bare
 
--- the level of a vowel that is stressed or not, with the next vowel stressed or not, in a word that has a mark or not
-unfoldable pub levelBy : Bool → Bool → Bool → Level
-levelBy stressed ahead marked = cond stressed Stressed (cond (ahead || not marked) First Second)
-
--- the level of a vowel that has no mark near
-unfoldable pub farLevel : Bool → Level
-farLevel marked = cond marked Second First
-
--- the level of the vowel before one of this level
-unfoldable pub levelBefore : Level → Level → Level
-levelBefore Stressed far = First
-levelBefore First far = far
-levelBefore Second far = far
-
-unfoldable pub syllableBy : ℕ → Level → Syllable
+-- the syllable of a vowel of this level after a byte of class k
+abbrev pub syllableBy : ℕ → Level → Syllable
 syllableBy k level = record { cover = coverClass k; level = level }
 
 -- a vowel of class c has a glide after a byte of class k
-unfoldable pub glideBy : ℕ → Cover → ℕ → Bool
+abbrev pub glideBy : ℕ → Cover → ℕ → Bool
 glideBy c cover k = (eqb c 11 && (bare cover || isSignClass k)) || (eqb c 12 && isSignClass k)
 
 -- a hard boundary stands before place i: a gap there, and before it the end of a word, which the two bytes before tell
@@ -102,6 +90,12 @@ toneBy n = cond (eqb n 32) voiced (cond (eqb n 64) voiceless asWritten)
 -- the tone of a word's last obstruent before a gap and a word that begins with this sound, 0 for none
 unfoldable pub gapTone : ℕ → ℕ
 gapTone c = toneNo (cond (isVoicing c) voiced voiceless)
+
+-- what a consonant's code is read from: its byte, a tone's number, and a sound
+pub record Heard (b n s : ℕ) : Type 0 where
+  pub letter : consonantByte b ≡ true
+  pub tone : toneNo (toneBy n) ≡ n
+  pub sound : s < 128
 
 -- a consonant's hard code under a tone
 unfoldable pub hardCode : Tone → ℕ → ℕ

@@ -4,8 +4,8 @@ ghost use Prim.Native.Nat.{_≤_};
 ghost use lib.ListN.{length};
 ghost use Rattle.spec.specs.Letters.{small, isHardOnly};
 ghost use Rattle.message.specs.Scan.{classes};
-ghost use Rattle.message.specs.Places.{Steady, markBefore};
 ghost use Rattle.transcriber.specs.Sounds.{byteBefore, classBefore, hardBefore, isHardOrPaired};
+use crate::classes::ClassTable;
 use crate::letters;
 use message::check::class_of;
 use message::letters::small_letter;
@@ -22,7 +22,7 @@ pub fn byte_before(m: &[u8], i: usize) -> u8
 }
 
 // Its class.
-pub fn class_before(m: &[u8], i: usize, t: &[u8; 256]) -> usize
+pub fn class_before(m: &[u8], i: usize, t: &ClassTable) -> usize
     requires { ⌜ (now t ≡ classes) × (i ≤ length (now m)) ⌝ }
     ensures { λ r. ⌜ r ≡ classBefore (now (m .entry)) i ⌝ }
 {
@@ -70,19 +70,4 @@ pub fn hard_before(m: &[u8], i: usize, p: u8) -> bool
         return is_hard_only(byte_before(m, i - 2));
     }
     is_hard_or_paired(last)
-}
-
-// Has the word that ends at place i a stress mark? Looks back over its letters, which are the bytes from 0x80 on, to a mark or to the break before it.
-pub fn mark_before(m: &[u8], i: usize) -> bool
-    requires { ⌜ Steady (now m) × (i ≤ length (now m)) ⌝ }
-    ensures { λ r. ⌜ r ≡ markBefore (now (m .entry)) i ⌝ }
-{
-    let mut j = i;
-    while 0 < j {
-        j -= 1;
-        if m[j] < 0x80 {
-            return m[j] == letters::MARK;
-        }
-    }
-    false
 }

@@ -22,3 +22,6 @@ pub const VOWEL: usize = 10; // а о у ы э
 pub const IOTATED: usize = 11; // е ё ю я
 
 pub const LETTER_I: usize = 12; // и
+
+// The table that has the class of each byte.
+pub type ClassTable = [u8; 256];

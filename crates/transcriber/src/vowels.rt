@@ -6,20 +6,22 @@ ghost use Prim.Native.Nat.{_≤_};
 ghost use lib.ListN.{length};
 ghost use Rattle.spec.specs.Letters.{small, isBreak, isSoftOnly};
 ghost use Rattle.spec.specs.Refusals.{vowelByte};
-ghost use Rattle.spec.specs.Vowels.{byStress, rowА, rowО, rowЭ, rowЕ, rowЯ, rowИ};
+ghost use Rattle.spec.specs.Vowels.{bare, byStress, rowА, rowО, rowЭ, rowЕ, rowЯ, rowИ};
 ghost use Rattle.spec.specs.Codes.{J};
-ghost use Rattle.message.specs.Scan.{classes};
-ghost use Rattle.transcriber.specs.Sounds.{After, Anyway, AtBoundary, byteBefore, hardBefore, rowOf, secondА};
+ghost use Rattle.message.specs.Scan.{classes, isSignClass};
+ghost use Rattle.transcriber.specs.Sounds.{After, Anyway, AtBoundary, byteBefore, glideBy, hardBefore, rowOf, secondА};
 ghost use Rattle.transcriber.specs.Walk.{VowelAt, Sung};
 use crate::Vowel;
 use crate::before::byte_before;
 use crate::before::hard_before;
 use crate::before::is_hard_only;
+use crate::classes;
+use crate::classes::ClassTable;
 use crate::codes;
 use crate::letters;
-use crate::sounds::has_glide;
-use crate::sounds::syllable_by;
+use crate::syllables::syllable_by;
 use message::check::class_of;
+use spec::Cover;
 use spec::Level;
 use spec::Syllable;
 
@@ -194,8 +196,34 @@ pub fn vowel_sound(b: u8, s: Syllable, p: u8, m: &[u8], i: usize) -> u8
     }
 }
 
+fn is_sign_class(k: usize) -> bool
+    ensures { λ r. ⌜ r ≡ isSignClass k ⌝ }
+{
+    (classes::HARD_SIGN <= k) & (k <= classes::SOFT_SIGN)
+}
+
+fn is_bare(s: Syllable) -> bool
+    ensures { λ r. ⌜ r ≡ bare (s .cover) ⌝ }
+{
+    let cover = s.cover;
+    match cover {
+        Cover::Bare => true,
+        Cover::Covered => false,
+    }
+}
+
+// Has a vowel of class c a glide, after a byte of class k?
+fn has_glide(c: usize, s: Syllable, k: usize) -> bool
+    ensures { λ r. ⌜ r ≡ glideBy c (s .cover) k ⌝ }
+{
+    if c != classes::IOTATED {
+        return (c == classes::LETTER_I) & is_sign_class(k);
+    }
+    is_bare(s) | is_sign_class(k)
+}
+
 // The vowel at place i, of class c and this level.
-pub fn vowel_at(m: &[u8], i: usize, c: usize, level: Level, t: &[u8; 256]) -> Vowel
+pub fn vowel_at(m: &[u8], i: usize, c: usize, level: Level, t: &ClassTable) -> Vowel
     requires { ⌜ (now t ≡ classes) × VowelAt (now m) i c level ⌝ }
     ensures { λ v. ⌜ Sung (now (m .entry)) i v ⌝ }
 {

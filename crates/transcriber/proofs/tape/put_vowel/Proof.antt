@@ -9,30 +9,30 @@ use lib.ListN.{getD}
 use borrow.Author.Needs.{needs}
 use Rattle.message.specs.Places.{codesAt, toneAt, soundAt}
 use Rattle.transcriber.specs.Walk.{VowelAt, sungCodes}
-use Rattle.transcriber.proofs.Levels.{levels-vowel}
+use Rattle.transcriber.proofs.Levelling.{levels-vowel}
 use Rattle.transcriber.proofs.Walking.{Spelt, spelt-vowel, vowel-softens, vowel-ready, vowel-sings, sung-codes, sung-tone, sung-first, letter-room, letter-steps}
 use Rattle.transcriber.proofs.tape.put_vowel.Statement.{statement}
 use Rattle.transcriber.proofs.tape.put_vowel.Tie as tie
 
 -- the byte is a vowel
-vowel : (s : tie.Start) → VowelAt (s .args .m .now) (s .args .i) (s .args .c) (s .args .r .near)
-vowel s = vowel-ready _ _ _ _ (s .pre .3) _ (s .pre .1) (s .pre .2)
+vowel : (s : tie.Start) → VowelAt (s .args .m .now) (s .args .i) (s .args .c) (s .args .r .levels .near)
+vowel s = vowel-ready (s .pre .1)
 
 -- so it is no break, no mark and no sign
 spelt : (s : tie.Start) → Spelt (getD (s .args .m .now) (s .args .i) 0) false true
-spelt s = spelt-vowel (getD (s .args .m .now) (s .args .i) 0) (s .pre .3 .steady .bytes (s .args .i)) (vowel-sings _ _ _ _ (vowel s))
+spelt s = spelt-vowel (getD (s .args .m .now) (s .args .i) 0) (s .pre .1 .ready .steady .bytes (s .args .i)) (vowel-sings _ _ _ _ (vowel s))
 
 -- what was found of it is what it puts on the tape
-codes : (c : tie.After-vowel-at) → let s = c .before .before .before in codesAt (s .args .m .now) (s .args .i) ≡ sungCodes (c .vowel-at .result)
-codes c = sung-codes _ _ _ _ (vowel (c .before .before .before)) _ (c .vowel-at .ensures)
+codes : (c : tie.After-vowel-at) → let s = c .before .before .before .before in codesAt (s .args .m .now) (s .args .i) ≡ sungCodes (c .vowel-at .result)
+codes c = sung-codes _ _ _ _ (vowel (c .before .before .before .before)) _ (c .vowel-at .ensures)
 
 vowel-at-requires : tie.Need-vowel-at-requires
-vowel-at-requires c κs = let s = c .before .before in (s .pre .0, vowel s)
+vowel-at-requires c κs = let s = c .before .before .before in (s .pre .0, vowel s)
 
 put-sung-requires : tie.Need-put-sung-requires
 put-sung-requires c κs =
-    let s = c .before .before .before .before in
-    (letter-room _ _ _ _ (s .pre .3) _ (spelt s) (codes (c .before)), s .pre .3 .place)
+    let s = c .before .before .before .before .before in
+    (letter-room _ _ _ _ (s .pre .1 .ready) _ (spelt s) (codes (c .before)), s .pre .1 .ready .place)
 
 first-code-requires : tie.Need-first-code-requires
 first-code-requires c κs = search needs
@@ -45,8 +45,8 @@ seen-over-requires c κs =
     let v = c .before .before .before .before .before in
     omega (arith, c .first-code .ensures, sung-first _ _ _ (v .vowel-at .ensures) 0 .1)
 
-level-before-requires : tie.Need-level-before-requires
-level-before-requires c κs = search needs
+over-vowel-requires : tie.Need-over-vowel-requires
+over-vowel-requires c κs = search needs
 
 same-length : tie.Need-same-length
 same-length c = search needs
@@ -57,15 +57,15 @@ returns c =
     let f = w .before in
     let p = f .before .before .before in
     let v = p .before .before in
-    let s = v .before .before .before in
+    let s = v .before .before .before .before in
     let m = s .args .m .now in
     let i = s .args .i in
     let first = sung-first m i (v .vowel-at .result) (v .vowel-at .ensures) (soundAt m (suc i)) in
     let sings = vowel-sings _ _ _ _ (vowel s) in
-    letter-steps _ _ _ _ (s .pre .3) (p .put-sung .last .0) (sungCodes (v .vowel-at .result)) (p .put-sung .result) 0 (f .first-code .result) (w .seen-over .result) (not (eqb (s .args .c) 10)) (spelt s) (codes v)
+    letter-steps _ _ _ _ (s .pre .1 .ready) (p .put-sung .last .0) (sungCodes (v .vowel-at .result)) (p .put-sung .result) 0 (f .first-code .result) (w .seen-over .result) (not (eqb (s .args .c) 10)) (spelt s) (codes v)
     (sym (sung-tone m i (v .vowel-at .result) (v .vowel-at .ensures) (toneAt m (suc i)))) (f .first-code .ensures ∙ first .0)
-    (rw (s .pre .1) (sym (vowel-softens (getD m i 0) (s .pre .3 .steady .bytes i) sings))) (omega (arith, w .seen-over .ensures, f .first-code .ensures, first .1))
-    (rw (c .level-before .ensures) (levels-vowel m (s .pre .3 .steady) i (s .pre .3 .within) sings (s .pre .3 .stands .levels))) (p .put-sung .ensures)
+    (rw (s .pre .1 .class) (sym (vowel-softens (getD m i 0) (s .pre .1 .ready .steady .bytes i) sings))) (omega (arith, w .seen-over .ensures, f .first-code .ensures, first .1))
+    (rw (c .over-vowel .ensures) (levels-vowel m (s .pre .1 .ready .steady) i (s .pre .1 .ready .within) sings (s .pre .1 .ready .stands .levels))) (p .put-sung .ensures)
 
 pub put-vowel-spec : {M : Type 1} → statement M
 put-vowel-spec =
@@ -76,6 +76,6 @@ put-vowel-spec =
     first-code-requires
     cast-seen-over
     seen-over-requires
-    level-before-requires
+    over-vowel-requires
     same-length
     returns)
