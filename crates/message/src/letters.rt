@@ -78,7 +78,7 @@ fn elides(p: u8, b: u8, c: u8, d: u8) -> bool
     (b == DE) & elides_d(p, c, d)
 }
 
-// Does the letter stand after some silent letter? It does not in most words, and then nothing else is asked.
+// May a silent letter stand before this one? Before most it may not, and then nothing else is asked.
 fn follows_elided(c: u8) -> bool
     ensures { λ r. ⌜ r ≡ followsElided c ⌝ }
 {
@@ -95,7 +95,7 @@ fn fold_case(b: u8) -> u8
     b % CASE_STEP + FIRST_SMALL
 }
 
-// The same of bytes, small letters or capitals.
+// Is the letter of byte b silent between these bytes, small letters or capitals, 0 for none? The letter after it is asked for first.
 fn elides_byte(p: u8, b: u8, c: u8, d: u8) -> bool
     ensures { λ r. ⌜ r ≡ elidesAmong (small p) (small b) (small c) (small d) ⌝ }
 {
