@@ -293,7 +293,7 @@ pub glide-tone : toneNo (toneBefore J) ≡ 0
 unfolding everything toneNo
 glide-tone = refl
 
--- the codes of a vowel: their first leaves an obstruent before it as written, and is small
+-- the codes of a vowel: their first leaves an obstruent before it as written
 module _ (m : List ℕ) (i : ℕ) (v : Vowel) (f : Sung m i v) where
   pub sung-tone : (t : Tone) → toneNo (toneAfter (sungCodes v) t) ≡ 0
   unfolding toneNo
@@ -303,12 +303,13 @@ module _ (m : List ℕ) (i : ℕ) (v : Vowel) (f : Sung m i v) where
       by true = glide-tone
       by false = rw (f .sound, vowel-tone (leftAt m i .hard) (leftAt m i .p) (syllableAt m i) (small (getD m i 0)))
 
-  pub sung-first : (s : ℕ) → (cond (v .glide) J (v .sound) ≡ soundAfter (sungCodes v) s) × (cond (v .glide) J (v .sound) < 64)
-  sung-first s = by (v .glide)
-    where
-      by : (g : Bool) → (cond g J (v .sound) ≡ soundAfter (cond g (J ∷ v .sound ∷ []) (v .sound ∷ [])) s) × (cond g J (v .sound) < 64)
-      by true = (refl, omega arith)
-      by false = (refl, rw (f .sound) (vowel-small (leftAt m i .hard) (leftAt m i .p) (syllableAt m i) (small (getD m i 0))))
+-- and is the sound right of the letter before
+pub sung-first : (v : Vowel) (s : ℕ) → cond (v .glide) J (v .sound) ≡ soundAfter (sungCodes v) s
+sung-first v s = by (v .glide)
+  where
+    by : (g : Bool) → cond g J (v .sound) ≡ soundAfter (cond g (J ∷ v .sound ∷ []) (v .sound ∷ [])) s
+    by true = refl
+    by false = refl
 
 -- where a step may be taken
 pub vowel-ready : {m out : List ℕ} {i c : ℕ} {r : Right} → ReadyFor isVowelClass m out i c r → VowelAt m i c (r .levels .near)
