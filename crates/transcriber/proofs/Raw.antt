@@ -265,7 +265,7 @@ unfolding everything
 low-tone c h = below-same toneBefore (λ _. asWritten) 14 c refl h
 
 -- every code is below 64, so that it is a place of the table: a vowel's
-pub vowel-small : (hard : Bool) (p : ℕ) (s : Syllable) (b : ℕ) → vowelSound hard p s b < 64
+vowel-small : (hard : Bool) (p : ℕ) (s : Syllable) (b : ℕ) → vowelSound hard p s b < 64
 vowel-small hard p s b = omega (arith, vowel-low hard p s b)
 
 -- a consonant's hard one, which has another after it

@@ -34,7 +34,7 @@ use Rattle.transcriber.specs.declared.Right.{Right}
 use Rattle.transcriber.specs.declared.Vowel.{Vowel}
 use Rattle.transcriber.proofs.Putting.{put-none}
 use Rattle.transcriber.proofs.Levelling.{levels-syllable, levels-letter, levels-mark, levels-break}
-use Rattle.transcriber.proofs.Raw.{where-same, told-at, hard-raw, glide-raw, vowel-tone, vowel-small, sound-small}
+use Rattle.transcriber.proofs.Raw.{where-same, told-at, hard-raw, glide-raw, vowel-tone, sound-small}
 
 -- a tone is told by its number
 pub tone-by : (t : Tone) → toneBy (toneNo t) ≡ t
