@@ -5,6 +5,7 @@ ghost use Prim.Native.Nat.{_+_, _*_, _<_, _≤_, _%_};
 ghost use lib.Dec.{leb};
 ghost use lib.ListN.{length};
 ghost use Rattle.spec.specs.Refusals.{checkOf};
+ghost use Rattle.spec.specs.Answers.{CheckPromise};
 ghost use Rattle.message.specs.Classes.{classes, isLetterClass, classAt, silentAt};
 ghost use Rattle.message.specs.Steps.{nextKind, packed, tailNames, lettersAt, Sees, Begins, Reads, fourAt, silentFour, Weighs, FoursTo, Goes, Counted, Stands, Judged, finishOf, askUnit, stopUnit};
 use crate::Seen;
@@ -298,7 +299,7 @@ fn walk(m: &[u8], t: &[u8; BYTES], s: &[u32; PAIRS_SIZE]) -> Checked
 
 // The message check (paper 01, 'Turned-away messages'), for any bytes at all.
 pub fn check(m: &[u8]) -> Checked
-    ensures { λ r. ⌜ r ≡ checkOf (now (m .entry)) ⌝ }
+    ensures { λ r. ⌜ CheckPromise (now (m .entry)) r ⌝ }
 {
     let n = m.len();
     if n == 0 {

@@ -21,7 +21,7 @@ use Rattle.transcriber.specs.declared.NameState.{NameState}
 use Rattle.transcriber.specs.declared.levels.Levels.{Levels}
 use Rattle.transcriber.specs.Levels.{wordEnd, overMark, overVowel, LevelsAt}
 use Rattle.transcriber.specs.Sounds.{classBefore, syllableBy}
-use Rattle.transcriber.specs.Walk.{Put, namePiece, NameReady, VowelNamed, WordEnd, Named}
+use Rattle.transcriber.specs.Walk.{Put, namePiece, NameReady, Named}
 use Rattle.transcriber.proofs.Levelling.{levels-syllable, levels-vowel, levels-letter, levels-mark, levels-break, levels-end}
 use Rattle.transcriber.proofs.Putting.{put-none, put-over, put-length, put-rest, put-again, put-first}
 

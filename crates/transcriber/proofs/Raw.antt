@@ -10,9 +10,9 @@ use lib.ListN.{length, getD, drop}
 use borrow.Author.Tests.{eqb-true, leb-true, le-leb}
 use Rattle.spec.specs.Alphabet.{gap, pause, mark, «ь», «е», «ё», «и», «ю», «я»}
 use Rattle.spec.specs.Tables.{among, Entry, _gives_, entry}
-use Rattle.spec.specs.Letters.{Letter, between, small, plainVowels, softeningVowels, isBreak, isGap, isHardOnly, isPaired, isSoftOnly, isConsonant, isSign, isVowel, isMark, firstByte, beginsWithMark}
+use Rattle.spec.specs.Letters.{Letter, between, small, plainVowels, softeningVowels, isBreak, isGap, isHardOnly, isSoftOnly, isConsonant, isSign, isVowel, isMark, firstByte, beginsWithMark}
 use Rattle.spec.specs.Refusals.{vowelByte, signByte}
-use Rattle.message.specs.Classes.{classOf, isBreakClass, isSignClass, isLetterClass}
+use Rattle.message.specs.Classes.{classOf, isSignClass, isLetterClass}
 use Rattle.spec.specs.Codes.{J}
 use Rattle.spec.specs.Elision.{elides}
 use Rattle.spec.specs.Syllables.{Facts, coverAfter, incomplete, levelOf, syllableOf, nextStressed}
@@ -31,7 +31,7 @@ use Rattle.message.proofs.Before.{vowel-before}
 use Rattle.message.proofs.Left.{left-letter, left-mark, left-break}
 use Rattle.message.proofs.Computed.{everything}
 use Rattle.transcriber.specs.Levels.{levelBy}
-use Rattle.transcriber.specs.Sounds.{byteBefore, classBefore, isHardOrPaired, Told, coverClass, syllableBy, glideBy, hardBefore, hardCode, toneNo}
+use Rattle.transcriber.specs.Sounds.{byteBefore, classBefore, isHardOrPaired, Told, coverClass, syllableBy, glideBy, hardBefore, tonedCode, toneNo}
 
 -- two functions that agree on the bytes that pass a test agree at each of them
 pub where-same : {A : Type 0} (t : ℕ → Bool) (f g : ℕ → A) (d : A) (b : ℕ) → map (λ x. cond (t x) (f x) d) (below 256) ≡ map (λ x. cond (t x) (g x) d) (below 256)
@@ -265,12 +265,12 @@ unfolding everything
 low-tone c h = below-same toneBefore (λ _. asWritten) 14 c refl h
 
 -- every code is below 64, so that it is a place of the table: a vowel's
-pub vowel-small : (hard : Bool) (p : ℕ) (s : Syllable) (b : ℕ) → vowelSound hard p s b < 64
+vowel-small : (hard : Bool) (p : ℕ) (s : Syllable) (b : ℕ) → vowelSound hard p s b < 64
 vowel-small hard p s b = omega (arith, vowel-low hard p s b)
 
 -- a consonant's hard one, which has another after it
-hard-low : (tone : Tone) (b : ℕ) → hardCode tone b ≤ 56
-unfolding hardCode toned writtenCode voicedCode voicelessCode
+hard-low : (tone : Tone) (b : ℕ) → tonedCode tone b ≤ 56
+unfolding tonedCode toned writtenCode voicedCode voicelessCode
 hard-low tone b = leb-true _ _ (rw low-cond (rw (by tone, entry-low 56 _ b refl, cond-same)))
   where
     by : (t : Tone) → leb (toned t b (writtenCode b)) 56 ≡ true
@@ -280,10 +280,10 @@ hard-low tone b = leb-true _ _ (rw low-cond (rw (by tone, entry-low 56 _ b refl,
 
 -- so any
 pub consonant-small : (b : ℕ) (soft : Bool) (tone : Tone) (c : ℕ) → consonantCode b soft tone c < 64
-unfolding consonantCode hardCode
-consonant-small b soft tone c = by (isSoft (record { letter = b; softened = soft; code = hardCode tone b }) c) (hard-low tone b)
+unfolding consonantCode tonedCode
+consonant-small b soft tone c = by (isSoft (record { letter = b; softened = soft; code = tonedCode tone b }) c) (hard-low tone b)
   where
-    by : (t : Bool) → hardCode tone b ≤ 56 → cond t (suc (hardCode tone b)) (hardCode tone b) < 64
+    by : (t : Bool) → tonedCode tone b ≤ 56 → cond t (suc (tonedCode tone b)) (tonedCode tone b) < 64
     by true h = omega arith
     by false h = omega arith
 

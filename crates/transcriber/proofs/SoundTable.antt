@@ -15,11 +15,11 @@ use Rattle.spec.specs.Palatalization.{isSoft}
 use Rattle.message.specs.Fused.{toneBefore, consonantCode}
 use Rattle.message.proofs.Bytes.{below-same, pairs-same}
 use Rattle.message.proofs.Computed.{everything}
-use Rattle.transcriber.specs.Sounds.{toneNo, toneBy, hardCode, letterGroup, soundGroup, groupOf, softIn, softNo, soundTable}
+use Rattle.transcriber.specs.Sounds.{toneNo, toneBy, tonedCode, letterGroup, soundGroup, groupOf, softIn, softNo, soundTable}
 
 -- every entry is a byte
 table-bytes : (i : ℕ) → i < 496 → leb (getD soundTable i 0) 255 ≡ true
-unfolding everything soundTable hardCode letterGroup soundGroup groupOf softIn softNo toneNo
+unfolding everything soundTable tonedCode letterGroup soundGroup groupOf softIn softNo toneNo
 table-bytes i h = below-same (λ x. leb (getD soundTable x 0) 255) (λ _. true) 496 i refl h
 
 -- so it is below 256
@@ -27,30 +27,30 @@ pub table-small : (t : List ℕ) (i : ℕ) → t ≡ soundTable → i < 496 → 
 table-small t i e h = rw e (omega (arith, leb-true (getD soundTable i 0) 255 (table-bytes i h)))
 
 -- the first three rows are the hard codes under the tones
-code-row : (t : Tone) (j : ℕ) → j < 32 → getD soundTable (toneNo t + j) 0 ≡ hardCode t (224 + j)
-unfolding everything soundTable hardCode letterGroup soundGroup groupOf softIn softNo toneNo
-code-row asWritten j h = below-same (λ x. getD soundTable (0 + x) 0) (λ x. hardCode asWritten (224 + x)) 32 j refl h
-code-row voiced j h = below-same (λ x. getD soundTable (32 + x) 0) (λ x. hardCode voiced (224 + x)) 32 j refl h
-code-row voiceless j h = below-same (λ x. getD soundTable (64 + x) 0) (λ x. hardCode voiceless (224 + x)) 32 j refl h
+code-row : (t : Tone) (j : ℕ) → j < 32 → getD soundTable (toneNo t + j) 0 ≡ tonedCode t (224 + j)
+unfolding everything soundTable tonedCode letterGroup soundGroup groupOf softIn softNo toneNo
+code-row asWritten j h = below-same (λ x. getD soundTable (0 + x) 0) (λ x. tonedCode asWritten (224 + x)) 32 j refl h
+code-row voiced j h = below-same (λ x. getD soundTable (32 + x) 0) (λ x. tonedCode voiced (224 + x)) 32 j refl h
+code-row voiceless j h = below-same (λ x. getD soundTable (64 + x) 0) (λ x. tonedCode voiceless (224 + x)) 32 j refl h
 
 -- the fourth is the letters' groups
 own-row : (j : ℕ) → j < 32 → getD soundTable (96 + j) 0 ≡ letterGroup (224 + j)
-unfolding everything soundTable hardCode letterGroup soundGroup groupOf softIn softNo toneNo
+unfolding everything soundTable tonedCode letterGroup soundGroup groupOf softIn softNo toneNo
 own-row j h = below-same (λ x. getD soundTable (96 + x) 0) (λ x. letterGroup (224 + x)) 32 j refl h
 
 -- then the codes' tones
 tone-row : (c : ℕ) → c < 64 → getD soundTable (128 + c) 0 ≡ toneNo (toneBefore c)
-unfolding everything soundTable hardCode letterGroup soundGroup groupOf softIn softNo toneNo
+unfolding everything soundTable tonedCode letterGroup soundGroup groupOf softIn softNo toneNo
 tone-row c h = below-same (λ x. getD soundTable (128 + x) 0) (λ x. toneNo (toneBefore x)) 64 c refl h
 
 -- the sounds' groups
 group-row : (s : ℕ) → s < 128 → getD soundTable (192 + s) 0 ≡ 16 * groupOf s
-unfolding everything soundTable hardCode letterGroup soundGroup groupOf softIn softNo toneNo
+unfolding everything soundTable tonedCode letterGroup soundGroup groupOf softIn softNo toneNo
 group-row s h = below-same (λ x. getD soundTable (192 + x) 0) (λ x. 16 * groupOf x) 128 s refl h
 
 -- and which groups palatalize which
 soft-row : (g o : ℕ) → g < 11 → o < 16 → getD soundTable (320 + (16 * g + o)) 0 ≡ softNo g o
-unfolding everything soundTable hardCode letterGroup soundGroup groupOf softIn softNo toneNo
+unfolding everything soundTable tonedCode letterGroup soundGroup groupOf softIn softNo toneNo
 soft-row g o h l = pairs-same (λ x y. getD soundTable (320 + (16 * x + y)) 0) softNo 11 16 g o refl h l
 
 -- a letter's group is small
@@ -86,8 +86,8 @@ soft-groups false k j c h l = pairs-same (λ x y. isSoft (record { letter = 224 
 -- the code of a consonant byte by its last five bits and the groups
 code-told : (b : ℕ) (soft : Bool) (tone : Tone) (c : ℕ) → b < 256 → consonantByte b ≡ true → c < 64
     → consonantCode (small b) soft tone c
-    ≡ cond (softIn (letterGroup (224 + b % 32)) soft (soundGroup c)) (suc (hardCode tone (224 + b % 32))) (hardCode tone (224 + b % 32))
-unfolding consonantCode hardCode
+    ≡ cond (softIn (letterGroup (224 + b % 32)) soft (soundGroup c)) (suc (tonedCode tone (224 + b % 32))) (tonedCode tone (224 + b % 32))
+unfolding consonantCode tonedCode
 code-told b soft tone c h e l = rw (← consonant-letter b h e, soft-groups soft _ (b % 32) c (omega arith) l)
 
 -- a sound with 64 added is before what its letter palatalizes
@@ -112,13 +112,13 @@ code-read t b n s e h k q l =
     let j : b % 32 < 32 = omega arith in
     let o = own-low (b % 32) j in
     let g = group-low s l in
-    let c : getD soundTable (n + b % 32) 0 ≡ hardCode (toneBy n) (224 + b % 32) = rw q at (code-row (toneBy n) (b % 32) j) in
+    let c : getD soundTable (n + b % 32) 0 ≡ tonedCode (toneBy n) (224 + b % 32) = rw q at (code-row (toneBy n) (b % 32) j) in
     let w : letterGroup (224 + b % 32) < 16 = omega (arith, leb-true (letterGroup (224 + b % 32)) 15 o) in
     let z : groupOf s < 11 = omega (arith, leb-true (groupOf s) 10 g) in
     rw e (record {
       own = rw (own-row (b % 32) j) w;
       group = rw (group-row s l) (omega (arith, z));
       code = code-told b (leb 64 s) (toneBy n) (s % 64) h k (omega arith)
-          ∙ one-more (softIn (letterGroup (224 + b % 32)) (leb 64 s) (soundGroup (s % 64))) (hardCode (toneBy n) (224 + b % 32))
+          ∙ one-more (softIn (letterGroup (224 + b % 32)) (leb 64 s) (soundGroup (s % 64))) (tonedCode (toneBy n) (224 + b % 32))
           ∙ rw (c, own-row (b % 32) j, group-row s l, soft-row (groupOf s) (letterGroup (224 + b % 32)) z w, soft-told s (letterGroup (224 + b % 32)) l w);
     })

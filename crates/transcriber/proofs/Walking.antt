@@ -3,31 +3,30 @@
 use Prim.Native.Nat.{ℕ, suc, _+_, _%_, _<_, _≤_}
 use native.Mathlib.Omega.{arith}
 use mathlib.Core.Path.{_≡_, refl, sym, ap, _∙_}
-use mathlib.Core.Bool.{Bool, true, false, cond, _&&_, not, true≢false, false≢true}
+use mathlib.Core.Bool.{Bool, true, false, cond, _&&_, not, true≢false}
 use mathlib.Core.List.{List, [], _∷_, _++_, map}
 use lib.Dec.{eqb, leb}
 use lib.ListN.{length, getD}
-use borrow.Author.Tests.{eqb-true, le-leb, lt-leb}
+use borrow.Author.Tests.{le-leb, lt-leb}
 use Rattle.spec.specs.Letters.{between, small, firstByte, isBreak, isGap, isMark}
 use Rattle.spec.specs.Codes.{J, markOf, isVoicing, isDevoicing}
 use Rattle.spec.specs.Elision.{elides}
 use Rattle.spec.specs.Syllables.{syllableOf}
-use Rattle.spec.specs.Vowels.{vowelSound, softens}
+use Rattle.spec.specs.Vowels.{softens}
 use Rattle.spec.specs.Voicing.{Tone, voiced, voiceless, asWritten}
 use Rattle.spec.specs.Refusals.{vowelByte, signByte, consonantByte}
 use Rattle.message.specs.Classes.{classOf, isBreakClass, isSignClass, isConsonantClass, isVowelClass, elidedAt}
 use Rattle.message.specs.Fused.{toneBefore, vowelCodes, consonantCode, letterCodes}
 use Rattle.message.specs.Places.{Steady, leftAt, letterOf, markBefore, factsAt, tapeAt, wordAt, toneAt, soundAt, codesAt, toneAfter, soundAfter}
-use Rattle.spec.specs.declared.Cover.{Cover}
 use Rattle.spec.specs.declared.Level.{Level}
 use Rattle.spec.specs.declared.Syllable.{Syllable}
-use Rattle.message.proofs.Bytes.{below, below-same, by-class, not-both}
+use Rattle.message.proofs.Bytes.{below, by-class, not-both}
 use Rattle.message.proofs.Computed.{everything}
 use Rattle.message.proofs.Left.{mark-within}
 use Rattle.message.proofs.StepTable.{class-spoken}
 use Rattle.message.proofs.Silent.{elided-at}
 use Rattle.message.proofs.Tail.{tape-letter, tape-mark, tape-break, word-letter, word-mark, word-break, tone-letter, sound-letter, tone-mark, sound-mark, tone-break, sound-break}
-use Rattle.transcriber.specs.Sounds.{byteBefore, classBefore, AtBoundary, rowOf, syllableBy, glideBy, hardBefore, toneNo, toneBy, gapTone}
+use Rattle.transcriber.specs.Sounds.{byteBefore, AtBoundary, rowOf, syllableBy, glideBy, hardBefore, toneNo, toneBy, gapTone}
 use Rattle.transcriber.specs.Walk.{VowelAt, syllableAt, Sung, sungCodes, Put, pieceAt, Ready, ReadyFor, Stepped}
 use Rattle.transcriber.specs.declared.levels.Levels.{Levels}
 use Rattle.transcriber.specs.Levels.{wordEnd, overMark, LevelsAt}
@@ -35,7 +34,7 @@ use Rattle.transcriber.specs.declared.Right.{Right}
 use Rattle.transcriber.specs.declared.Vowel.{Vowel}
 use Rattle.transcriber.proofs.Putting.{put-none}
 use Rattle.transcriber.proofs.Levelling.{levels-syllable, levels-letter, levels-mark, levels-break}
-use Rattle.transcriber.proofs.Raw.{where-same, told-at, hard-raw, glide-raw, vowel-tone, vowel-small, sound-small}
+use Rattle.transcriber.proofs.Raw.{where-same, told-at, hard-raw, glide-raw, vowel-tone, sound-small}
 
 -- a tone is told by its number
 pub tone-by : (t : Tone) → toneBy (toneNo t) ≡ t
@@ -110,28 +109,25 @@ pub record Spelt (b : ℕ) (sign vowel : Bool) : Type 0 where
   pub sounds : signByte b ≡ sign
   pub sings : vowelByte b ≡ vowel
 
--- of a sign
+-- of every byte that passes a test, by one computation
+spelt-by : (test : ℕ → Bool) (s v : Bool) (b : ℕ)
+    → map (λ x. cond (test x) (isBreak x ∷ isMark x ∷ signByte x ∷ vowelByte x ∷ []) []) (below 256) ≡ map (λ x. cond (test x) (false ∷ false ∷ s ∷ v ∷ []) []) (below 256)
+    → b < 256 → test b ≡ true → Spelt b s v
+spelt-by test s v b t h k =
+    let e = where-same test (λ x. isBreak x ∷ isMark x ∷ signByte x ∷ vowelByte x ∷ []) (λ _. false ∷ false ∷ s ∷ v ∷ []) [] b t h k in
+    record { break = cc; mark = cc; sounds = cc; sings = cc }
+
 pub spelt-sign : (b : ℕ) → b < 256 → signByte b ≡ true → Spelt b true false
 unfolding everything
-spelt-sign b h e =
-    record { break = not-both signByte isBreak b refl h e; mark = not-both signByte isMark b refl h e; sounds = e; sings = not-both signByte vowelByte b refl h e }
+spelt-sign b = spelt-by signByte true false b refl
 
--- of a consonant
 pub spelt-consonant : (b : ℕ) → b < 256 → consonantByte b ≡ true → Spelt b false false
 unfolding everything
-spelt-consonant b h e =
-    record {
-      break = not-both consonantByte isBreak b refl h e;
-      mark = not-both consonantByte isMark b refl h e;
-      sounds = not-both consonantByte signByte b refl h e;
-      sings = not-both consonantByte vowelByte b refl h e;
-    }
+spelt-consonant b = spelt-by consonantByte false false b refl
 
--- of a vowel
 pub spelt-vowel : (b : ℕ) → b < 256 → vowelByte b ≡ true → Spelt b false true
 unfolding everything
-spelt-vowel b h e =
-    record { break = not-both vowelByte isBreak b refl h e; mark = not-both vowelByte isMark b refl h e; sounds = not-both vowelByte signByte b refl h e; sings = e }
+spelt-vowel b = spelt-by vowelByte false true b refl
 
 module _ (m : List ℕ) (steady : Steady m) (i : ℕ) (h : i < length m) where
   -- each byte's piece stands before the rest's tape
@@ -297,7 +293,7 @@ pub glide-tone : toneNo (toneBefore J) ≡ 0
 unfolding everything toneNo
 glide-tone = refl
 
--- the codes of a vowel: their first leaves an obstruent before it as written, and is small
+-- the codes of a vowel: their first leaves an obstruent before it as written
 module _ (m : List ℕ) (i : ℕ) (v : Vowel) (f : Sung m i v) where
   pub sung-tone : (t : Tone) → toneNo (toneAfter (sungCodes v) t) ≡ 0
   unfolding toneNo
@@ -307,12 +303,13 @@ module _ (m : List ℕ) (i : ℕ) (v : Vowel) (f : Sung m i v) where
       by true = glide-tone
       by false = rw (f .sound, vowel-tone (leftAt m i .hard) (leftAt m i .p) (syllableAt m i) (small (getD m i 0)))
 
-  pub sung-first : (s : ℕ) → (cond (v .glide) J (v .sound) ≡ soundAfter (sungCodes v) s) × (cond (v .glide) J (v .sound) < 64)
-  sung-first s = by (v .glide)
-    where
-      by : (g : Bool) → (cond g J (v .sound) ≡ soundAfter (cond g (J ∷ v .sound ∷ []) (v .sound ∷ [])) s) × (cond g J (v .sound) < 64)
-      by true = (refl, omega arith)
-      by false = (refl, rw (f .sound) (vowel-small (leftAt m i .hard) (leftAt m i .p) (syllableAt m i) (small (getD m i 0))))
+-- and is the sound right of the letter before
+pub sung-first : (v : Vowel) (s : ℕ) → cond (v .glide) J (v .sound) ≡ soundAfter (sungCodes v) s
+sung-first v s = by (v .glide)
+  where
+    by : (g : Bool) → cond g J (v .sound) ≡ soundAfter (cond g (J ∷ v .sound ∷ []) (v .sound ∷ [])) s
+    by true = refl
+    by false = refl
 
 -- where a step may be taken
 pub vowel-ready : {m out : List ℕ} {i c : ℕ} {r : Right} → ReadyFor isVowelClass m out i c r → VowelAt m i c (r .levels .near)

@@ -1,11 +1,11 @@
 -- How the code finds a letter's codes: by the class of the byte before it and one table. These are not the paper's words: `proofs/` shows that they agree with them.
 -- Assumes nothing: these are definitions.
-use Prim.Native.Nat.{ℕ, zero, suc, _+_, _-_, _*_, _/_, _%_, _<_}
+use Prim.Native.Nat.{ℕ, zero, suc, _+_, _-_, _*_, _/_, _%_, _<_, _≤_}
 use mathlib.Core.Path.{_≡_}
 use mathlib.Core.Bool.{Bool, true, false, cond, _&&_, _||_}
 use mathlib.Core.List.{List, [], _∷_, _++_}
 use lib.Dec.{eqb, leb}
-use lib.ListN.{getD}
+use lib.ListN.{length, getD}
 use Rattle.spec.specs.Alphabet.{pause, «б», «в», «г», «д», «з», «к», «л», «м», «н», «п», «р», «с», «т», «ф», «х», «ь»}
 use Rattle.spec.specs.Refusals.{consonantByte}
 use Rattle.spec.specs.Tables.{_gives_, entry}
@@ -14,7 +14,7 @@ use Rattle.spec.specs.Codes.{Б', В', Г', Х1', Д', Ж', З', К', Л', М',
 use Rattle.spec.specs.Vowels.{initial, hardEnd, vowelSound, bare, writtenCode}
 use Rattle.message.specs.Fused.{toneBefore}
 use Rattle.spec.specs.Voicing.{Tone, voiced, voiceless, asWritten, toned}
-use Rattle.message.specs.Classes.{classOf, isBreakClass, isSignClass, tabulate}
+use Rattle.message.specs.Classes.{classOf, isSignClass, tabulate}
 use Rattle.spec.specs.declared.Cover.{Cover}
 use Rattle.spec.specs.declared.Cover.the-variants.{Bare, Covered}
 use Rattle.spec.specs.declared.Level.{Level}
@@ -24,6 +24,11 @@ use Rattle.spec.specs.declared.Syllable.{Syllable}
 unfoldable pub byteBefore : List ℕ → ℕ → ℕ
 byteBefore m zero = pause
 byteBefore m (suc i) = getD m i 0
+
+-- it is p
+pub record ByteBefore (m : List ℕ) (i p : ℕ) : Type 0 where
+  pub within : i ≤ length m
+  pub byte : p ≡ byteBefore m i
 
 -- its class
 abbrev pub classBefore : List ℕ → ℕ → ℕ
@@ -97,9 +102,9 @@ pub record Heard (b n s : ℕ) : Type 0 where
   pub tone : toneNo (toneBy n) ≡ n
   pub sound : s < 128
 
--- a consonant's hard code under a tone
-unfoldable pub hardCode : Tone → ℕ → ℕ
-hardCode tone b = cond (isObstruent b) (toned tone b (writtenCode b)) (writtenCode b)
+-- a consonant's code under a tone, not palatalized
+unfoldable pub tonedCode : Tone → ℕ → ℕ
+tonedCode tone b = cond (isObstruent b) (toned tone b (writtenCode b)) (writtenCode b)
 
 -- Which letters are palatalized before which sounds, by groups: a letter before a sound of its own group, н before those of the dentals too. 0 is no group.
 unfoldable pub letterGroup : ℕ → ℕ
@@ -126,12 +131,12 @@ groupOf s = cond (leb 64 s) 10 (soundGroup s)
 unfoldable pub softNo : ℕ → ℕ → ℕ
 softNo group own = cond (softIn own (eqb group 10) group) 1 0
 
--- the table: hard codes under the three tones for the letters а to я, their groups, for each code its tone, for each sound 16 times its group, then for each group of sounds which groups of letters it palatalizes
+-- the table: codes under the three tones, not palatalized, for the letters а to я, their groups, for each code its tone, for each sound 16 times its group, then for each group of sounds which groups of letters it palatalizes
 unfoldable pub soundTable : List ℕ
 soundTable =
-    tabulate (λ j. hardCode asWritten (224 + j)) 0 32
-    ++ (tabulate (λ j. hardCode voiced (224 + j)) 0 32
-    ++ (tabulate (λ j. hardCode voiceless (224 + j)) 0 32
+    tabulate (λ j. tonedCode asWritten (224 + j)) 0 32
+    ++ (tabulate (λ j. tonedCode voiced (224 + j)) 0 32
+    ++ (tabulate (λ j. tonedCode voiceless (224 + j)) 0 32
     ++ (tabulate (λ j. letterGroup (224 + j)) 0 32
     ++ (tabulate (λ c. toneNo (toneBefore c)) 0 64
     ++ (tabulate (λ s. 16 * groupOf s) 0 128 ++ tabulate (λ j. softNo (j / 16) (j % 16)) 0 176)))))

@@ -4,7 +4,7 @@ ghost use Prim.Native.Nat.{_≤_};
 ghost use lib.ListN.{length};
 ghost use Rattle.spec.specs.Letters.{small, isHardOnly};
 ghost use Rattle.message.specs.Classes.{classes};
-ghost use Rattle.transcriber.specs.Sounds.{byteBefore, classBefore, hardBefore, isHardOrPaired};
+ghost use Rattle.transcriber.specs.Sounds.{ByteBefore, byteBefore, classBefore, hardBefore, isHardOrPaired};
 use crate::classes::ClassTable;
 use crate::letters;
 use message::classify::class_of;
@@ -57,9 +57,9 @@ fn is_hard_or_paired(p: u8) -> bool
     }
 }
 
-// Does a hard boundary stand before place i: a gap there, p, and before it a word that ends in T or P, or in ь with T before it?
+// Does a hard boundary stand before place i? The byte before, p, is then a gap, and the one before that a hard or paired consonant, or ь after a hard one.
 pub fn hard_before(m: &[u8], i: usize, p: u8) -> bool
-    requires { ⌜ (i ≤ length (now m)) × (p ≡ byteBefore (now m) i) ⌝ }
+    requires { ⌜ ByteBefore (now m) i p ⌝ }
     ensures { λ r. ⌜ r ≡ hardBefore (now (m .entry)) i ⌝ }
 {
     if p != letters::GAP {

@@ -1,8 +1,6 @@
 // The classes of bytes, as the table of classes numbers them. The first letter's class is HARD_SIGN's, the first consonant's HARD_ONLY's, the first vowel's VOWEL's.
 pub const MARK: usize = 1;
 
-pub const GAP: usize = 2;
-
 pub const PAUSE: usize = 3;
 
 pub const HARD_SIGN: usize = 4;

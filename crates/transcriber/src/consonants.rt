@@ -50,13 +50,19 @@ pub fn tone_at_gap(sound: usize, s: &SoundTable) -> usize
     VOICELESS
 }
 
-// The sound right of a letter, seen from the letter's left.
-pub fn seen_over(sound: usize, soft: bool) -> usize
-    requires { ⌜ sound < 128 ⌝ }
-    ensures { λ r. ⌜ r ≡ sound % 64 + cond soft 64 0 ⌝ }
+// The sound of a code whose letter palatalizes or not.
+pub fn sound_of(code: u8, soft: bool) -> usize
+    ensures { λ r. ⌜ r ≡ code + cond soft 64 0 ⌝ }
 {
     if soft {
-        return sound % PALATALIZING + PALATALIZING;
+        return code as usize + PALATALIZING;
     }
-    sound % PALATALIZING
+    code as usize
+}
+
+// The sound right of a letter, seen from the letter's left.
+pub fn seen_over(sound: usize, soft: bool) -> usize
+    ensures { λ r. ⌜ r ≡ sound % 64 + cond soft 64 0 ⌝ }
+{
+    sound_of((sound % PALATALIZING) as u8, soft)
 }

@@ -19,6 +19,7 @@ use crate::consonants::AS_WRITTEN;
 use crate::consonants::VOICELESS;
 use crate::consonants::consonant_code;
 use crate::consonants::seen_over;
+use crate::consonants::sound_of;
 use crate::consonants::tone_at_gap;
 use crate::consonants::tone_before;
 use crate::levels::Levels;
@@ -140,7 +141,7 @@ fn put_vowel(m: &[u8], i: usize, c: usize, r: Right, out: &mut [u8], t: &ClassTa
     let level = l.near;
     let vowel = vowel_at(m, i, c, level, t);
     let at = put_sung(out, r.at, vowel);
-    let sound = seen_over(first_code(vowel) as usize, c != classes::VOWEL);
+    let sound = sound_of(first_code(vowel), c != classes::VOWEL);
     let levels = over_vowel(l);
     Right {
         at,

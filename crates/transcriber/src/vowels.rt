@@ -2,14 +2,12 @@
 // The letter before is told by the byte before, p: a break at the start of a word, a mark after a stressed vowel.
 ghost use mathlib.Core.Path.{_≡_};
 ghost use mathlib.Core.Bool.{true, cond};
-ghost use Prim.Native.Nat.{_≤_};
-ghost use lib.ListN.{length};
 ghost use Rattle.spec.specs.Letters.{small, isBreak, isSoftOnly};
 ghost use Rattle.spec.specs.Refusals.{vowelByte};
 ghost use Rattle.spec.specs.Vowels.{bare, byStress, rowА, rowО, rowЭ, rowЕ, rowЯ, rowИ};
 ghost use Rattle.spec.specs.Codes.{J};
 ghost use Rattle.message.specs.Classes.{classes, isSignClass};
-ghost use Rattle.transcriber.specs.Sounds.{After, Anyway, AtBoundary, byteBefore, glideBy, hardBefore, rowOf, secondА};
+ghost use Rattle.transcriber.specs.Sounds.{After, Anyway, AtBoundary, ByteBefore, glideBy, hardBefore, rowOf, secondА};
 ghost use Rattle.transcriber.specs.Walk.{VowelAt, Sung};
 use crate::Vowel;
 use crate::before::byte_before;
@@ -55,7 +53,7 @@ fn by_stress(s: Syllable, stressed: u8, other: u8) -> u8
     }
 }
 
-// Level 2 of а and о: initial А1, after Q Э2, else А2.
+// Rows а and о at level 2.
 fn second_a(p: u8) -> u8
     ensures { λ r. ⌜ After p secondА r ⌝ }
 {
@@ -68,7 +66,7 @@ fn second_a(p: u8) -> u8
     codes::A2
 }
 
-// а: S А*; level 1 after Q Э1, else А1; level 2 as о.
+// Row а: of the letters before it only ч щ й change it.
 fn row_a(s: Syllable, p: u8) -> u8
     ensures { λ r. ⌜ Anyway rowА p s r ⌝ }
 {
@@ -85,7 +83,7 @@ fn row_a(s: Syllable, p: u8) -> u8
     }
 }
 
-// о: S О*; level 1 А1; level 2 as а.
+// Row о, which sounds as а where it is not stressed, but for level 1 after ч щ й.
 fn row_o(s: Syllable, p: u8) -> u8
     ensures { λ r. ⌜ Anyway rowО p s r ⌝ }
 {
@@ -97,9 +95,9 @@ fn row_o(s: Syllable, p: u8) -> u8
     }
 }
 
-// э: S Э*; initial at a hard boundary Ы1; level 1 Э1; level 2 Э2.
+// Row э: the boundary is asked for only where the vowel is not stressed.
 fn row_e(s: Syllable, p: u8, m: &[u8], i: usize) -> u8
-    requires { ⌜ (i ≤ length (now m)) × (p ≡ byteBefore (now m) i) ⌝ }
+    requires { ⌜ ByteBefore (now m) i p ⌝ }
     ensures { λ r. ⌜ AtBoundary rowЭ (hardBefore (now (m .entry)) i) p s r ⌝ }
 {
     let level = s.level;
@@ -120,7 +118,7 @@ fn row_e(s: Syllable, p: u8, m: &[u8], i: usize) -> u8
     }
 }
 
-// е: S Э*; level 1 after T Ы1, else Э1; level 2 initial Э1, after T А2, else Э2.
+// Row е: of the letters before it only ж ш ц change it.
 fn row_ie(s: Syllable, p: u8) -> u8
     ensures { λ r. ⌜ Anyway rowЕ p s r ⌝ }
 {
@@ -145,7 +143,7 @@ fn row_ie(s: Syllable, p: u8) -> u8
     }
 }
 
-// я: S А*; level 1 Э1; level 2 initial Э1, else Э2.
+// Row я: it matters only whether it is initial.
 fn row_ya(s: Syllable, p: u8) -> u8
     ensures { λ r. ⌜ Anyway rowЯ p s r ⌝ }
 {
@@ -162,9 +160,9 @@ fn row_ya(s: Syllable, p: u8) -> u8
     }
 }
 
-// и: Ы* or Ы1 after T or initial at a hard boundary; else И* or И1.
+// Row и: ж ш ц before it, or a hard boundary, make it sound as ы.
 fn row_i(s: Syllable, p: u8, m: &[u8], i: usize) -> u8
-    requires { ⌜ (i ≤ length (now m)) × (p ≡ byteBefore (now m) i) ⌝ }
+    requires { ⌜ ByteBefore (now m) i p ⌝ }
     ensures { λ r. ⌜ AtBoundary rowИ (hardBefore (now (m .entry)) i) p s r ⌝ }
 {
     if is_hard_only(p) {
@@ -178,7 +176,7 @@ fn row_i(s: Syllable, p: u8, m: &[u8], i: usize) -> u8
 
 // The sound of the vowel b, small or capital, of syllable s at place i: an arm for each row.
 pub fn vowel_sound(b: u8, s: Syllable, p: u8, m: &[u8], i: usize) -> u8
-    requires { ⌜ (vowelByte b ≡ true) × (i ≤ length (now m)) × (p ≡ byteBefore (now m) i) ⌝ }
+    requires { ⌜ (vowelByte b ≡ true) × ByteBefore (now m) i p ⌝ }
     ensures { λ r. ⌜ AtBoundary (rowOf (small b)) (hardBefore (now (m .entry)) i) p s r ⌝ }
 {
     match b {

@@ -6,7 +6,6 @@ use Rattle.spec.specs.Refusals.{checkOf}
 use Rattle.spec.specs.Answers.{checkedNumber, checkedPlace, checkedCodes, checkedNames, CheckPromise, Carried}
 use Rattle.spec.specs.declared.Checked.the-variants.{Accepted, Refused}
 use Rattle.laws.proofs.Bounds.{SmallCheck, check-small}
-use Rattle.laws.proofs.Promises.{check-promised}
 use Rattle.capi.specs.Said.{Counted}
 use Rattle.capi.specs.declared.GovorunCounts.{GovorunCounts}
 use borrow.Author.Needs.{needs}
@@ -19,15 +18,15 @@ small c = check-small (c .before .before .args .m .now)
 
 -- what is said of the check's answer carries its promise on
 kept : (c : tie.After-check) {r : GovorunCounts} → Counted (c .check .result) r → Carried (CheckPromise (c .before .before .args .m .now)) Counted r
-kept c s = record { answer = c .check .result; promise = check-promised _ _ (c .check .ensures); said = s }
+kept c s = record { answer = c .check .result; promise = c .check .ensures; said = s }
 
 -- the message is accepted, with these counts
 accepted : (c : tie.After-counts) → checkOf (c .before .before .before .before .args .m .now) ≡ Accepted (c .counts .given .0 .0)
-accepted c = sym (c .before .before .check .ensures) ∙ c .counts .given .1
+accepted c = sym (c .before .before .check .ensures .answer) ∙ c .counts .given .1
 
 -- or refused
 refused : (c : tie.After-r) → checkOf (c .before .before .before .before .args .m .now) ≡ Refused (c .r .given .0 .0)
-refused c = sym (c .before .before .check .ensures) ∙ c .r .given .1
+refused c = sym (c .before .before .check .ensures .answer) ∙ c .r .given .1
 
 check-requires : tie.Need-check-requires
 check-requires c κs = search needs

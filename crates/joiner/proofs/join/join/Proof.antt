@@ -26,14 +26,14 @@ returns : tie.Need-returns
 unfolding afterCheck
 returns c =
     let e = c .before .enum-told .given .1 in
-    rw (c .refused .ensures, e) (join-refused _ _ _ (sym (c .before .before .before .check .ensures) ∙ e))
+    rw (c .refused .ensures, e) (join-refused _ _ _ (sym (c .before .before .before .check .ensures .answer) ∙ e))
 
 bad-cut-requires : tie.Need-bad-cut-requires
 bad-cut-requires c κs = search needs
 
 -- the check accepted
 accepted : (c : tie.After-bad-cut) → checkOf (c .before .before .before .before .before .before .before .before .args .m .now) ≡ Accepted (c .before .before .checked .given .0 .0)
-accepted c = let d = c .before .before in sym (d .before .before .check .ensures) ∙ d .checked .given .1
+accepted c = let d = c .before .before in sym (d .before .before .check .ensures .answer) ∙ d .checked .given .1
 
 returns-2 : tie.Need-returns-2
 returns-2 c =

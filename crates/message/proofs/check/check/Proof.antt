@@ -3,17 +3,20 @@
 use lib.ListN.{length}
 use borrow.Author.Tests.{eq-eqb, ne-eqb, lt-leb}
 use Rattle.spec.specs.Refusals.{checkOf}
+use Rattle.laws.proofs.Promises.{check-promised}
 use borrow.Author.Needs.{needs}
 use Rattle.message.proofs.check.check.Statement.{statement}
 use Rattle.message.proofs.check.check.Tie as tie
 
 returns : tie.Need-returns
 unfolding checkOf
-returns c = rw (eq-eqb (length (c .before .before .args .m .now)) 0 (c .if1 .taken))
+returns c = check-promised _ _ (rw (eq-eqb (length (c .before .before .args .m .now)) 0 (c .if1 .taken)))
 
 returns-2 : tie.Need-returns-2
 unfolding checkOf
-returns-2 c = rw (ne-eqb (length (c .before .before .before .args .m .now)) 0 (c .before .if1 .left), lt-leb (length (c .before .before .before .args .m .now)) 4096 (c .if2 .taken))
+returns-2 c =
+    let n = length (c .before .before .before .args .m .now) in
+    check-promised _ _ (rw (ne-eqb n 0 (c .before .if1 .left), lt-leb n 4096 (c .if2 .taken)))
 
 class-table-requires : tie.Need-class-table-requires
 class-table-requires c κs = search needs
@@ -25,7 +28,7 @@ walk-requires : tie.Need-walk-requires
 walk-requires c κs = search needs
 
 returns-3 : tie.Need-returns-3
-returns-3 c = c .walk .ensures
+returns-3 c = check-promised _ _ (c .walk .ensures)
 
 pub check-spec : {M : Type 1} → statement M
 check-spec = tie.close (tie.spec returns returns-2 class-table-requires pair-table-requires walk-requires returns-3)

@@ -43,10 +43,10 @@ other-end q b h e = where-same (λ x. not (isSoftSign x)) (λ x. hardEnd q (smal
 
 returns : tie.Need-returns
 unfolding hardBefore isGap
-returns c = let s = c .before .before in rw (← s .pre .1, ne-eqb (s .args .p) 32 (c .if1 .taken))
+returns c = let s = c .before .before in rw (← s .pre .byte, ne-eqb (s .args .p) 32 (c .if1 .taken))
 
 sub-byte-before : tie.Need-sub-byte-before
-sub-byte-before c = let s = c .before .before in past (s .args .m .now) (s .args .i) (s .args .p) (s .pre .1) (λ e. omega arith)
+sub-byte-before c = let s = c .before .before in past (s .args .m .now) (s .args .i) (s .args .p) (s .pre .byte) (λ e. omega arith)
 
 byte-before-requires : tie.Need-byte-before-requires
 byte-before-requires c κs = search needs
@@ -67,7 +67,7 @@ unfolding hardBefore isGap
 returns-2 c =
     let b = c .before .before .before in
     let s = b .before .before .before in
-    rw (← s .pre .1, b .before .if1 .left, ← b .byte-before .ensures, soft-end _ (b .byte-before .result) (omega (arith, b .byte-before .ok)) (c .before .before .if2 .taken), ← c .before .byte-before2 .ensures)
+    rw (← s .pre .byte, b .before .if1 .left, ← b .byte-before .ensures, soft-end _ (b .byte-before .result) (omega (arith, b .byte-before .ok)) (c .before .before .if2 .taken), ← c .before .byte-before2 .ensures)
     (c .is-hard-only .ensures)
 
 is-hard-or-paired-requires : tie.Need-is-hard-or-paired-requires
@@ -78,7 +78,7 @@ unfolding hardBefore isGap
 returns-3 c =
     let b = c .before .before in
     let s = b .before .before .before in
-    rw (← s .pre .1, b .before .if1 .left, ← b .byte-before .ensures, other-end (small (byteBefore (s .args .m .now) (s .args .i - 2))) (b .byte-before .result) (omega (arith, b .byte-before .ok)) (c .before .if2 .left))
+    rw (← s .pre .byte, b .before .if1 .left, ← b .byte-before .ensures, other-end (small (byteBefore (s .args .m .now) (s .args .i - 2))) (b .byte-before .result) (omega (arith, b .byte-before .ok)) (c .before .if2 .left))
     (c .is-hard-or-paired .ensures)
 
 pub hard-before-spec : {M : Type 1} → statement M

@@ -1,6 +1,6 @@
 -- Between the bounds of an arm, and of what lies between arms, all small letters answer alike, by one computation each.
 -- Assumes nothing.
-use Prim.Native.Nat.{ℕ, _<_, _≤_}
+use Prim.Native.Nat.{ℕ, _≤_}
 use mathlib.Core.Path.{_≡_, refl, sym, _∙_}
 use mathlib.Core.Bool.{Bool, true, false, cond, _&&_, not}
 use mathlib.Core.List.{map}
@@ -18,9 +18,13 @@ use Rattle.transcriber.proofs.before.is_hard_or_paired.Statement.{state
 use Rattle.transcriber.proofs.before.is_hard_or_paired.Tie as tie
 
 -- all small letters between two bounds answer alike
-alike : (lo hi : ℕ) (v : Bool) (p : ℕ) → p < 256 → lo ≤ small p → small p ≤ hi
-    → map (λ x. cond (between lo hi (small x)) (isHardOrPaired (small x)) v) (below 256) ≡ map (λ x. cond (between lo hi (small x)) v v) (below 256) → v ≡ isHardOrPaired (small p)
-alike lo hi v p h l u e = sym (where-same (λ x. between lo hi (small x)) (λ x. isHardOrPaired (small x)) (λ _. v) v p e h (between-true lo hi (small p) l u))
+alike : (c : tie.After-small-letter) (lo hi : ℕ) (v : Bool) → lo ≤ c .small-letter .result → c .small-letter .result ≤ hi
+    → map (λ x. cond (between lo hi (small x)) (isHardOrPaired (small x)) v) (below 256) ≡ map (λ x. cond (between lo hi (small x)) v v) (below 256)
+    → v ≡ isHardOrPaired (small (c .before .args .p))
+alike c lo hi v l h e =
+    let p = c .before .args .p in
+    let s = c .small-letter .ensures in
+    sym (where-same (λ x. between lo hi (small x)) (λ x. isHardOrPaired (small x)) (λ _. v) v p e (omega (arith, c .before .fits .p)) (between-true lo hi (small p) (omega (arith, s)) (omega (arith, s))))
 
 small-letter-requires : tie.Need-small-letter-requires
 small-letter-requires c κs = search needs
@@ -31,43 +35,43 @@ returns c = rw (← c .before .small-letter .ensures, c .match .keys1)
 
 returns-2 : tie.Need-returns-2
 unfolding everything
-returns-2 c = let s = c .before .before .before .before in let e = s .small-letter .ensures in alike 225 228 true (s .before .args .p) (omega (arith, s .before .fits .p)) (omega (arith, e)) (omega (arith, e)) refl
+returns-2 c = alike (c .before .before .before .before) 225 228 true (omega arith) (omega arith) refl
 
 returns-3 : tie.Need-returns-3
 unfolding everything
-returns-3 c = let s = c .before .before .before .before .before .before in let e = s .small-letter .ensures in alike 230 231 true (s .before .args .p) (omega (arith, s .before .fits .p)) (omega (arith, e)) (omega (arith, e)) refl
+returns-3 c = alike (c .before .before .before .before .before .before) 230 231 true (omega arith) (omega arith) refl
 
 returns-4 : tie.Need-returns-4
 unfolding everything
-returns-4 c = let s = c .before .before .before .before .before .before .before in let e = s .small-letter .ensures in alike 234 237 true (s .before .args .p) (omega (arith, s .before .fits .p)) (omega (arith, e)) (omega (arith, e)) refl
+returns-4 c = alike (c .before .before .before .before .before .before .before) 234 237 true (omega arith) (omega arith) refl
 
 returns-5 : tie.Need-returns-5
 unfolding everything
-returns-5 c = let s = c .before .before .before .before in let e = s .small-letter .ensures in alike 239 242 true (s .before .args .p) (omega (arith, s .before .fits .p)) (omega (arith, e)) (omega (arith, e)) refl
+returns-5 c = alike (c .before .before .before .before) 239 242 true (omega arith) (omega arith) refl
 
 returns-6 : tie.Need-returns-6
 unfolding everything
-returns-6 c = let s = c .before .before .before .before .before .before in let e = s .small-letter .ensures in alike 244 246 true (s .before .args .p) (omega (arith, s .before .fits .p)) (omega (arith, e)) (omega (arith, e)) refl
+returns-6 c = alike (c .before .before .before .before .before .before) 244 246 true (omega arith) (omega arith) refl
 
 returns-7 : tie.Need-returns-7
 unfolding everything
-returns-7 c = let s = c .before .before .before in let e = s .small-letter .ensures in alike 0 224 false (s .before .args .p) (omega (arith, s .before .fits .p)) (omega (arith, e)) (omega (arith, e)) refl
+returns-7 c = alike (c .before .before .before) 0 224 false (omega arith) (omega arith) refl
 
 returns-8 : tie.Need-returns-8
 unfolding everything
-returns-8 c = let s = c .before .before .before .before .before in let e = s .small-letter .ensures in alike 229 229 false (s .before .args .p) (omega (arith, s .before .fits .p)) (omega (arith, e)) (omega (arith, e)) refl
+returns-8 c = alike (c .before .before .before .before .before) 229 229 false (omega arith) (omega arith) refl
 
 returns-9 : tie.Need-returns-9
 unfolding everything
-returns-9 c = let s = c .before .before .before .before .before .before .before in let e = s .small-letter .ensures in alike 232 233 false (s .before .args .p) (omega (arith, s .before .fits .p)) (omega (arith, e)) (omega (arith, e)) refl
+returns-9 c = alike (c .before .before .before .before .before .before .before) 232 233 false (omega arith) (omega arith) refl
 
 returns-10 : tie.Need-returns-10
 unfolding everything
-returns-10 c = let s = c .before .before .before in let e = s .small-letter .ensures in alike 238 238 false (s .before .args .p) (omega (arith, s .before .fits .p)) (omega (arith, e)) (omega (arith, e)) refl
+returns-10 c = alike (c .before .before .before) 238 238 false (omega arith) (omega arith) refl
 
 returns-11 : tie.Need-returns-11
 unfolding everything
-returns-11 c = let s = c .before .before .before .before .before in let e = s .small-letter .ensures in alike 243 243 false (s .before .args .p) (omega (arith, s .before .fits .p)) (omega (arith, e)) (omega (arith, e)) refl
+returns-11 c = alike (c .before .before .before .before .before) 243 243 false (omega arith) (omega arith) refl
 
 returns-12 : tie.Need-returns-12
 unfolding everything

@@ -1,6 +1,6 @@
 -- The invariant says that the names from the place on are in the output; each turn puts those of one byte before them. The measure is the place.
 -- Assumes nothing.
-use mathlib.Core.Path.{_≡_, ap, _∙_}
+use mathlib.Core.Path.{_≡_, _∙_}
 use native.Mathlib.Omega.{arith}
 use Rattle.transcriber.proofs.Putting.{put-length}
 use Rattle.transcriber.proofs.Namings.{Naming, end-room, naming-none, naming-length, naming-before, naming-ready, naming-more, naming-all}

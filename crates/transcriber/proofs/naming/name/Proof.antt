@@ -16,7 +16,7 @@ use Rattle.transcriber.proofs.naming.name.Tie as tie
 
 -- the message is accepted with the counts that were read
 accepted : (c : tie.After-checked) → checkOf (c .before .before .before .before .before .args .m .now) ≡ Accepted (c .checked .given .0 .0)
-accepted c = sym (c .before .before .check .ensures) ∙ c .checked .given .1
+accepted c = sym (c .before .before .check .ensures .answer) ∙ c .checked .given .1
 
 -- so its names are counted
 counted : (c : tie.After-checked) → c .checked .given .0 .0 .names ≡ length (names (c .before .before .before .before .before .args .m .now))
@@ -38,7 +38,7 @@ returns : tie.Need-returns
 unfolding nameAnswer
 returns c =
     let k = c .before .before .before in
-    rw (c .refused .ensures, k .check .ensures) (answered-refused _ _ _ _ _ _ (sym (k .check .ensures) ∙ c .before .enum-told .given .1))
+    rw (c .refused .ensures, k .check .ensures .answer) (answered-refused _ _ _ _ _ _ (sym (k .check .ensures .answer) ∙ c .before .enum-told .given .1))
 
 returns-2 : tie.Need-returns-2
 unfolding nameAnswer

@@ -2,7 +2,7 @@
 -- Assumes nothing.
 use Prim.Native.Nat.{suc, _%_, _<_}
 use mathlib.Core.Path.{_≡_, refl, sym, _∙_}
-use mathlib.Core.Bool.{true, false}
+use mathlib.Core.Bool.{false}
 use mathlib.Core.List.{[], _∷_}
 use native.Mathlib.Omega.{arith}
 use lib.Dec.{leb}
@@ -39,7 +39,7 @@ is-silent-requires c κs = let s = c .before .before .before in
     (s .pre .0 .byte, record { within = a .ready .within; bytes = a .ready .steady .bytes; class = a .class })
 
 seen-over-requires : tie.Need-seen-over-requires
-seen-over-requires c κs = right-sound _ _ _ _ (c .before .before .before .before .before .pre .1 .ready) .2
+seen-over-requires c κs = search needs
 
 pass-over-requires : tie.Need-pass-over-requires
 pass-over-requires c κs = search needs

@@ -3,7 +3,6 @@
 use Prim.Native.Nat.{suc}
 use mathlib.Core.Path.{_≡_, sym, _∙_}
 use mathlib.Core.Bool.{false, true, not}
-use native.Mathlib.Omega.{arith}
 use lib.Dec.{eqb}
 use lib.ListN.{getD}
 use borrow.Author.Needs.{needs}
@@ -37,13 +36,8 @@ put-sung-requires c κs =
 first-code-requires : tie.Need-first-code-requires
 first-code-requires c κs = search needs
 
-cast-seen-over : tie.Need-cast-seen-over
-cast-seen-over c = search needs
-
-seen-over-requires : tie.Need-seen-over-requires
-seen-over-requires c κs =
-    let v = c .before .before .before .before .before in
-    omega (arith, c .first-code .ensures, sung-first _ _ _ (v .vowel-at .ensures) 0 .1)
+sound-of-requires : tie.Need-sound-of-requires
+sound-of-requires c κs = search needs
 
 over-vowel-requires : tie.Need-over-vowel-requires
 over-vowel-requires c κs = search needs
@@ -60,11 +54,10 @@ returns c =
     let s = v .before .before .before .before in
     let m = s .args .m .now in
     let i = s .args .i in
-    let first = sung-first m i (v .vowel-at .result) (v .vowel-at .ensures) (soundAt m (suc i)) in
     let sings = vowel-sings _ _ _ _ (vowel s) in
-    letter-steps _ _ _ _ (s .pre .1 .ready) (p .put-sung .last .0) (sungCodes (v .vowel-at .result)) (p .put-sung .result) 0 (f .first-code .result) (w .seen-over .result) (not (eqb (s .args .c) 10)) (spelt s) (codes v)
-    (sym (sung-tone m i (v .vowel-at .result) (v .vowel-at .ensures) (toneAt m (suc i)))) (f .first-code .ensures ∙ first .0)
-    (rw (s .pre .1 .class) (sym (vowel-softens (getD m i 0) (s .pre .1 .ready .steady .bytes i) sings))) (omega (arith, w .seen-over .ensures, f .first-code .ensures, first .1))
+    letter-steps _ _ _ _ (s .pre .1 .ready) (p .put-sung .last .0) (sungCodes (v .vowel-at .result)) (p .put-sung .result) 0 (f .first-code .result) (w .sound-of .result) (not (eqb (s .args .c) 10)) (spelt s) (codes v)
+    (sym (sung-tone m i (v .vowel-at .result) (v .vowel-at .ensures) (toneAt m (suc i)))) (f .first-code .ensures ∙ sung-first (v .vowel-at .result) (soundAt m (suc i)))
+    (rw (s .pre .1 .class) (sym (vowel-softens (getD m i 0) (s .pre .1 .ready .steady .bytes i) sings))) (w .sound-of .ensures)
     (rw (c .over-vowel .ensures) (levels-vowel m (s .pre .1 .ready .steady) i (s .pre .1 .ready .within) sings (s .pre .1 .ready .stands .levels))) (p .put-sung .ensures)
 
 pub put-vowel-spec : {M : Type 1} → statement M
@@ -74,8 +67,7 @@ put-vowel-spec =
     vowel-at-requires
     put-sung-requires
     first-code-requires
-    cast-seen-over
-    seen-over-requires
+    sound-of-requires
     over-vowel-requires
     same-length
     returns)

@@ -8,7 +8,7 @@ use borrow.Author.Needs.{needs}
 use borrow.Author.Tests.{eq-eqb}
 use Rattle.message.specs.Classes.{classOf}
 use Rattle.message.proofs.Bytes.{ByClass, by-class}
-use Rattle.transcriber.proofs.Walking.{ready-for, right-sound, sign-steps, mark-steps}
+use Rattle.transcriber.proofs.Walking.{ready-for, sign-steps, mark-steps}
 use Rattle.transcriber.proofs.tape.step.Statement.{statement}
 use Rattle.transcriber.proofs.tape.step.Tie as tie
 
@@ -49,7 +49,7 @@ returns-2 : tie.Need-returns-2
 returns-2 c = search needs
 
 seen-over-requires : tie.Need-seen-over-requires
-seen-over-requires c κs = right-sound _ _ _ _ (c .before .before .before .before .before .before .before .before .pre .1) .2
+seen-over-requires c κs = search needs
 
 pass-over-requires : tie.Need-pass-over-requires
 pass-over-requires c κs = search needs

@@ -17,7 +17,7 @@ use Rattle.transcriber.proofs.tape.transcribe.Tie as tie
 
 -- the message is accepted
 accepted : (c : tie.After-checked) → checkOf (c .before .before .before .before .before .args .m .now) ≡ Accepted (c .checked .given .0 .0)
-accepted c = sym (c .before .before .check .ensures) ∙ c .checked .given .1
+accepted c = sym (c .before .before .check .ensures .answer) ∙ c .checked .given .1
 
 -- with as many codes as its tape
 counted : (c : tie.After-checked) → c .checked .given .0 .0 .codes ≡ length (tape (c .before .before .before .before .before .args .m .now))
@@ -40,8 +40,8 @@ unfolding tapeAnswer
 returns c =
     let k = c .before .before .before in
     let s = k .before .before .before in
-    rw (c .refused .ensures, k .check .ensures)
-    (answered-refused (checkOf (s .args .m .now)) _ _ _ (tape (s .args .m .now)) (s .args .out .now) (sym (k .check .ensures) ∙ c .before .enum-told .given .1))
+    rw (c .refused .ensures, k .check .ensures .answer)
+    (answered-refused (checkOf (s .args .m .now)) _ _ _ (tape (s .args .m .now)) (s .args .out .now) (sym (k .check .ensures .answer) ∙ c .before .enum-told .given .1))
 
 returns-2 : tie.Need-returns-2
 unfolding tapeAnswer

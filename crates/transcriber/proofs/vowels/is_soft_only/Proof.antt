@@ -5,7 +5,6 @@ use mathlib.Core.List.{[], _∷_}
 use mathlib.Core.Logic.{⊎-elim, inl, inr}
 use native.Mathlib.Omega.{arith}
 use borrow.Author.Tests.{ne-eqb}
-use Rattle.spec.specs.Tables.{among}
 use Rattle.spec.specs.Letters.{small, isSoftOnly}
 use Rattle.message.proofs.Computed.{everything}
 use Rattle.transcriber.proofs.Raw.{outside}

@@ -1,5 +1,6 @@
 -- The syllable, the sound and the glide are those of the vowel in its word, since the byte before tells the letter before.
 -- Assumes nothing.
+use native.Mathlib.Omega.{arith}
 use borrow.Author.Needs.{needs}
 use Rattle.transcriber.proofs.Walking.{vowel-sings, sung-by}
 use Rattle.transcriber.proofs.vowels.vowel_at.Statement.{statement}
@@ -20,7 +21,8 @@ shared-slice-read-vowel-sound c = search needs
 vowel-sound-requires : tie.Need-vowel-sound-requires
 vowel-sound-requires c κs =
     let b = c .before .before .before in
-    (vowel-sings _ _ _ _ (b .before .before .pre .1), search needs, b .byte-before .ensures)
+    let a = b .before .before .pre .1 in
+    (vowel-sings _ _ _ _ a, record { within = omega (arith, a .within); byte = b .byte-before .ensures })
 
 has-glide-requires : tie.Need-has-glide-requires
 has-glide-requires c κs = search needs
