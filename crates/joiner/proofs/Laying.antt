@@ -61,6 +61,7 @@ part-bytes m bytes a e j = by (leb (suc j) (e - a)) refl
 -- The part from place a on is next.
 module _ {m cuts out : List ℕ} {k : ℕ} {q : Progress} {a : ℕ} (l : Laid m cuts k out q) (begins : Begins m a) (low : a ≤ length m)
     (rising : RisingFrom m a (drop k cuts)) where
+  -- where it ends, in the message and on the tape
   abbrev e : ℕ
   e = q .e
 
@@ -71,9 +72,11 @@ module _ {m cuts out : List ℕ} {k : ℕ} {q : Progress} {a : ℕ} (l : Laid m 
   pub part-within : (a ≤ e) × (e ≤ length m) × Ends m e
   part-within = rw (l .ends) (part-ends m a (drop k cuts) low rising)
 
+  -- its own tape
   abbrev own : List ℕ
   own = tape (part m a e)
 
+  -- where its codes stand on the whole one
   here : Placed m a e
   here = placed m a e begins (part-within .0) (part-within .2)
 
@@ -81,6 +84,7 @@ module _ {m cuts out : List ℕ} {k : ℕ} {q : Progress} {a : ℕ} (l : Laid m 
   pub part-place : markIndex m a + length own ≡ at
   part-place = omega (arith, l .place, here .size, own-length m a e begins (part-within .0) (part-within .2))
 
+  -- they end there
   size : length (here .front ++ stretch m a e) ≡ at
   size = simp length-append (omega (arith, l .place, here .size, here .start))
 
@@ -96,15 +100,18 @@ module _ {m cuts out : List ℕ} {k : ℕ} {q : Progress} {a : ℕ} (l : Laid m 
   split : out ≡ here .front ++ (stretch m a e ++ restOf m (drop k cuts))
   split = l .bytes ∙ rw (codes, append-assoc (here .front) (stretch m a e) (restOf m (drop k cuts)))
 
+  -- where it begins on either tape
   start : at - length own ≡ markIndex m a
   start = omega (arith, part-place)
 
+  -- what stands before it in the output, and after it
   kept : take (at - length own) out ≡ here .front
   kept = ap (take (at - length own)) split ∙ rw start (take-at (here .front) (stretch m a e ++ restOf m (drop k cuts)) (markIndex m a) (here .start))
 
   past : drop at out ≡ restOf m (drop k cuts)
   past = rw (l .bytes, codes) (drop-at (here .front ++ stretch m a e) (restOf m (drop k cuts)) at size)
 
+  -- it ends within both
   pub tape-end : at ≤ length (tape m)
   tape-end = omega (arith, simp length-append at (ap length (here .split)), simp length-append at size)
 
