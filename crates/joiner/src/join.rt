@@ -18,8 +18,8 @@ use message::classify::class_table;
 use spec::Answer;
 use spec::Checked;
 use spec::Refusal;
+use transcriber::answers::refused;
 use transcriber::tables::sound_table;
-use transcriber::tape::refused;
 use transcriber::tape::write_tape;
 
 // Bytes of breaks, and what the other bytes of an accepted message lie between.

@@ -267,16 +267,6 @@ module _ (m : List ℕ) (z : 0 < length m) (s : length m ≤ 4096) where
       by true q f = rw (← head) (f (clear-more m i c (rw (head, tail) (fault-clear (beforeAt m i) b r (eqb-true _ _ q)))))
       by false q f = rw (← head, ← tail, before-length) (fault _ i (fault-given i within c (λ n. eqb-false (faultAt (beforeAt m i) b r) 0 q (rw (head, tail) at n))))
 
--- a scan goes on over a byte without a fault
-pub scan-next : (a : Checked) (before : List ℕ) (b : ℕ) (after : List ℕ) → faultAt before b after ≡ 0 → scan a before (b ∷ after) ≡ scan a (b ∷ before) after
-unfolding scan
-scan-next a before b after e = rw e
-
--- a message of 1 to 4,096 bytes is scanned
-pub check-scans : (m : List ℕ) → 0 < length m → length m ≤ 4096 → checkOf m ≡ scan (Accepted (countsOf m)) [] m
-unfolding checkOf
-check-scans m z h = rw (ne-eqb (length m) 0 (omega arith), le-leb (length m) 4096 h)
-
 -- What the check finds in a message.
 pub check-finds : (m : List ℕ) → Finds m (checkOf m)
 unfolding checkOf beforeAt
@@ -370,6 +360,11 @@ given-refused m n p g = by (checkOf m) (check-finds m)
     by : (d : Checked) → Finds m d → d ≡ Refused (refusal n p)
     by d (nothing q) = absurd (none-given m n p (passes-none m q) g)
     by d (fault k q h) = let e = given-once m k q n p h g in rw (e .0, e .1)
+
+-- The first fault of a message is refused with its place.
+pub first-refused : (m : List ℕ) → length m ≤ 4096 → (p : ℕ) → p < length m → ((j : ℕ) → j < p → ClearAt m j) → (n : ℕ) → faultAt (beforeAt m p) (getD m p 0) (drop (suc p) m) ≡ n → (n ≡ 0 → ⊥)
+    → checkOf m ≡ Refused (refusal n p)
+first-refused m s p h c n e z = given-refused m n p (rw e at (fault-given m (omega arith) s p h c (λ f. z (sym e ∙ f))))
 
 pub passes-accepted : (m : List ℕ) → Passes m → checkOf m ≡ Accepted (countsOf m)
 passes-accepted m p = none-accepted m (passes-none m p)

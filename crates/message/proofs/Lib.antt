@@ -3,6 +3,7 @@ pub mod Bytes
 pub mod Checking
 pub mod Computed
 pub mod Elided
+pub mod Faults
 pub mod Fused
 pub mod Left
 pub mod Lengths

@@ -3,7 +3,7 @@
 use Prim.Native.Nat.{ℕ, zero, suc, _+_, _-_, _*_, _/_, _%_, _<_, _≤_}
 use mathlib.Core.Path.{_≡_, refl, sym, ap, _∙_}
 use mathlib.Core.Bool.{Bool, true, false, cond, _&&_, _||_, not, and-false, false≢true}
-use mathlib.Core.List.{List, [], _∷_}
+use mathlib.Core.List.{List, [], _∷_, map}
 use native.Mathlib.Omega.{arith}
 use lib.Dec.{eqb, leb}
 use lib.ListN.{getD}
@@ -13,8 +13,8 @@ use Rattle.spec.specs.Tables.{among}
 use Rattle.spec.specs.Letters.{small}
 use Rattle.spec.specs.Elision.{elidesT, elidesD, elidesAmong}
 use Rattle.message.specs.Classes.{classOf, classAt, tabulate, classes, letterAt, letterBefore, elidedAt, silentAt}
-use Rattle.message.specs.Steps.{nextKind, faultIn, widthIn, namesIn, askIn, stopIn, packed, pairs, kindAt, widthAt}
-use Rattle.message.proofs.Bytes.{pairs-same, by-class, not-both}
+use Rattle.message.specs.Steps.{nextKind, faultIn, widthIn, namesIn, askIn, stopIn, packed, pairs, kindAt, widthAt, nameUnit, askUnit, stopUnit}
+use Rattle.message.proofs.Bytes.{below, pairs-same, by-class, not-both}
 use Rattle.laws.proofs.Classes.{among-none}
 use Rattle.message.proofs.Computed.{everything}
 
@@ -93,32 +93,20 @@ pub record Entry (k c : ℕ) : Type 0 where
   pub stop : stopIn k c ≤ 31
   pub next : nextKind k c < 16
 
--- that, as tests
-abbrev entryTests : ℕ → ℕ → List Bool
-entryTests k c = leb (widthIn k c) 2 ∷ leb (namesIn k c) 1 ∷ leb (askIn k c) 1 ∷ leb (stopIn k c) 31 ∷ leb (nextKind k c) 15 ∷ []
-
--- all of them hold
-entry-tests : (k c : ℕ) → k < 16 → c < 13 → entryTests k c ≡ (true ∷ true ∷ true ∷ true ∷ true ∷ [])
-unfolding everything
-entry-tests k c h l = pairs-same entryTests (λ _ _. true ∷ true ∷ true ∷ true ∷ true ∷ []) 16 13 k c refl h l
-
--- every entry that is read is so
+-- every entry that is read is so, by one computation each
 pub entry-holds : (k c : ℕ) → k < 16 → c < 13 → Entry k c
-entry-holds k c h l =
-    let e = entry-tests k c h l in
-    let w : leb (widthIn k c) 2 ≡ true = cc in
-    let n : leb (namesIn k c) 1 ≡ true = cc in
-    let a : leb (askIn k c) 1 ≡ true = cc in
-    let s : leb (stopIn k c) 31 ≡ true = cc in
-    let x : leb (nextKind k c) 15 ≡ true = cc in
-    record { width = leb-true _ _ w; names = leb-true _ _ n; ask = leb-true _ _ a; stop = leb-true _ _ s; next = omega (arith, leb-true (nextKind k c) 15 x) }
+unfolding everything
+entry-holds k c h l = record { width = most widthIn 2 refl; names = most namesIn 1 refl; ask = most askIn 1 refl; stop = most stopIn 31 refl; next = omega (arith, most nextKind 15 refl) }
+  where
+    most : (f : ℕ → ℕ → ℕ) (n : ℕ) → map (λ x. map (λ y. leb (f x y) n) (below 13)) (below 16) ≡ map (λ x. map (λ y. true) (below 13)) (below 16) → f k c ≤ n
+    most f n e = leb-true (f k c) n (pairs-same (λ x y. leb (f x y) n) (λ x y. true) 16 13 k c e h l)
 
 -- What is packed can be taken apart.
 pub record Unpacks (k c : ℕ) : Type 0 where
-  pub counts : packed k c % 0x20000 ≡ widthIn k c + 0x4000 * namesIn k c
-  pub ask : packed k c < 0x20000 → askIn k c ≡ 0
-  pub stop : packed k c / 0x100000 ≡ stopIn k c
-  pub small : packed k c < 0x2000000
+  pub counts : packed k c % askUnit ≡ widthIn k c + nameUnit * namesIn k c
+  pub ask : packed k c < askUnit → askIn k c ≡ 0
+  pub stop : packed k c / stopUnit ≡ stopIn k c
+  pub small : packed k c < 32 * stopUnit
 
 -- every entry can
 pub unpacks : (k c : ℕ) → Entry k c → Unpacks k c

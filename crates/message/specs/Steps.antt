@@ -64,10 +64,20 @@ askIn k c = cond (eqb k 7 && eqb c 8) 1 0
 unfoldable pub stopIn : ℕ → ℕ → ℕ
 stopIn k c = cond (eqb (faultIn k c) 0 && eqb (nextKind k c) c) 0 (suc (faultIn k c))
 
--- What the table has for class c after kind k. The names and the codes of a message are added up in the same two places, so they have room for 4,096 bytes; that for asks is enough for
--- seven bytes, and that for stops is the last.
+-- An entry of the table has its codes as they are, and these for a name, for an ask and for a stop. The names and the codes of a message are added up in the same two places, so they have room for
+-- 4,096 bytes; there is room for the asks of seven bytes, and stops come last.
+abbrev pub nameUnit : ℕ
+nameUnit = 0x4000
+
+abbrev pub askUnit : ℕ
+askUnit = 0x20000
+
+abbrev pub stopUnit : ℕ
+stopUnit = 0x100000
+
+-- What the table has for class c after kind k.
 unfoldable pub packed : ℕ → ℕ → ℕ
-packed k c = widthIn k c + 0x4000 * namesIn k c + 0x20000 * askIn k c + 0x100000 * stopIn k c
+packed k c = widthIn k c + nameUnit * namesIn k c + askUnit * askIn k c + stopUnit * stopIn k c
 
 -- the code's table of pairs: for each kind a row of 16 classes
 unfoldable pub pairs : List ℕ
@@ -111,7 +121,7 @@ pub record Sees (m : List ℕ) (s : Seen) : Type 0 where
   pub within : s .at ≤ length m
   pub clear : (j : ℕ) → j < s .at → faultHere m j ≡ 0
   pub kind : s .kind ≡ kindAt m (s .at)
-  pub sum : s .sum ≡ codesTo m (s .at) + 0x4000 * namesTo m (s .at)
+  pub sum : s .sum ≡ codesTo m (s .at) + nameUnit * namesTo m (s .at)
   pub from : s .from ≤ s .at
   pub limit : lettersAt m (s .from) + s .limit ≡ s .from + 64
 
@@ -134,11 +144,10 @@ abbrev pub silentFour : List ℕ → ℕ → ℕ
 silentFour m i = silentAt m i + silentAt m (i + 1) + silentAt m (i + 2) + silentAt m (i + 3)
 
 -- Four bytes from place i on can be weighed: x has at least as many codes as they lose, and asks where they lose any.
-pub record Weighs (m t : List ℕ) (i x : ℕ) : Type 0 where
-  pub classes : t ≡ classes
+pub record Weighs (m : List ℕ) (i x : ℕ) : Type 0 where
   pub within : i + 4 ≤ length m
-  pub enough : silentFour m i ≤ x % 0x20000
-  pub plain : x < 0x20000 → silentFour m i ≡ 0
+  pub enough : silentFour m i ≤ x % askUnit
+  pub plain : x < askUnit → silentFour m i ≡ 0
 
 -- four bytes from any place before r are among the first n
 abbrev pub FoursTo : ℕ → ℕ → Type 0
@@ -158,6 +167,12 @@ pub record Counted (m : List ℕ) (i : ℕ) (s : Seen) : Type 0 where
   pub place : s .at ≡ i
   pub full : s .limit ≤ i → lettersAt m i ≡ 64
 
+-- The check begins: there is a byte, and not too many.
+pub record Begins (m t s : List ℕ) : Type 0 where
+  pub tables : Tables t s
+  pub some : 0 < length m
+  pub short : length m ≤ 4096
+
 -- The check stands at a byte.
 pub record Stands (m t s : List ℕ) (seen : Seen) : Type 0 where
   pub tables : Tables t s
@@ -174,4 +189,4 @@ Judged m s (Next r) = Sees m r × (s .at < r .at)
 abbrev pub finishOf : ℕ → Seen → Checked
 finishOf n s =
     cond (isBreakClass (s .kind)) (Refused (refusal 4 (n - 1)))
-    (Accepted (record { codes = s .sum % 0x4000; names = s .sum / 0x4000 + tailNames (s .kind) }))
+    (Accepted (record { codes = s .sum % nameUnit; names = s .sum / nameUnit + tailNames (s .kind) }))

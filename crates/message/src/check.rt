@@ -1,12 +1,12 @@
 // The message check: one walk from left to right. Nearly all bytes are passed by fours, since what a byte adds depends on its class and the class before it alone.
 ghost use mathlib.Core.Path.{_≡_};
 ghost use mathlib.Core.Bool.{_&&_};
-ghost use Prim.Native.Nat.{_+_, _<_, _≤_, _%_};
+ghost use Prim.Native.Nat.{_+_, _*_, _<_, _≤_, _%_};
 ghost use lib.Dec.{leb};
 ghost use lib.ListN.{length};
 ghost use Rattle.spec.specs.Refusals.{checkOf};
 ghost use Rattle.message.specs.Classes.{classes, isLetterClass, classAt, silentAt};
-ghost use Rattle.message.specs.Steps.{nextKind, packed, tailNames, lettersAt, Sees, Tables, Reads, fourAt, silentFour, Weighs, FoursTo, Goes, Counted, Stands, Judged, finishOf};
+ghost use Rattle.message.specs.Steps.{nextKind, packed, tailNames, lettersAt, Sees, Begins, Reads, fourAt, silentFour, Weighs, FoursTo, Goes, Counted, Stands, Judged, finishOf, askUnit, stopUnit};
 use crate::Seen;
 use crate::Step;
 use crate::classes::AFTER_VOWEL_STEP;
@@ -15,6 +15,7 @@ use crate::classes::BYTES;
 use crate::classes::COLUMNS;
 use crate::classes::FIRST_LETTER;
 use crate::classes::GAP;
+use crate::classes::HARD_ONLY;
 use crate::classes::HARD_SIGN;
 use crate::classes::HARD_SIGN_AFTER_VOWEL;
 use crate::classes::LETTERS_MAX;
@@ -26,12 +27,13 @@ use crate::classes::PAUSE;
 use crate::classes::PLAIN_VOWEL;
 use crate::classes::SOFT_ONLY;
 use crate::classes::SOFT_SIGN;
+use crate::classes::SOFT_SIGN_AFTER_VOWEL;
 use crate::classes::STOP;
-use crate::classes::T_OR_D;
 use crate::classes::VOWEL_I;
 use crate::classify::class_of;
 use crate::classify::class_table;
 use crate::letters::is_elided;
+use crate::letters::is_t_or_d;
 use crate::pairs::pair_table;
 use spec::Checked;
 use spec::Counts;
@@ -40,7 +42,7 @@ use spec::Refusal;
 // The entry for the byte at place i after kind k.
 fn entry_at(m: &[u8], i: usize, k: usize, t: &[u8; BYTES], s: &[u32; PAIRS_SIZE]) -> usize
     requires { ⌜ Reads (now m) (now t) (now s) k (i + 1) ⌝ }
-    ensures { λ r. ⌜ (r ≡ packed k (classAt (now (m .entry)) i)) × (r < 0x2000000) ⌝ }
+    ensures { λ r. ⌜ (r ≡ packed k (classAt (now (m .entry)) i)) × (r < 32 * stopUnit) ⌝ }
 {
     let c = class_of(m[i], t);
     s[COLUMNS * k + c] as usize
@@ -60,12 +62,12 @@ fn sum_four(m: &[u8], i: usize, k: usize, t: &[u8; BYTES], s: &[u32; PAIRS_SIZE]
         + entry_at(m, i + 3, c, t, s)
 }
 
-// How many codes the byte at place i loses: only т and д are elided, so no other class is asked of.
-fn silent_at(m: &[u8], i: usize, t: &[u8; BYTES]) -> usize
-    requires { ⌜ (now t ≡ classes) × (i < length (now m)) ⌝ }
+// How many codes the byte at place i loses: only т and д are elided, so no other byte is asked of.
+fn silent_at(m: &[u8], i: usize) -> usize
+    requires { ⌜ i < length (now m) ⌝ }
     ensures { λ r. ⌜ (r ≡ silentAt (now (m .entry)) i) × (r ≤ 1) ⌝ }
 {
-    if class_of(m[i], t) == T_OR_D {
+    if is_t_or_d(m[i]) {
         if is_elided(m, i) {
             return 1;
         }
@@ -74,22 +76,22 @@ fn silent_at(m: &[u8], i: usize, t: &[u8; BYTES]) -> usize
 }
 
 // How many codes four bytes lose.
-fn silent_four(m: &[u8], i: usize, t: &[u8; BYTES]) -> usize
-    requires { ⌜ (now t ≡ classes) × (i + 4 ≤ length (now m)) ⌝ }
+fn silent_four(m: &[u8], i: usize) -> usize
+    requires { ⌜ i + 4 ≤ length (now m) ⌝ }
     ensures { λ r. ⌜ r ≡ silentFour (now (m .entry)) i ⌝ }
 {
-    silent_at(m, i, t) + silent_at(m, i + 1, t) + silent_at(m, i + 2, t) + silent_at(m, i + 3, t)
+    silent_at(m, i) + silent_at(m, i + 1) + silent_at(m, i + 2) + silent_at(m, i + 3)
 }
 
 // What four bytes add, x being the sum of their entries.
-fn weigh_four(m: &[u8], i: usize, x: usize, t: &[u8; BYTES]) -> usize
-    requires { ⌜ Weighs (now m) (now t) i x ⌝ }
-    ensures { λ r. ⌜ r + silentFour (now (m .entry)) i ≡ x % 0x20000 ⌝ }
+fn weigh_four(m: &[u8], i: usize, x: usize) -> usize
+    requires { ⌜ Weighs (now m) i x ⌝ }
+    ensures { λ r. ⌜ r + silentFour (now (m .entry)) i ≡ x % askUnit ⌝ }
 {
     if x < ASK {
         return x;
     }
-    x % ASK - silent_four(m, i, t)
+    x % ASK - silent_four(m, i)
 }
 
 // Passes bytes by fours while these begin before place to and need no more than to be added. This loop has nearly all bytes, so it does nothing else.
@@ -113,7 +115,7 @@ fn pass_fours(m: &[u8], to: usize, seen: Seen, t: &[u8; BYTES], s: &[u32; PAIRS_
                 sum,
             };
         }
-        sum += weigh_four(m, at, x, t);
+        sum += weigh_four(m, at, x);
         kind = class_of(m[at + 3], t);
         at += 4;
     }
@@ -203,7 +205,7 @@ fn step(m: &[u8], seen: Seen, t: &[u8; BYTES], s: &[u32; PAIRS_SIZE]) -> Step
         return Step::Fault(10);
     }
     let kind = next_kind(counted.kind, c);
-    let sum = counted.sum + e % ASK - silent_at(m, at, t);
+    let sum = counted.sum + e % ASK - silent_at(m, at);
     Step::Next(Seen {
         at: at + 1,
         kind,
@@ -235,10 +237,12 @@ fn fours_to(n: usize) -> usize
 
 // How many names an incomplete syllable before the end of a word makes, k being the last kind.
 fn tail_names(k: usize) -> usize
-    requires { ⌜ k < 16 ⌝ }
     ensures { λ r. ⌜ (r ≡ tailNames k) × (r ≤ 1) ⌝ }
 {
-    if (HARD_SIGN <= k) & (k <= SOFT_ONLY) | (HARD_SIGN_AFTER_VOWEL <= k) {
+    let consonant = (HARD_ONLY <= k) & (k <= SOFT_ONLY);
+    let sign = ((HARD_SIGN <= k) & (k <= SOFT_SIGN))
+        | ((HARD_SIGN_AFTER_VOWEL <= k) & (k <= SOFT_SIGN_AFTER_VOWEL));
+    if consonant | sign {
         return 1;
     }
     0
@@ -246,7 +250,7 @@ fn tail_names(k: usize) -> usize
 
 // A message of n bytes, when all have been seen: a break last is a fault, a word's last syllable may be incomplete.
 fn finish(n: usize, seen: Seen) -> Checked
-    requires { ⌜ (0 < n) × (seen .kind < 16) ⌝ }
+    requires { ⌜ 0 < n ⌝ }
     ensures { λ r. ⌜ r ≡ finishOf n seen ⌝ }
 {
     let kind = seen.kind;
@@ -263,7 +267,7 @@ fn finish(n: usize, seen: Seen) -> Checked
 
 // All bytes from the left, until the first fault.
 fn walk(m: &[u8], t: &[u8; BYTES], s: &[u32; PAIRS_SIZE]) -> Checked
-    requires { ⌜ Tables (now t) (now s) × (0 < length (now m)) × (length (now m) ≤ 4096) ⌝ }
+    requires { ⌜ Begins (now m) (now t) (now s) ⌝ }
     ensures { λ r. ⌜ r ≡ checkOf (now (m .entry)) ⌝ }
 {
     let mut seen = Seen {

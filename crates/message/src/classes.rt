@@ -63,11 +63,17 @@ pub const FIRST_CAPITAL: u8 = 0xC0;
 
 pub const LAST_CAPITAL: u8 = 0xDF;
 
+pub const FIRST_SMALL: u8 = 0xE0;
+
 pub const CASE_STEP: u8 = 32;
 
 pub const YO: u8 = 0xB8;
 
 pub const CAPITAL_YO: u8 = 0xA8;
+
+pub const CAPITAL_DE: u8 = DE - CASE_STEP;
+
+pub const CAPITAL_TE: u8 = TE - CASE_STEP;
 
 // How many bytes there are, and so entries of a table by byte; the longest message and the longest word.
 pub const BYTES: usize = 256;

@@ -4,7 +4,9 @@ ghost use Prim.Native.Nat.{_<_};
 ghost use lib.ListN.{length};
 ghost use Rattle.spec.specs.Letters.{small};
 ghost use Rattle.spec.specs.Elision.{elidesT, elidesD, elidesAmong};
-ghost use Rattle.message.specs.Classes.{letterAt, letterBefore, elidedAt, followsElided};
+ghost use Rattle.message.specs.Classes.{letterAt, letterBefore, elidedAt, followsElided, foldOf, isTOrD};
+use crate::classes::CAPITAL_DE;
+use crate::classes::CAPITAL_TE;
 use crate::classes::CAPITAL_YO;
 use crate::classes::CASE_STEP;
 use crate::classes::CHE;
@@ -13,6 +15,7 @@ use crate::classes::EN;
 use crate::classes::ER;
 use crate::classes::ES;
 use crate::classes::FIRST_CAPITAL;
+use crate::classes::FIRST_SMALL;
 use crate::classes::KA;
 use crate::classes::LAST_CAPITAL;
 use crate::classes::SHA;
@@ -82,14 +85,48 @@ fn follows_elided(c: u8) -> bool
     (c == EN) | ((c == ES) | ((c == TSE) | ((c == CHE) | (c == SHA))))
 }
 
-// Is the letter at place i silent?
+// The letter of a byte as the rules of silent letters need it: what is no letter from а to я, small or capital, is 0.
+fn fold_case(b: u8) -> u8
+    ensures { λ r. ⌜ r ≡ foldOf b ⌝ }
+{
+    if b < FIRST_CAPITAL {
+        return 0;
+    }
+    b % CASE_STEP + FIRST_SMALL
+}
+
+// The same of bytes, small letters or capitals.
+fn elides_byte(p: u8, b: u8, c: u8, d: u8) -> bool
+    ensures { λ r. ⌜ r ≡ elidesAmong (small p) (small b) (small c) (small d) ⌝ }
+{
+    let next = fold_case(c);
+    if follows_elided(next) {
+        return elides(fold_case(p), fold_case(b), next, fold_case(d));
+    }
+    false
+}
+
+// Is the byte т or д? Only these may be silent.
+pub fn is_t_or_d(b: u8) -> bool
+    ensures { λ r. ⌜ r ≡ isTOrD b ⌝ }
+{
+    (b == TE) | ((b == CAPITAL_TE) | ((b == DE) | (b == CAPITAL_DE)))
+}
+
+// Is the letter at place i silent? A silent letter stands between two others. It asks of four bytes and lends no slice, so that a caller's loop keeps
+// the message in registers; and it asks at two places, so that the compiler does not copy the whole question into that loop.
 pub fn is_elided(m: &[u8], i: usize) -> bool
     requires { ⌜ i < length (now m) ⌝ }
     ensures { λ r. ⌜ r ≡ elidedAt (now (m .entry)) i ⌝ }
 {
-    let c = letter_at(m, i + 1);
-    if follows_elided(c) {
-        return elides(letter_before(m, i), letter_at(m, i), c, letter_at(m, i + 2));
+    if i == 0 {
+        return false;
     }
-    false
+    if m.len() <= i + 1 {
+        return false;
+    }
+    if m.len() == i + 2 {
+        return elides_byte(m[i - 1], m[i], m[i + 1], 0);
+    }
+    elides_byte(m[i - 1], m[i], m[i + 1], m[i + 2])
 }

@@ -9,16 +9,17 @@ use Rattle.spec.specs.Tape.{tape}
 use Rattle.message.specs.Places.{Steady, markBefore, tapeAt}
 use Rattle.message.proofs.Lengths.{codes-from}
 use Rattle.message.proofs.Tail.{tape-start, tape-end, word-end, tone-end, sound-end}
-use Rattle.transcriber.specs.Sounds.{farLevel, toneNo}
+use Rattle.transcriber.specs.Levels.{wordEnd}
+use Rattle.transcriber.specs.Sounds.{toneNo}
 use Rattle.transcriber.specs.Walk.{Stands, Put, pieceAt, Ready, Stepped, Walked}
 use Rattle.transcriber.specs.declared.Right.{Right}
-use Rattle.transcriber.proofs.Levels.{levels-end}
+use Rattle.transcriber.proofs.Levelling.{levels-end}
 use Rattle.transcriber.proofs.Putting.{put-none, put-over, put-length}
 use Rattle.transcriber.proofs.Walking.{none-softens, piece-step}
 
 -- what stands right of the message's end
 pub stands-end : (m : List ℕ) → Steady m → (n : ℕ)
-    → Stands m (length m) (record { at = n; tone = 64; sound = 0; near = farLevel (markBefore m (length m)); far = farLevel (markBefore m (length m)) })
+    → Stands m (length m) (record { at = n; tone = 64; sound = 0; levels = wordEnd (markBefore m (length m)) })
 unfolding toneNo
 stands-end m steady n =
     record {

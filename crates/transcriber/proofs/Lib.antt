@@ -1,9 +1,8 @@
 pub mod Answering
 pub mod Filling
-pub mod Levels
+pub mod Levelling
 pub mod Namings
 pub mod Putting
 pub mod Raw
-pub mod Rows
 pub mod SoundTable
 pub mod Walking

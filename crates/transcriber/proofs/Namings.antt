@@ -17,12 +17,12 @@ use Rattle.message.proofs.Bytes.{by-class, vowel-break}
 use Rattle.message.proofs.Left.{mark-within}
 use Rattle.message.proofs.Tail.{names-start, names-end, names-vowel, names-other, names-break}
 use Rattle.message.proofs.Lengths.{names-from}
-use Rattle.transcriber.specs.declared.Vowels.{Vowels}
-use Rattle.spec.specs.declared.Level.{Level}
-use Rattle.spec.specs.declared.Level.the-variants.{Stressed}
-use Rattle.transcriber.specs.Sounds.{classBefore, farLevel, levelBefore, syllableBy}
-use Rattle.transcriber.specs.Walk.{Levels, Put, namePiece, NameReady, Named}
-use Rattle.transcriber.proofs.Levels.{levels-syllable, levels-vowel, levels-letter, levels-mark, levels-break, levels-end}
+use Rattle.transcriber.specs.declared.NameState.{NameState}
+use Rattle.transcriber.specs.declared.levels.Levels.{Levels}
+use Rattle.transcriber.specs.Levels.{wordEnd, overMark, overVowel, LevelsAt}
+use Rattle.transcriber.specs.Sounds.{classBefore, syllableBy}
+use Rattle.transcriber.specs.Walk.{Put, namePiece, NameReady, VowelNamed, WordEnd, Named}
+use Rattle.transcriber.proofs.Levelling.{levels-syllable, levels-vowel, levels-letter, levels-mark, levels-break, levels-end}
 use Rattle.transcriber.proofs.Putting.{put-none, put-over, put-length, put-rest, put-again, put-first}
 
 module _ (m : List ℕ) (steady : Steady m) (i : ℕ) (h : i < length m) where
@@ -42,9 +42,9 @@ module _ (m : List ℕ) (steady : Steady m) (i : ℕ) (h : i < length m) where
 
   -- a vowel settles its syllable's
   pub piece-vowel : vowelByte (getD m i 0) ≡ true
-      → {n f : Level} → Levels m (suc i) n f → namePiece m i ≡ nameOf (syllableBy (classBefore m i) n) ∷ []
+      → {l : Levels} → LevelsAt m (suc i) l → namePiece m i ≡ nameOf (syllableBy (classBefore m i) (l .near)) ∷ []
   unfolding namePiece
-  piece-vowel v l = rw (vowel-break (getD m i 0) (steady .bytes i) v, v, levels-syllable m steady i h v l)
+  piece-vowel v l = rw (vowel-break (getD m i 0) (steady .bytes i) v, v, levels-syllable m steady i h v (l .near))
 
   -- a break the incomplete one's of the word before it
   pub piece-break : isBreak (getD m i 0) ≡ true → namePiece m i ≡ incomplete (leftAt m i .p)
@@ -56,7 +56,7 @@ module _ (m : List ℕ) (steady : Steady m) (i : ℕ) (h : i < length m) where
   unfolding namePiece
   piece-other s v = rw (s, v)
 
-module _ {m out : List ℕ} {i : ℕ} {v : Vowels} (ready : NameReady m out i v) where
+module _ {m out : List ℕ} {i : ℕ} {v : NameState} (ready : NameReady m out i v) where
   -- the highest classes are the vowels'
   pub vowel-class : 10 ≤ classOf (getD m i 0) → isVowelClass (classOf (getD m i 0)) ≡ true
   vowel-class low =
@@ -73,8 +73,8 @@ module _ {m out : List ℕ} {i : ℕ} {v : Vowels} (ready : NameReady m out i v)
 
   -- it puts one name, and the vowel before it looks at its mark
   pub named-vowel : {out′ : List ℕ} {r : ℕ} → isVowelClass (classOf (getD m i 0)) ≡ true
-      → Put (nameOf (syllableBy (classBefore m i) (v .near)) ∷ []) out out′ (v .at) r
-      → Named m out out′ i v (record { at = r; near = levelBefore (v .near) (v .far); far = v .far })
+      → Put (nameOf (syllableBy (classBefore m i) (v .levels .near)) ∷ []) out out′ (v .at) r
+      → Named m out out′ i v (record { at = r; levels = overVowel (v .levels) })
   named-vowel c p =
       let e = vowel-byte c in
       record {
@@ -96,7 +96,7 @@ module _ {m out : List ℕ} {i : ℕ} {v : Vowels} (ready : NameReady m out i v)
       }
 
   -- a mark puts none and is seen by the vowel before it
-  pub named-mark : classOf (getD m i 0) ≡ 1 → Named m out out i v (record { at = v .at; near = Stressed; far = v .far })
+  pub named-mark : classOf (getD m i 0) ≡ 1 → Named m out out i v (record { at = v .at; levels = overMark (v .levels) })
   named-mark c =
       let b = getD m i 0 in
       let t = by-class b (ready .steady .bytes i) in
@@ -121,9 +121,9 @@ module _ {m out : List ℕ} {i : ℕ} {v : Vowels} (ready : NameReady m out i v)
   break-room low n = rw (piece-break m (ready .steady) i (ready .within) (break-byte low n)) at (ready .room)
 
   -- it puts that name, and before it another word ends
-  pub named-break : {out′ : List ℕ} {r : ℕ} {far : Level} → classOf (getD m i 0) < 4 → (classOf (getD m i 0) ≡ 1 → ⊥)
-      → Put (incomplete (leftAt m i .p)) out out′ (v .at) r → far ≡ farLevel (markBefore m i)
-      → Named m out out′ i v (record { at = r; near = far; far = far })
+  pub named-break : {out′ : List ℕ} {r : ℕ} {l : Levels} → classOf (getD m i 0) < 4 → (classOf (getD m i 0) ≡ 1 → ⊥)
+      → Put (incomplete (leftAt m i .p)) out out′ (v .at) r → l ≡ wordEnd (markBefore m i)
+      → Named m out out′ i v (record { at = r; levels = l })
   named-break low n p e =
       let s = break-byte low n in
       record {
@@ -132,11 +132,11 @@ module _ {m out : List ℕ} {i : ℕ} {v : Vowels} (ready : NameReady m out i v)
       }
 
 -- the walk stands at place i: the names from there on are in the output
-pub record Naming (m out₀ out : List ℕ) (n i : ℕ) (v : Vowels) : Type 0 where
+pub record Naming (m out₀ out : List ℕ) (n i : ℕ) (v : NameState) : Type 0 where
   pub steady : Steady m
   pub total : n ≡ length (names m)
   pub within : i ≤ length m
-  pub levels : Levels m i (v .near) (v .far)
+  pub levels : LevelsAt m i (v .levels)
   pub room : n ≤ length out₀
   pub put : Put (namesAt m i) out₀ out n (v .at)
 
@@ -146,9 +146,9 @@ module _ {m : List ℕ} (steady : Steady m) where
   end-room total = omega (arith, names-from m steady (length m) (omega arith), ap length (names-end m steady))
 
   -- where the walk begins
-  pub naming-none : {out₀ out : List ℕ} {n at : ℕ} {far : Level} → n ≡ length (names m) → n ≤ length out₀
-      → Put (incomplete (leftAt m (length m) .p)) out₀ out n at → far ≡ farLevel (markBefore m (length m))
-      → Naming m out out n (length m) (record { at = at; near = far; far = far })
+  pub naming-none : {out₀ out : List ℕ} {n at : ℕ} {l : Levels} → n ≡ length (names m) → n ≤ length out₀
+      → Put (incomplete (leftAt m (length m) .p)) out₀ out n at → l ≡ wordEnd (markBefore m (length m))
+      → Naming m out out n (length m) (record { at = at; levels = l })
   naming-none total room p e =
       record {
         steady = steady;
@@ -160,14 +160,14 @@ module _ {m : List ℕ} (steady : Steady m) where
       }
 
 -- the output is as long as it was
-pub naming-length : {m out₀ out : List ℕ} {n i : ℕ} {v : Vowels} → Naming m out₀ out n i v → length out ≡ length out₀
+pub naming-length : {m out₀ out : List ℕ} {n i : ℕ} {v : NameState} → Naming m out₀ out n i v → length out ≡ length out₀
 naming-length s = put-length _ _ _ _ _ (s .room) (s .put)
 
 -- a place that is not the first has one before it
-pub naming-before : {m out₀ out : List ℕ} {n i : ℕ} {v : Vowels} → 0 < i → Naming m out₀ out n i v → Naming m out₀ out n (suc (i - 1)) v
+pub naming-before : {m out₀ out : List ℕ} {n i : ℕ} {v : NameState} → 0 < i → Naming m out₀ out n i v → Naming m out₀ out n (suc (i - 1)) v
 naming-before {i = i} z s = let e : suc (i - 1) ≡ i = omega arith in rw e s
 
-module _ {m out₀ out : List ℕ} {n i : ℕ} {v : Vowels} (at : Naming m out₀ out n (suc i) v) where
+module _ {m out₀ out : List ℕ} {n i : ℕ} {v : NameState} (at : Naming m out₀ out n (suc i) v) where
   -- a step can be taken
   pub naming-ready : NameReady m out i v
   naming-ready =
@@ -180,7 +180,7 @@ module _ {m out₀ out : List ℕ} {n i : ℕ} {v : Vowels} (at : Naming m out�
       }
 
   -- and after it the walk stands at the place before
-  pub naming-more : {out′ : List ℕ} {q : Vowels} → Named m out out′ i v q → Naming m out₀ out′ n i q
+  pub naming-more : {out′ : List ℕ} {q : NameState} → Named m out out′ i v q → Naming m out₀ out′ n i q
   naming-more s =
       record {
         steady = at .steady;
@@ -192,6 +192,6 @@ module _ {m out₀ out : List ℕ} {n i : ℕ} {v : Vowels} (at : Naming m out�
       }
 
 -- at the first place all names are in the output, whose rest is as it was before the walk's first codes
-pub naming-all : {m codes out out₀ out′ : List ℕ} {n at : ℕ} {v : Vowels} → n ≤ length out → Put codes out out₀ n at → Naming m out₀ out′ n 0 v
+pub naming-all : {m codes out out₀ out′ : List ℕ} {n at : ℕ} {v : NameState} → n ≤ length out → Put codes out out₀ n at → Naming m out₀ out′ n 0 v
     → out′ ≡ names m ++ drop n out
 naming-all {m} room p s = rw (put-rest _ _ _ _ _ room p) at (put-first _ _ _ _ _ (s .total) (rw (names-start m (s .steady)) at (s .put)))

@@ -8,15 +8,15 @@ use native.Mathlib.Omega.{arith}
 use lib.Dec.{eqb, leb}
 use lib.ListN.{length, getD, drop}
 use borrow.Author.Tests.{eqb-true, leb-true, le-leb}
-use Rattle.spec.specs.Alphabet.{«ь», «е», «ё», «и», «ю», «я»}
+use Rattle.spec.specs.Alphabet.{gap, pause, mark, «ь», «е», «ё», «и», «ю», «я»}
 use Rattle.spec.specs.Tables.{among, Entry, _gives_, entry}
 use Rattle.spec.specs.Letters.{Letter, between, small, plainVowels, softeningVowels, isBreak, isGap, isHardOnly, isPaired, isSoftOnly, isConsonant, isSign, isVowel, isMark, firstByte, beginsWithMark}
-use Rattle.spec.specs.Refusals.{vowelByte}
+use Rattle.spec.specs.Refusals.{vowelByte, signByte}
 use Rattle.message.specs.Classes.{classOf, isBreakClass, isSignClass, isLetterClass}
 use Rattle.spec.specs.Codes.{J}
 use Rattle.spec.specs.Elision.{elides}
 use Rattle.spec.specs.Syllables.{Facts, coverAfter, incomplete, levelOf, syllableOf, nextStressed}
-use Rattle.spec.specs.Vowels.{byStress, byLevel, hardEnd, vowelSound, glides, writtenCode, softens}
+use Rattle.spec.specs.Vowels.{initial, byStress, byLevel, hardEnd, vowelSound, glides, writtenCode, softens}
 use Rattle.spec.specs.Voicing.{Tone, voiced, voiceless, asWritten, toneOf, toned, voicedCode, voicelessCode}
 use Rattle.spec.specs.Palatalization.{isSoft, firstCode}
 use Rattle.message.specs.Fused.{toneBefore, vowelCodes, consonantCode, letterCodes, fusedFrom}
@@ -30,84 +30,89 @@ use Rattle.laws.proofs.Classes.{among-same}
 use Rattle.message.proofs.Before.{vowel-before}
 use Rattle.message.proofs.Left.{left-letter, left-mark, left-break}
 use Rattle.message.proofs.Computed.{everything}
-use Rattle.transcriber.specs.Sounds.{classBefore, afterOf, afterClass, coverClass, levelBy, syllableBy, glideBy, hardBefore, hardCode, toneNo}
+use Rattle.transcriber.specs.Levels.{levelBy}
+use Rattle.transcriber.specs.Sounds.{byteBefore, classBefore, isHardOrPaired, Told, coverClass, syllableBy, glideBy, hardBefore, hardCode, toneNo}
 
--- what is asked of the last letter, 0 for none
-abbrev told : ℕ → List Bool
-told p =
-    eqb p 0 ∷ isHardOnly p ∷ isSoftOnly p ∷ isSign p ∷ (isConsonant p || isSign p) ∷ (isHardOnly p || isPaired p) ∷ eqb p «ь» ∷ []
+-- two functions that agree on the bytes that pass a test agree at each of them
+pub where-same : {A : Type 0} (t : ℕ → Bool) (f g : ℕ → A) (d : A) (b : ℕ) → map (λ x. cond (t x) (f x) d) (below 256) ≡ map (λ x. cond (t x) (g x) d) (below 256)
+    → b < 256 → t b ≡ true → f b ≡ g b
+where-same t f g d b e h k = rw k at (below-same (λ x. cond (t x) (f x) d) (λ x. cond (t x) (g x) d) 256 b e h)
 
--- what the class of the byte before answers
-abbrev tells : ℕ → List Bool
-tells k = isBreakClass k ∷ eqb k 6 ∷ eqb k 9 ∷ isSignClass k ∷ between 4 9 k ∷ between 6 8 k ∷ eqb k 5 ∷ []
+-- a test that only bytes of a list pass
+pub outside : (keys : List ℕ) (f : ℕ → Bool) (b : ℕ) → b < 256 → map (λ x. cond (among keys x) false (f x)) (below 256) ≡ map (λ _. false) (below 256)
+    → among keys b ≡ false → f b ≡ false
+outside keys f b h e k = rw k at (below-same (λ x. cond (among keys x) false (f x)) (λ _. false) 256 b e h)
 
--- the class k tells the class of the letter p
-record Class (p k : ℕ) : Type 0 where
-  start : eqb p 0 ≡ isBreakClass k
-  hardOnly : isHardOnly p ≡ eqb k 6
-  softOnly : isSoftOnly p ≡ eqb k 9
-  sign : isSign p ≡ isSignClass k
-  letters : (isConsonant p || isSign p) ≡ between 4 9 k
-  hards : (isHardOnly p || isPaired p) ≡ between 6 8 k
-  softSign : eqb p «ь» ≡ eqb k 5
-
--- so it does where the answers are the same
-class-told : (p k : ℕ) → told p ≡ tells k → Class p k
-class-told p k e = record { start = cc; hardOnly = cc; softOnly = cc; sign = cc; letters = cc; hards = cc; softSign = cc }
-
--- each byte that passes a test tells its letter, by one computation
-class-after : (test : ℕ → Bool) (p : ℕ → ℕ) (b : ℕ)
-    → map (λ x. cond (test x) (told (p x)) []) (below 256) ≡ map (λ x. cond (test x) (tells (classOf x)) []) (below 256)
-    → b < 256 → test b ≡ true → Class (p b) (classOf b)
-class-after test p b t h e =
-    class-told (p b) (classOf b) (rw e at (below-same (λ x. cond (test x) (told (p x)) []) (λ x. cond (test x) (tells (classOf x)) []) 256 b t h))
-
--- a letter does
-class-letter : (b : ℕ) → b < 256 → isLetterClass (classOf b) ≡ true → Class (small b) (classOf b)
+-- a letter is told by its byte
+told-letter : (b : ℕ) → b < 256 → isLetterClass (classOf b) ≡ true → Told b (small b)
 unfolding everything
-class-letter b = class-after (λ x. isLetterClass (classOf x)) small b refl
+told-letter b h e =
+    record {
+      first = where-same (λ x. isLetterClass (classOf x)) (λ x. initial (small x)) isBreak true b refl h e;
+      hardOnly = refl;
+      softOnly = refl;
+      consonant = refl;
+      sign = refl;
+      hard = refl;
+      softSign = refl;
+    }
+
+-- what is asked of the last letter, 0 for none, but for whether there is one
+abbrev asked : ℕ → List Bool
+asked q = isHardOnly q ∷ isSoftOnly q ∷ isConsonant q ∷ isSign q ∷ isHardOrPaired q ∷ eqb q «ь» ∷ []
+
+-- the answers are the same for the byte and the letter
+told-asked : (p q : ℕ) → initial q ≡ isBreak p → asked q ≡ asked (small p) → Told p q
+told-asked p q f e = record { first = f; hardOnly = cc; softOnly = cc; consonant = cc; sign = cc; hard = cc; softSign = cc }
 
 -- a break tells that there is none
-class-break : (b : ℕ) → b < 256 → isBreak b ≡ true → Class 0 (classOf b)
+told-break : (b : ℕ) → b < 256 → isBreak b ≡ true → Told b 0
 unfolding everything
-class-break b = class-after isBreak (λ _. 0) b refl
+told-break b h e = told-asked b 0 (sym e) (where-same isBreak (λ _. asked 0) (λ x. asked (small x)) [] b refl h e)
 
 -- a mark, before which a vowel stands, tells of a vowel
-class-mark : (b : ℕ) → b < 256 → isMark b ≡ true → (p : ℕ) → isVowel p ≡ true → Class p (classOf b)
+told-mark : (b : ℕ) → isMark b ≡ true → (q : ℕ) → isVowel q ≡ true → Told b q
 unfolding everything
-class-mark b h k p e =
-    let c : classOf b ≡ 1 = eqb-true _ _ (sym (by-class b h .mark) ∙ k) in
-    rw c (class-told p 1 (among-same told (λ _. tells 1) (plainVowels ++ softeningVowels) p refl e))
+told-mark b k q e =
+    let vowels = plainVowels ++ softeningVowels in
+    rw (eqb-true b mark k) (told-asked mark q (among-same initial (λ _. false) vowels q refl e) (among-same asked (λ _. asked mark) vowels q refl e))
 
--- and the start of the message is as a pause
-class-none : Class 0 3
+-- no byte but a break is a gap
+within-gap : (b : ℕ) → b < 256 → isBreak b ≡ false → isGap b ≡ false
 unfolding everything
-class-none = class-told 0 3 refl
+within-gap b h s = not-both (λ x. not (isBreak x)) isGap b refl h (ap not s)
 
--- a gap is the one byte of class 2
-gap-class : (b : ℕ) → b < 256 → isGap b ≡ eqb (classOf b) 2
-unfolding everything
-gap-class b h = below-same isGap (λ x. eqb (classOf x) 2) 256 b refl h
+-- a hard boundary stands only before a word's first letter
+gap-break : (g h y : Bool) → ((g || h) && (g && y)) ≡ (g && y)
+gap-break true h y = refl
+gap-break false true y = refl
+gap-break false false y = refl
 
--- so no other byte than a break has it
-within-class : (b : ℕ) → b < 256 → isBreak b ≡ false → eqb (classOf b) 2 ≡ false
+pub boundary-initial : (m : List ℕ) (i p q : ℕ) → p ≡ byteBefore m i → Told p q → (initial q && hardBefore m i) ≡ hardBefore m i
+unfolding hardBefore isBreak isGap
+boundary-initial m i p q e t =
+    let b = byteBefore m i in
+    rw (t .first, e) (gap-break (eqb b gap) (eqb b pause) (hardEnd (small (byteBefore m (i - 2))) (small (byteBefore m (i - 1)))))
+
+-- consonants and signs are the classes from 4 to 9
+letters-class : (b : ℕ) → b < 256 → (isConsonant (small b) || isSign (small b)) ≡ between 4 9 (classOf b)
 unfolding everything
-within-class b h s = not-both (λ x. not (isBreak x)) (λ x. eqb (classOf x) 2) b refl h (ap not s)
+letters-class b h = below-same (λ x. isConsonant (small x) || isSign (small x)) (λ x. between 4 9 (classOf x)) 256 b refl h
 
 -- ь is no break
-sign-break : (b : ℕ) → b < 256 → eqb (classOf b) 5 ≡ true → isBreak b ≡ false
+sign-break : (b : ℕ) → b < 256 → eqb (small b) «ь» ≡ true → isBreak b ≡ false
 unfolding everything
-sign-break b = not-both (λ x. eqb (classOf x) 5) isBreak b refl
+sign-break b = not-both (λ x. eqb (small x) «ь») isBreak b refl
 
 -- and no mark
-sign-mark : (b : ℕ) → b < 256 → eqb (classOf b) 5 ≡ true → isMark b ≡ false
+sign-mark : (b : ℕ) → b < 256 → eqb (small b) «ь» ≡ true → isMark b ≡ false
 unfolding everything
-sign-mark b = not-both (λ x. eqb (classOf x) 5) isMark b refl
+sign-mark b = not-both (λ x. eqb (small x) «ь») isMark b refl
 
--- no letter is no hard end
-none-hard : hardEnd 0 0 ≡ false
+-- at the start of the message no word ends
+start-hard : hardEnd 0 0 ≡ hardEnd (small pause) (small pause)
 unfolding everything
-none-hard = refl
+start-hard = refl
 
 -- е ё ю я are class 11
 iotated-class : (b : ℕ) → b < 256 → among («е» ∷ «ё» ∷ «ю» ∷ «я» ∷ []) (small b) ≡ eqb (classOf b) 11
@@ -120,52 +125,57 @@ unfolding everything
 i-class b h = below-same (λ x. eqb (small x) «и») (λ x. eqb (classOf x) 12) 256 b refl h
 
 module _ (m : List ℕ) (steady : Steady m) where
-  -- the class of the byte before a place tells the class of the last letter of the word
-  class-at : (i : ℕ) → i ≤ length m → Class (leftAt m i .p) (classBefore m i)
-  unfolding leftAt classBefore letterOf
-  class-at zero h = class-none
-  class-at (suc i) h = by (isBreak b) refl (isMark b) refl
+  -- the byte before a place is a byte
+  before-small : (i : ℕ) → byteBefore m i < 256
+  unfolding byteBefore
+  before-small zero = omega arith
+  before-small (suc i) = steady .bytes i
+
+  -- it tells the last letter of the word
+  pub told-at : (i : ℕ) → i ≤ length m → Told (byteBefore m i) (leftAt m i .p)
+  unfolding leftAt byteBefore letterOf isBreak
+  told-at zero h = told-break pause (omega arith) refl
+  told-at (suc i) h = by (isBreak b) refl (isMark b) refl
     where
       b : ℕ
       b = getD m i 0
 
-      by : (s : Bool) → isBreak b ≡ s → (k : Bool) → isMark b ≡ k → Class (leftAt m (suc i) .p) (classOf b)
-      by true s k e = rw (left-break m i h s) (class-break b (steady .bytes i) s)
-      by false s true e = rw (left-mark m i h e) (class-mark b (steady .bytes i) e (leftAt m i .p) (vowel-before m steady i h e))
-      by false s false e = rw (left-letter m i h s e) (class-letter b (steady .bytes i) (letter-class b (steady .bytes i) s e (steady .named i h)))
+      by : (s : Bool) → isBreak b ≡ s → (k : Bool) → isMark b ≡ k → Told b (leftAt m (suc i) .p)
+      by true s k e = rw (left-break m i h s) (told-break b (steady .bytes i) s)
+      by false s true e = rw (left-mark m i h e) (told-mark b e (leftAt m i .p) (vowel-before m steady i h e))
+      by false s false e = rw (left-letter m i h s e) (told-letter b (steady .bytes i) (letter-class b (steady .bytes i) s e (steady .named i h)))
 
-  -- what the vowel rows ask of it
-  pub after-raw : (i : ℕ) → i ≤ length m → afterOf (leftAt m i .p) ≡ afterClass (classBefore m i)
-  unfolding afterOf afterClass
-  after-raw i h = let k = class-at i h in rw (k .start, k .hardOnly, k .softOnly)
+  -- its class tells whether that is a consonant or a sign
+  letters-raw : (i : ℕ) → i ≤ length m → (isConsonant (leftAt m i .p) || isSign (leftAt m i .p)) ≡ between 4 9 (classBefore m i)
+  letters-raw i h = let t = told-at i h in rw (t .consonant, t .sign) (letters-class (byteBefore m i) (before-small i))
 
-  -- whether a syllable after it is covered
+  -- so whether a syllable after it is covered
   pub cover-raw : (i : ℕ) → i ≤ length m → coverAfter (leftAt m i .p) ≡ coverClass (classBefore m i)
-  unfolding coverAfter coverClass
-  cover-raw i h = rw (class-at i h .letters)
+  unfolding coverAfter
+  cover-raw i h = rw (letters-raw i h)
 
   -- whether it is a sign
   pub sign-raw : (i : ℕ) → i ≤ length m → isSign (leftAt m i .p) ≡ isSignClass (classBefore m i)
-  sign-raw i h = class-at i h .sign
+  unfolding signByte
+  sign-raw i h = told-at i h .sign ∙ by-class (byteBefore m i) (before-small i) .sign
 
-  -- the word before a place ends hard if its last letter is a hard or paired consonant, or ь after a hard one
-  end-raw : (i : ℕ) → i ≤ length m
-      → hardEnd (leftAt m i .q) (leftAt m i .p) ≡ (between 6 8 (classBefore m i) || (eqb (classBefore m i) 5 && eqb (classBefore m (i - 1)) 6))
-  unfolding leftAt classBefore hardEnd
-  end-raw zero h = none-hard
+  -- the two bytes before a place tell whether the word before it ends hard
+  end-raw : (i : ℕ) → i ≤ length m → hardEnd (leftAt m i .q) (leftAt m i .p) ≡ hardEnd (small (byteBefore m (i - 1))) (small (byteBefore m i))
+  unfolding leftAt byteBefore hardEnd
+  end-raw zero h = start-hard
   end-raw (suc i) h =
-      let k = class-at (suc i) h in
+      let k = told-at (suc i) h in
       let e : suc i - 1 ≡ i = omega arith in
-      rw (← or-assoc, k .hards, k .softSign, e) (by (eqb (classOf b) 5) refl)
+      rw (← or-assoc, ← or-assoc, k .hard, k .softSign, e) (by (eqb (small b) «ь») refl)
     where
       b : ℕ
       b = getD m i 0
 
       x : Bool
-      x = between 6 8 (classOf b)
+      x = isHardOrPaired (small b)
 
-      by : (t : Bool) → eqb (classOf b) 5 ≡ t → (x || (t && isHardOnly (leftAt m (suc i) .q))) ≡ (x || (t && eqb (classBefore m i) 6))
-      by true d = rw (left-letter m i h (sign-break b (steady .bytes i) d) (sign-mark b (steady .bytes i) d), class-at i (omega arith) .hardOnly)
+      by : (t : Bool) → eqb (small b) «ь» ≡ t → (x || (t && isHardOnly (leftAt m (suc i) .q))) ≡ (x || (t && isHardOnly (small (byteBefore m i))))
+      by true d = rw (left-letter m i h (sign-break b (steady .bytes i) d) (sign-mark b (steady .bytes i) d), told-at i (omega arith) .hardOnly)
       by false d = refl
 
   -- before a mark stands a vowel, and no boundary
@@ -179,7 +189,7 @@ module _ (m : List ℕ) (steady : Steady m) where
 
   -- whether a hard boundary stands before the place
   pub hard-raw : (i : ℕ) → i ≤ length m → leftAt m i .hard ≡ hardBefore m i
-  unfolding leftAt classBefore hardBefore
+  unfolding leftAt byteBefore hardBefore isGap
   hard-raw zero h = refl
   hard-raw (suc i) h = by (isBreak b) refl (isMark b) refl
     where
@@ -190,26 +200,26 @@ module _ (m : List ℕ) (steady : Steady m) where
       by true s k e =
           let x : suc i - 1 ≡ i = omega arith in
           let y : suc i - 2 ≡ i - 1 = omega arith in
-          rw (left-break m i h s, gap-class b (steady .bytes i), end-raw i (omega arith), x, y)
-      by false s true e = rw (left-mark m i h e, mark-soft i h e, within-class b (steady .bytes i) s)
-      by false s false e = rw (left-letter m i h s e, within-class b (steady .bytes i) s)
+          rw (left-break m i h s, end-raw i (omega arith), x, y)
+      by false s true e = rw (left-mark m i h e, mark-soft i h e, within-gap b (steady .bytes i) s)
+      by false s false e = rw (left-letter m i h s e, within-gap b (steady .bytes i) s)
 
   -- whether a syllable is left incomplete after it
   pub incomplete-raw : (i : ℕ) → i ≤ length m → incomplete (leftAt m i .p) ≡ cond (between 4 9 (classBefore m i)) (7 ∷ []) []
   unfolding incomplete
-  incomplete-raw i h = rw (class-at i h .letters)
+  incomplete-raw i h = rw (letters-raw i h)
 
   -- the syllable of the letter at place i
   pub syllable-raw : (i : ℕ) → i < length m
       → syllableOf (factsAt m i) (leftAt m i .p) (letterOf m i) (wordAt m (suc i))
       ≡ syllableBy (classBefore m i) (levelBy (beginsWithMark (drop (suc i) m)) (nextStressed (wordAt m (suc i))) (markedAt m i))
-  unfolding syllableOf levelOf letterOf syllableBy levelBy
+  unfolding syllableOf levelOf letterOf levelBy
   syllable-raw i h = rw (cover-raw i (omega arith))
 
   -- whether the vowel there has a glide
   pub glide-raw : (i : ℕ) → i < length m → vowelByte (getD m i 0) ≡ true → (cover : Cover)
       → glides (leftAt m i .p) cover (small (getD m i 0)) ≡ glideBy (classOf (getD m i 0)) cover (classBefore m i)
-  unfolding glides glideBy
+  unfolding glides
   glide-raw i h v cover = let t = steady .bytes i in rw (sign-raw i (omega arith), iotated-class (getD m i 0) t, i-class (getD m i 0) t)
 
 -- are the codes of a table at most n?

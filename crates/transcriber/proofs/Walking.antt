@@ -15,12 +15,11 @@ use Rattle.spec.specs.Syllables.{syllableOf}
 use Rattle.spec.specs.Vowels.{vowelSound, softens}
 use Rattle.spec.specs.Voicing.{Tone, voiced, voiceless, asWritten}
 use Rattle.spec.specs.Refusals.{vowelByte, signByte, consonantByte}
-use Rattle.message.specs.Classes.{classOf, isVowelClass, elidedAt}
+use Rattle.message.specs.Classes.{classOf, isBreakClass, isSignClass, isConsonantClass, isVowelClass, elidedAt}
 use Rattle.message.specs.Fused.{toneBefore, vowelCodes, consonantCode, letterCodes}
 use Rattle.message.specs.Places.{Steady, leftAt, letterOf, markBefore, factsAt, tapeAt, wordAt, toneAt, soundAt, codesAt, toneAfter, soundAfter}
 use Rattle.spec.specs.declared.Cover.{Cover}
 use Rattle.spec.specs.declared.Level.{Level}
-use Rattle.spec.specs.declared.Level.the-variants.{Stressed}
 use Rattle.spec.specs.declared.Syllable.{Syllable}
 use Rattle.message.proofs.Bytes.{below, below-same, by-class, not-both}
 use Rattle.message.proofs.Computed.{everything}
@@ -28,12 +27,15 @@ use Rattle.message.proofs.Left.{mark-within}
 use Rattle.message.proofs.StepTable.{class-spoken}
 use Rattle.message.proofs.Silent.{elided-at}
 use Rattle.message.proofs.Tail.{tape-letter, tape-mark, tape-break, word-letter, word-mark, word-break, tone-letter, sound-letter, tone-mark, sound-mark, tone-break, sound-break}
-use Rattle.transcriber.specs.Sounds.{classBefore, Sounds, afterClass, farLevel, syllableBy, glideBy, hardBefore, toneNo, toneBy, gapTone}
-use Rattle.transcriber.specs.Walk.{Levels, Put, pieceAt, Ready, Stepped}
+use Rattle.transcriber.specs.Sounds.{byteBefore, classBefore, AtBoundary, rowOf, syllableBy, glideBy, hardBefore, toneNo, toneBy, gapTone}
+use Rattle.transcriber.specs.Walk.{VowelAt, syllableAt, Sung, sungCodes, Put, pieceAt, Ready, ReadyFor, Stepped}
+use Rattle.transcriber.specs.declared.levels.Levels.{Levels}
+use Rattle.transcriber.specs.Levels.{wordEnd, overMark, LevelsAt}
 use Rattle.transcriber.specs.declared.Right.{Right}
+use Rattle.transcriber.specs.declared.Vowel.{Vowel}
 use Rattle.transcriber.proofs.Putting.{put-none}
-use Rattle.transcriber.proofs.Levels.{levels-syllable, levels-letter, levels-mark, levels-break}
-use Rattle.transcriber.proofs.Raw.{after-raw, hard-raw, glide-raw, vowel-tone, vowel-small, sound-small}
+use Rattle.transcriber.proofs.Levelling.{levels-syllable, levels-letter, levels-mark, levels-break}
+use Rattle.transcriber.proofs.Raw.{where-same, told-at, hard-raw, glide-raw, vowel-tone, vowel-small, sound-small}
 
 -- a tone is told by its number
 pub tone-by : (t : Tone) → toneBy (toneNo t) ≡ t
@@ -64,11 +66,6 @@ gap-tone c = by (isVoicing c) (isDevoicing c)
     by true d = refl
     by false true = refl
     by false false = refl
-
--- two functions that agree on the bytes that pass a test agree at each of them
-where-same : {A : Type 0} (t : ℕ → Bool) (f g : ℕ → A) (d : A) (b : ℕ) → map (λ x. cond (t x) (f x) d) (below 256) ≡ map (λ x. cond (t x) (g x) d) (below 256)
-    → b < 256 → t b ≡ true → f b ≡ g b
-where-same t f g d b e h k = rw k at (below-same (λ x. cond (t x) (f x) d) (λ x. cond (t x) (g x) d) 256 b e h)
 
 -- a consonant does not soften the letter before it
 pub consonant-softens : (b : ℕ) → b < 256 → consonantByte b ≡ true → softens (small b) ≡ false
@@ -189,14 +186,14 @@ module _ (m out : List ℕ) (i : ℕ) (r : Right) (a : Ready m out i r) where
   right-sound = rw (a .stands .sound) (sound-split (soundAt m (suc i)) (softens (firstByte (wordAt m (suc i)))) (sound-small m (suc i)))
 
   -- a letter that is no vowel leaves the levels as they are
-  pub plain-levels : {s : Bool} → Spelt (getD m i 0) s false → Levels m i (r .near) (r .far)
+  pub plain-levels : {s : Bool} → Spelt (getD m i 0) s false → LevelsAt m i (r .levels)
   plain-levels p = levels-letter m (a .steady) i (a .within) (p .break) (p .mark) (p .sings) (a .stands .levels)
 
   -- a letter has put its codes, and left of it stands the same word with these sounds and this letter first
-  pub letter-steps : {s v : Bool} {near : Level} (out′ codes : List ℕ) (at tone sound seen : ℕ) (soft : Bool) → Spelt (getD m i 0) s v → codesAt m i ≡ codes
+  pub letter-steps : {s v : Bool} {l : Levels} (out′ codes : List ℕ) (at tone sound seen : ℕ) (soft : Bool) → Spelt (getD m i 0) s v → codesAt m i ≡ codes
       → tone ≡ toneNo (toneAfter codes (toneAt m (suc i))) → sound ≡ soundAfter codes (soundAt m (suc i)) → soft ≡ softens (small (getD m i 0))
-      → seen ≡ sound + cond soft 64 0 → Levels m i near (r .far) → Put codes out out′ (r .at) at
-      → Stepped m out out′ i r (record { at = at; tone = tone; sound = seen; near = near; far = r .far })
+      → seen ≡ sound + cond soft 64 0 → LevelsAt m i l → Put codes out out′ (r .at) at
+      → Stepped m out out′ i r (record { at = at; tone = tone; sound = seen; levels = l })
   unfolding pieceAt firstByte letterOf
   letter-steps out′ codes at tone sound seen soft p e t c s n x q =
       let y = a .steady in
@@ -213,12 +210,12 @@ module _ (m out : List ℕ) (i : ℕ) (r : Right) (a : Ready m out i r) where
 
   -- a letter that is not heard puts nothing
   pub silent-steps : {s : Bool} {seen : ℕ} (soft : Bool) → Spelt (getD m i 0) s false → codesAt m i ≡ [] → soft ≡ softens (small (getD m i 0)) → seen ≡ r .sound % 64 + cond soft 64 0
-      → Stepped m out out i r (record { at = r .at; tone = r .tone; sound = seen; near = r .near; far = r .far })
+      → Stepped m out out i r (record { at = r .at; tone = r .tone; sound = seen; levels = r .levels })
   silent-steps soft p e s n = letter-steps out [] (r .at) (r .tone) (r .sound % 64) _ soft p e (a .stands .tone) (right-sound .1) s n (plain-levels p) (put-none out (r .at))
 
   -- nor does a mark, which is seen by the letter before it
   pub mark-steps : isMark (getD m i 0) ≡ true
-      → Stepped m out out i r (record { at = r .at; tone = r .tone; sound = r .sound; near = Stressed; far = r .far })
+      → Stepped m out out i r (record { at = r .at; tone = r .tone; sound = r .sound; levels = overMark (r .levels) })
   unfolding pieceAt
   mark-steps k =
       let y = a .steady in
@@ -235,11 +232,11 @@ module _ (m out : List ℕ) (i : ℕ) (r : Right) (a : Ready m out i r) where
       }
 
   -- a break has put its mark, and left of it stands another word
-  pub break-steps : (out′ : List ℕ) (at tone : ℕ) (far : Level) (pause : Bool) → isBreak (getD m i 0) ≡ true → eqb (classOf (getD m i 0)) 3 ≡ pause
-      → tone ≡ cond pause 64 (gapTone (r .sound % 64)) → far ≡ farLevel (markBefore m i) → Put (cond pause 63 0 ∷ []) out out′ (r .at) at
-      → Stepped m out out′ i r (record { at = at; tone = tone; sound = 0; near = far; far = far })
+  pub break-steps : (out′ : List ℕ) (at tone : ℕ) (l : Levels) (pause : Bool) → isBreak (getD m i 0) ≡ true → eqb (classOf (getD m i 0)) 3 ≡ pause
+      → tone ≡ cond pause 64 (gapTone (r .sound % 64)) → l ≡ wordEnd (markBefore m i) → Put (cond pause 63 0 ∷ []) out out′ (r .at) at
+      → Stepped m out out′ i r (record { at = at; tone = tone; sound = 0; levels = l })
   unfolding pieceAt
-  break-steps out′ at tone far pause b k t e q =
+  break-steps out′ at tone l pause b k t e q =
       let y = a .steady in
       let h = a .within in
       let w = word-break m y i h b in
@@ -259,63 +256,88 @@ module _ (m out : List ℕ) (i : ℕ) (r : Right) (a : Ready m out i r) where
       codes-consonant m (a .steady) i (a .within) (spelt-consonant (getD m i 0) (a .steady .bytes i) k) e
       ∙ rw (c, right-sound .0, right-sound .1, a .stands .tone, tone-by (toneAt m (suc i)))
 
--- what is found of a vowel: its byte's, the class before it, its syllable, the boundary, and its sound
-pub record Sung (m : List ℕ) (i : ℕ) (r : Right) (k vowel : ℕ) (hard : Bool) (s : Syllable) : Type 0 where
-  pub letter : vowelByte (getD m i 0) ≡ true
-  pub before : k ≡ classBefore m i
-  pub syllable : s ≡ syllableBy k (r .near)
-  pub boundary : hard ≡ hardBefore m i
-  pub sound : Sounds hard (afterClass k) (s .level) (small (getD m i 0)) vowel
+-- a step may be taken at a byte whose class is within bounds
+pub ready-for : (lo hi : ℕ) {m out : List ℕ} {i c : ℕ} {r : Right} → Ready m out i r → c ≡ classOf (getD m i 0) → lo ≤ c → c ≤ hi → ReadyFor (between lo hi) m out i c r
+ready-for lo hi {c = c} a e l h = record { ready = a; class = e; kind = between-true lo hi c l h }
+
+-- the byte's own test, which its class tells
+tested : {test : ℕ → Bool} {m out : List ℕ} {i c : ℕ} {r : Right} → ReadyFor test m out i c r → test (classOf (getD m i 0)) ≡ true
+tested {test} a = ap test (sym (a .class)) ∙ a .kind
+
+-- a break
+pub ready-break : {m out : List ℕ} {i c : ℕ} {r : Right} → ReadyFor isBreakClass m out i c r → isBreak (getD m i 0) ≡ true
+ready-break {m} {i = i} a = by-class (getD m i 0) (a .ready .steady .bytes i) .break ∙ tested a
+
+-- a consonant
+pub ready-consonant : {m out : List ℕ} {i c : ℕ} {r : Right} → ReadyFor isConsonantClass m out i c r → consonantByte (getD m i 0) ≡ true
+ready-consonant {m} {i = i} a = by-class (getD m i 0) (a .ready .steady .bytes i) .consonant ∙ tested a
+
+-- a sign is not heard
+pub sign-steps : {m out : List ℕ} {i c seen : ℕ} {r : Right} → ReadyFor isSignClass m out i c r → seen ≡ r .sound % 64 + cond (eqb c 5) 64 0
+    → Stepped m out out i r (record { at = r .at; tone = r .tone; sound = seen; levels = r .levels })
+sign-steps {m} {out} {i} {c} {seen} {r} a n =
+    let b = getD m i 0 in
+    let t = a .ready .steady .bytes i in
+    let e : signByte b ≡ true = by-class b t .sign ∙ tested a in
+    let p = spelt-sign b t e in
+    silent-steps m out i r (a .ready) (eqb c 5) p (codes-sign m (a .ready .steady) i (a .ready .within) p) (rw (a .class) (sym (sign-softens b t e))) n
+
+-- nor is a silent consonant
+pub elided-steps : {m out : List ℕ} {i c seen : ℕ} {r : Right} → ReadyFor isConsonantClass m out i c r → elidedAt m i ≡ true → seen ≡ r .sound % 64 + 0
+    → Stepped m out out i r (record { at = r .at; tone = r .tone; sound = seen; levels = r .levels })
+elided-steps {m} {out} {i} {c} {seen} {r} a e n =
+    let b = getD m i 0 in
+    let t = a .ready .steady .bytes i in
+    let k = ready-consonant a in
+    let p = spelt-consonant b t k in
+    silent-steps m out i r (a .ready) false p (codes-silent m (a .ready .steady) i (a .ready .within) p e) (sym (consonant-softens b t k)) n
 
 -- the glide leaves an obstruent before it as written
 pub glide-tone : toneNo (toneBefore J) ≡ 0
 unfolding everything toneNo
 glide-tone = refl
 
--- only a softening vowel has one
-pub glide-softens : (c k : ℕ) (cover : Cover) → glideBy c cover k ≡ true → not (eqb c 10) ≡ true
-unfolding glideBy
-glide-softens c k cover g = by (eqb c 10) refl
-  where
-    by : (t : Bool) → eqb c 10 ≡ t → not t ≡ true
-    by true e = absurd (false≢true (rw (eqb-true c 10 e) at g))
-    by false e = refl
-
-module _ (m out : List ℕ) (i : ℕ) (r : Right) (a : Ready m out i r) (k vowel : ℕ) (hard : Bool) (s : Syllable) (f : Sung m i r k vowel hard s) where
-  -- the sound is the vowel's in its word
-  sung-sound : vowel ≡ vowelSound (leftAt m i .hard) (leftAt m i .p) s (small (getD m i 0))
-  sung-sound =
-      rw (hard-raw m (a .steady) i (omega (arith, a .within)), ← f .boundary)
-      (f .sound (leftAt m i .p) (s .cover) (after-raw m (a .steady) i (omega (arith, a .within)) ∙ ap afterClass (sym (f .before))))
-
-  -- it is a small code
-  pub sung-small : vowel < 64
-  sung-small = rw sung-sound (vowel-small (leftAt m i .hard) (leftAt m i .p) s (small (getD m i 0)))
-
-  -- so is the syllable
-  sung-syllable : syllableOf (factsAt m i) (leftAt m i .p) (letterOf m i) (wordAt m (suc i)) ≡ s
-  sung-syllable =
-      rw (f .syllable, f .before) (levels-syllable m (a .steady) i (a .within) (f .letter) (a .stands .levels))
-
-  -- it leaves an obstruent before it as written
-  pub sung-tone : toneNo (toneBefore vowel) ≡ 0
+-- the codes of a vowel: their first leaves an obstruent before it as written, and is small
+module _ (m : List ℕ) (i : ℕ) (v : Vowel) (f : Sung m i v) where
+  pub sung-tone : (t : Tone) → toneNo (toneAfter (sungCodes v) t) ≡ 0
   unfolding toneNo
-  sung-tone = rw (sung-sound, vowel-tone (leftAt m i .hard) (leftAt m i .p) s (small (getD m i 0)))
+  sung-tone t = by (v .glide)
+    where
+      by : (g : Bool) → toneNo (toneAfter (cond g (J ∷ v .sound ∷ []) (v .sound ∷ [])) t) ≡ 0
+      by true = glide-tone
+      by false = rw (f .sound, vowel-tone (leftAt m i .hard) (leftAt m i .p) (syllableAt m i) (small (getD m i 0)))
 
-  -- and its codes are the sound, and the glide before it where it has one
-  pub sung-codes : codesAt m i ≡ cond (glideBy (classOf (getD m i 0)) (s .cover) k) (J ∷ vowel ∷ []) (vowel ∷ [])
+  pub sung-first : (s : ℕ) → (cond (v .glide) J (v .sound) ≡ soundAfter (sungCodes v) s) × (cond (v .glide) J (v .sound) < 64)
+  sung-first s = by (v .glide)
+    where
+      by : (g : Bool) → (cond g J (v .sound) ≡ soundAfter (cond g (J ∷ v .sound ∷ []) (v .sound ∷ [])) s) × (cond g J (v .sound) < 64)
+      by true = (refl, omega arith)
+      by false = (refl, rw (f .sound) (vowel-small (leftAt m i .hard) (leftAt m i .p) (syllableAt m i) (small (getD m i 0))))
+
+-- where a step may be taken
+pub vowel-ready : {m out : List ℕ} {i c : ℕ} {r : Right} → ReadyFor isVowelClass m out i c r → VowelAt m i c (r .levels .near)
+vowel-ready a = record { within = a .ready .within; steady = a .ready .steady; class = a .class; vowel = a .kind; level = a .ready .stands .levels .near }
+
+-- what is found of a vowel by the byte before it, its class, and the level is what the passes make of it
+module _ (m : List ℕ) (i c : ℕ) (level : Level) (a : VowelAt m i c level) where
+  pub vowel-sings : vowelByte (getD m i 0) ≡ true
+  vowel-sings = by-class (getD m i 0) (a .steady .bytes i) .vowel ∙ ap isVowelClass (sym (a .class)) ∙ a .vowel
+
+  pub sung-by : (p k : ℕ) (s : Syllable) (v : Vowel) → p ≡ byteBefore m i → k ≡ classOf p → s ≡ syllableBy k level
+      → AtBoundary (rowOf (small (getD m i 0))) (hardBefore m i) p s (v .sound) → v .glide ≡ glideBy c (s .cover) k → Sung m i v
+  sung-by p k s v e f y o g =
+      let h : i ≤ length m = omega (arith, a .within) in
+      let z : syllableAt m i ≡ s = rw (y, f, e) (levels-syllable m (a .steady) i (a .within) vowel-sings (a .level)) in
+      record {
+        sound = rw (z, hard-raw m (a .steady) i h) (o (leftAt m i .p) (rw e (told-at m (a .steady) i h)));
+        glide = rw (z, glide-raw m (a .steady) i (a .within) vowel-sings (s .cover), ← a .class, ← e, ← f) g;
+      }
+
+  -- its codes then
+  pub sung-codes : (v : Vowel) → Sung m i v → codesAt m i ≡ sungCodes v
   unfolding vowelCodes
-  sung-codes =
+  sung-codes v s =
       let b = getD m i 0 in
       let t = a .steady .bytes i in
-      let e = class-spoken m i t (λ e. true≢false (sym (f .letter) ∙ by-class b t .vowel ∙ ap isVowelClass e)) in
-      codes-vowel m (a .steady) i (a .within) (spelt-vowel b t (f .letter)) e
-      ∙ rw (sung-syllable, glide-raw m (a .steady) i (a .within) (f .letter) (s .cover), ← f .before, ← sung-sound)
-
-  -- there is room for the sound
-  pub sung-room : 0 < r .at
-  sung-room = omega (arith, letter-room m out i r a _ (spelt-vowel (getD m i 0) (a .steady .bytes i) (f .letter)) sung-codes, by (glideBy (classOf (getD m i 0)) (s .cover) k))
-    where
-      by : (t : Bool) → 0 < length (cond t (J ∷ vowel ∷ []) (vowel ∷ []))
-      by true = omega arith
-      by false = omega arith
+      let e = class-spoken m i t (λ e. true≢false (sym vowel-sings ∙ by-class b t .vowel ∙ ap isVowelClass e)) in
+      codes-vowel m (a .steady) i (a .within) (spelt-vowel b t vowel-sings) e ∙ rw (← s .sound, ← s .glide)

@@ -1,94 +1,82 @@
 -- How the code finds a letter's codes: by the class of the byte before it and one table. These are not the paper's words: `proofs/` shows that they agree with them.
 -- Assumes nothing: these are definitions.
-use Prim.Native.Nat.{ℕ, zero, suc, _+_, _-_, _*_, _/_, _%_, _^_}
+use Prim.Native.Nat.{ℕ, zero, suc, _+_, _-_, _*_, _/_, _%_, _<_}
 use mathlib.Core.Path.{_≡_}
-use mathlib.Core.Bool.{Bool, false, cond, _&&_, _||_, not}
+use mathlib.Core.Bool.{Bool, true, false, cond, _&&_, _||_}
 use mathlib.Core.List.{List, [], _∷_, _++_}
 use lib.Dec.{eqb, leb}
 use lib.ListN.{getD}
-use Rattle.spec.specs.Alphabet.{«б», «в», «г», «д», «з», «к», «л», «м», «н», «п», «р», «с», «т», «ф», «х»}
+use Rattle.spec.specs.Alphabet.{pause, «б», «в», «г», «д», «з», «к», «л», «м», «н», «п», «р», «с», «т», «ф», «х», «ь»}
+use Rattle.spec.specs.Refusals.{consonantByte}
 use Rattle.spec.specs.Tables.{_gives_, entry}
-use Rattle.spec.specs.Letters.{between, isHardOnly, isSoftOnly, isObstruent}
-use Rattle.spec.specs.Codes.{Б', В', Г', Х1', Д', Ж', З', К', Л', М', Н', П', Р', С', Т', Ф', Х', Ч, Ч1, Щ, isVoicing}
-use Rattle.spec.specs.Vowels.{vowelSound, bare, writtenCode}
+use Rattle.spec.specs.Letters.{between, small, isBreak, isGap, isHardOnly, isPaired, isSoftOnly, isConsonant, isSign, isObstruent}
+use Rattle.spec.specs.Codes.{Б', В', Г', Х1', Д', Ж', З', К', Л', М', Н', П', Р', С', Т', Ф', Х', Ч, Ч1, Щ, А1, А2, Э2, isVoicing}
+use Rattle.spec.specs.Vowels.{initial, hardEnd, vowelSound, bare, writtenCode}
 use Rattle.message.specs.Fused.{toneBefore}
 use Rattle.spec.specs.Voicing.{Tone, voiced, voiceless, asWritten, toned}
 use Rattle.message.specs.Classes.{classOf, isBreakClass, isSignClass, tabulate}
 use Rattle.spec.specs.declared.Cover.{Cover}
 use Rattle.spec.specs.declared.Cover.the-variants.{Bare, Covered}
 use Rattle.spec.specs.declared.Level.{Level}
-use Rattle.spec.specs.declared.Level.the-variants.{Stressed, First, Second}
 use Rattle.spec.specs.declared.Syllable.{Syllable}
-use Rattle.transcriber.specs.declared.After.{After}
-use Rattle.transcriber.specs.declared.After.the-variants.{Start, HardOnly, SoftOnly, Other}
 
--- the class of the byte before place i; 3, as after a pause, at the start of the message
-unfoldable pub classBefore : List ℕ → ℕ → ℕ
-classBefore m zero = 3
-classBefore m (suc i) = classOf (getD m i 0)
+-- the byte before place i; a pause at the start of the message
+unfoldable pub byteBefore : List ℕ → ℕ → ℕ
+byteBefore m zero = pause
+byteBefore m (suc i) = getD m i 0
 
--- what the vowel rows ask of the letter before
-unfoldable pub afterOf : ℕ → After
-afterOf p = cond (eqb p 0) Start (cond (isHardOnly p) HardOnly (cond (isSoftOnly p) SoftOnly Other))
+-- its class
+abbrev pub classBefore : List ℕ → ℕ → ℕ
+classBefore m i = classOf (byteBefore m i)
 
--- the same, told by a class
-unfoldable pub afterClass : ℕ → After
-afterClass k = cond (isBreakClass k) Start (cond (eqb k 6) HardOnly (cond (eqb k 9) SoftOnly Other))
+-- a letter of class T or P
+abbrev pub isHardOrPaired : ℕ → Bool
+isHardOrPaired q = isHardOnly q || isPaired q
 
-unfoldable pub coverClass : ℕ → Cover
+-- What the byte p before a place tells of the letter q before it, 0 for none: p is q, small or capital, or a break where there is none, or the mark of a vowel.
+pub record Told (p q : ℕ) : Type 0 where
+  pub first : initial q ≡ isBreak p
+  pub hardOnly : isHardOnly q ≡ isHardOnly (small p)
+  pub softOnly : isSoftOnly q ≡ isSoftOnly (small p)
+  pub consonant : isConsonant q ≡ isConsonant (small p)
+  pub sign : isSign q ≡ isSign (small p)
+  pub hard : isHardOrPaired q ≡ isHardOrPaired (small p)
+  pub softSign : eqb q «ь» ≡ eqb (small p) «ь»
+
+-- r is what f says of every letter that the byte p before tells
+abbrev pub After : ℕ → (ℕ → ℕ) → ℕ → Type 0
+After p f r = (q : ℕ) → Told p q → r ≡ f q
+
+-- the sound of a row whose line does not ask for the boundary, and of one whose line does
+abbrev pub Anyway : (Bool → ℕ → Syllable → ℕ) → ℕ → Syllable → ℕ → Type 0
+Anyway row p s r = (hard : Bool) → After p (λ q. row hard q s) r
+
+abbrev pub AtBoundary : (Bool → ℕ → Syllable → ℕ) → Bool → ℕ → Syllable → ℕ → Type 0
+AtBoundary row hard p s r = After p (λ q. row hard q s) r
+
+-- the row of the vowel b
+abbrev pub rowOf : ℕ → Bool → ℕ → Syllable → ℕ
+rowOf b hard q s = vowelSound hard q s b
+
+-- level 2 of rows а and о
+abbrev pub secondА : ℕ → ℕ
+secondА q = cond (initial q) А1 (cond (isSoftOnly q) Э2 А2)
+
+-- a syllable is covered after a consonant or a sign
+abbrev pub coverClass : ℕ → Cover
 coverClass k = cond (between 4 9 k) Covered Bare
 
--- r is the sound of the vowel b after every letter of this kind
-abbrev pub Sounds : Bool → After → Level → ℕ → ℕ → Type 0
-Sounds hard after level b r = (p : ℕ) (cover : Cover) → afterOf p ≡ after → r ≡ vowelSound hard p (record { cover = cover; level = level }) b
-
--- how many bits stand right of the first digit of a group of a vowel row, for each kind of letter before
-unfoldable pub groupPlace : Bool → After → ℕ
-groupPlace hard Start = cond hard 56 44
-groupPlace hard HardOnly = 32
-groupPlace hard SoftOnly = 20
-groupPlace hard Other = 8
-
--- and how many fewer right of a level's digit
-unfoldable pub levelPlace : Level → ℕ
-levelPlace Stressed = 0
-levelPlace First = 4
-levelPlace Second = 8
-
--- the hexadecimal digit of a row with this many bits right of it
-unfoldable pub digitOf : ℕ → ℕ → ℕ
-digitOf row place = row / 2 ^ place % 16
-
--- the digits of a row are the sounds of the vowel b
-abbrev pub Row : ℕ → ℕ → Type 0
-Row b row = (hard : Bool) (after : After) (level : Level) → Sounds hard after level b (digitOf row (groupPlace hard after - levelPlace level))
-
--- the level of a vowel that is stressed or not, with the next vowel stressed or not, in a word that has a mark or not
-unfoldable pub levelBy : Bool → Bool → Bool → Level
-levelBy stressed ahead marked = cond stressed Stressed (cond (ahead || not marked) First Second)
-
--- the level of a vowel that has no mark near
-unfoldable pub farLevel : Bool → Level
-farLevel marked = cond marked Second First
-
--- the level of the vowel before one of this level
-unfoldable pub levelBefore : Level → Level → Level
-levelBefore Stressed far = First
-levelBefore First far = far
-levelBefore Second far = far
-
-unfoldable pub syllableBy : ℕ → Level → Syllable
+-- the syllable of a vowel of this level after a byte of class k
+abbrev pub syllableBy : ℕ → Level → Syllable
 syllableBy k level = record { cover = coverClass k; level = level }
 
 -- a vowel of class c has a glide after a byte of class k
-unfoldable pub glideBy : ℕ → Cover → ℕ → Bool
+abbrev pub glideBy : ℕ → Cover → ℕ → Bool
 glideBy c cover k = (eqb c 11 && (bare cover || isSignClass k)) || (eqb c 12 && isSignClass k)
 
--- a hard boundary stands before place i: a gap there, and before it a hard or paired consonant, or ь after a hard one
+-- a hard boundary stands before place i: a gap there, and before it the end of a word, which the two bytes before tell
 unfoldable pub hardBefore : List ℕ → ℕ → Bool
-hardBefore m i =
-    eqb (classBefore m i) 2
-    && (between 6 8 (classBefore m (i - 1)) || (eqb (classBefore m (i - 1)) 5 && eqb (classBefore m (i - 2)) 6))
+hardBefore m i = isGap (byteBefore m i) && hardEnd (small (byteBefore m (i - 2))) (small (byteBefore m (i - 1)))
 
 -- tones by number: where the tone's codes begin in the table
 unfoldable pub toneNo : Tone → ℕ
@@ -102,6 +90,12 @@ toneBy n = cond (eqb n 32) voiced (cond (eqb n 64) voiceless asWritten)
 -- the tone of a word's last obstruent before a gap and a word that begins with this sound, 0 for none
 unfoldable pub gapTone : ℕ → ℕ
 gapTone c = toneNo (cond (isVoicing c) voiced voiceless)
+
+-- what a consonant's code is read from: its byte, a tone's number, and a sound
+pub record Heard (b n s : ℕ) : Type 0 where
+  pub letter : consonantByte b ≡ true
+  pub tone : toneNo (toneBy n) ≡ n
+  pub sound : s < 128
 
 -- a consonant's hard code under a tone
 unfoldable pub hardCode : Tone → ℕ → ℕ

@@ -2,36 +2,66 @@
 -- Assumes nothing: these are definitions.
 use Prim.Native.Nat.{ℕ, suc, _+_, _<_, _≤_}
 use mathlib.Core.Path.{_≡_}
-use mathlib.Core.Bool.{cond}
+use mathlib.Core.Bool.{Bool, true, cond}
 use mathlib.Core.List.{List, [], _∷_, _++_}
 use lib.ListN.{length, take, drop, getD}
-use Rattle.spec.specs.Letters.{firstByte, beginsWithMark, isBreak, isMark}
-use Rattle.spec.specs.Codes.{markOf}
-use Rattle.spec.specs.Syllables.{nextStressed, incomplete, nameOf, syllableOf}
-use Rattle.spec.specs.Vowels.{softens}
+use Rattle.spec.specs.Letters.{small, firstByte, isBreak, isMark}
+use Rattle.spec.specs.Codes.{J, markOf}
+use Rattle.spec.specs.Syllables.{incomplete, nameOf, syllableOf}
+use Rattle.spec.specs.Vowels.{vowelSound, glides, softens}
 use Rattle.spec.specs.Tape.{tape}
 use Rattle.spec.specs.Refusals.{vowelByte}
-use Rattle.message.specs.Places.{Steady, tapeAt, leftAt, letterOf, wordAt, toneAt, soundAt, markedAt, factsAt, codesAt}
+use Rattle.message.specs.Places.{Steady, tapeAt, leftAt, letterOf, wordAt, toneAt, soundAt, factsAt, codesAt}
+use Rattle.message.specs.Classes.{classes, classOf, isVowelClass}
 use Rattle.spec.specs.declared.Level.{Level}
-use Rattle.transcriber.specs.Sounds.{levelBy, farLevel, toneNo}
+use Rattle.spec.specs.declared.Syllable.{Syllable}
+use Rattle.transcriber.specs.Levels.{nearLevel, LevelsAt}
+use Rattle.transcriber.specs.Sounds.{soundTable, toneNo}
 use Rattle.transcriber.specs.declared.Right.{Right}
-use Rattle.transcriber.specs.declared.Vowels.{Vowels}
+use Rattle.transcriber.specs.declared.Vowel.{Vowel}
+use Rattle.transcriber.specs.declared.NameState.{NameState}
 
--- At place i: n is the level of the next vowel of the word to the left, and f that of a vowel of the word that has no mark near.
-pub record Levels (m : List ℕ) (i : ℕ) (n f : Level) : Type 0 where
-  pub near : n ≡ levelBy (beginsWithMark (drop i m)) (nextStressed (wordAt m i)) (markedAt m i)
-  pub far : f ≡ farLevel (markedAt m i)
+-- the lent tables are the two
+pub record Lent (t s : List ℕ) : Type 0 where
+  pub byte : t ≡ classes
+  pub sound : s ≡ soundTable
+
+-- a byte of class c stands at place i
+pub record ClassAt (m : List ℕ) (i c : ℕ) : Type 0 where
+  pub within : i < length m
+  pub bytes : (j : ℕ) → getD m j 0 < 256
+  pub class : c ≡ classOf (getD m i 0)
 
 -- r says what stands right of place i
 pub record Stands (m : List ℕ) (i : ℕ) (r : Right) : Type 0 where
   pub tone : r .tone ≡ toneNo (toneAt m i)
   pub sound : r .sound ≡ soundAt m i + cond (softens (firstByte (wordAt m i))) 64 0
-  pub levels : Levels m i (r .near) (r .far)
+  pub levels : LevelsAt m i (r .levels)
 
 -- these codes were put right before place at, and the rest of the output is as it was
 pub record Put (codes out out′ : List ℕ) (at r : ℕ) : Type 0 where
   pub place : r + length codes ≡ at
   pub bytes : out′ ≡ take r out ++ (codes ++ drop at out)
+
+-- a vowel of class c may be sung at place i: n is the level of its syllable
+pub record VowelAt (m : List ℕ) (i c : ℕ) (n : Level) : Type 0 where
+  pub within : i < length m
+  pub steady : Steady m
+  pub class : c ≡ classOf (getD m i 0)
+  pub vowel : isVowelClass c ≡ true
+  pub level : n ≡ nearLevel m (suc i)
+
+-- the syllable of the vowel at place i
+abbrev pub syllableAt : List ℕ → ℕ → Syllable
+syllableAt m i = syllableOf (factsAt m i) (leftAt m i .p) (letterOf m i) (wordAt m (suc i))
+
+-- v is what passes 2 and 3 make of the vowel at place i
+pub record Sung (m : List ℕ) (i : ℕ) (v : Vowel) : Type 0 where
+  pub sound : v .sound ≡ vowelSound (leftAt m i .hard) (leftAt m i .p) (syllableAt m i) (small (getD m i 0))
+  pub glide : v .glide ≡ glides (leftAt m i .p) (syllableAt m i .cover) (small (getD m i 0))
+
+abbrev pub sungCodes : Vowel → List ℕ
+sungCodes v = cond (v .glide) (J ∷ v .sound ∷ []) (v .sound ∷ [])
 
 -- what the byte at place i puts on the tape
 unfoldable pub pieceAt : List ℕ → ℕ → List ℕ
@@ -44,6 +74,12 @@ pub record Ready (m out : List ℕ) (i : ℕ) (r : Right) : Type 0 where
   pub stands : Stands m (suc i) r
   pub room : length (pieceAt m i) ≤ r .at
   pub place : r .at ≤ length out
+
+-- so that its byte is of class c, which passes a test
+pub record ReadyFor (test : ℕ → Bool) (m out : List ℕ) (i c : ℕ) (r : Right) : Type 0 where
+  pub ready : Ready m out i r
+  pub class : c ≡ classOf (getD m i 0)
+  pub kind : test c ≡ true
 
 -- and it was: q stands there, and the byte's piece is on the tape
 pub record Stepped (m out out′ : List ℕ) (i : ℕ) (r q : Right) : Type 0 where
@@ -70,15 +106,28 @@ pub record MayWalk (m out : List ℕ) (start to : ℕ) (r : Right) : Type 0 wher
 unfoldable pub namePiece : List ℕ → ℕ → List ℕ
 namePiece m i =
     cond (isBreak (getD m i 0)) (incomplete (leftAt m i .p))
-    (cond (vowelByte (getD m i 0)) (nameOf (syllableOf (factsAt m i) (leftAt m i .p) (letterOf m i) (wordAt m (suc i))) ∷ []) [])
+    (cond (vowelByte (getD m i 0)) (nameOf (syllableAt m i) ∷ []) [])
 
-pub record NameReady (m out : List ℕ) (i : ℕ) (v : Vowels) : Type 0 where
+pub record NameReady (m out : List ℕ) (i : ℕ) (v : NameState) : Type 0 where
   pub within : i < length m
   pub steady : Steady m
-  pub levels : Levels m (suc i) (v .near) (v .far)
+  pub levels : LevelsAt m (suc i) (v .levels)
   pub room : length (namePiece m i) ≤ v .at
   pub place : v .at ≤ length out
 
-pub record Named (m out out′ : List ℕ) (i : ℕ) (v q : Vowels) : Type 0 where
-  pub levels : Levels m i (q .near) (q .far)
+-- at a vowel
+pub record VowelNamed (m out : List ℕ) (i : ℕ) (v : NameState) : Type 0 where
+  pub ready : NameReady m out i v
+  pub vowel : isVowelClass (classOf (getD m i 0)) ≡ true
+
+-- at the end of a word, where there is room for an incomplete syllable's name
+pub record WordEnd (m out : List ℕ) (i at : ℕ) : Type 0 where
+  pub within : i ≤ length m
+  pub steady : Steady m
+  pub room : length (incomplete (leftAt m i .p)) ≤ at
+  pub place : at ≤ length out
+
+-- its names were put
+pub record Named (m out out′ : List ℕ) (i : ℕ) (v q : NameState) : Type 0 where
+  pub levels : LevelsAt m i (q .levels)
   pub put : Put (namePiece m i) out out′ (v .at) (q .at)

@@ -1,88 +1,78 @@
 // The naming operation: one walk over the message from its end, which writes the syllable names from their end.
 ghost use mathlib.Core.Path.{_≡_};
-ghost use mathlib.Core.Bool.{true};
 ghost use mathlib.Core.List.{_++_};
-ghost use Prim.Native.Nat.{_<_, _≤_};
-ghost use lib.ListN.{length, drop, getD};
-ghost use Rattle.message.specs.Classes.{classes, classOf, isVowelClass};
+ghost use Prim.Native.Nat.{_≤_};
+ghost use lib.ListN.{length, drop};
+ghost use Rattle.message.specs.Classes.{classes};
 ghost use Rattle.spec.specs.Syllables.{incomplete};
 ghost use Rattle.spec.specs.Tape.{names};
 ghost use Rattle.message.specs.Places.{Steady, leftAt};
 ghost use Rattle.spec.specs.Answers.{NamePromise};
-ghost use Rattle.transcriber.specs.Walk.{Put, NameReady, Named};
-use crate::Vowels;
-use crate::sounds::far_level;
-use crate::sounds::level_before;
-use crate::sounds::name_of;
-use crate::sounds::syllable_by;
-use crate::tape::put;
-use crate::tape::refused;
-use crate::walk::class_before;
-use crate::walk::mark_before;
+ghost use Rattle.transcriber.specs.Walk.{Put, WordEnd, NameReady, VowelNamed, Named};
+use crate::NameState;
+use crate::answers::refused;
+use crate::before::class_before;
+use crate::classes;
+use crate::classes::ClassTable;
+use crate::levels::at_word_end;
+use crate::levels::over_mark;
+use crate::levels::over_vowel;
+use crate::output::put;
+use crate::syllables;
+use crate::syllables::is_consonant_or_sign;
+use crate::syllables::name_of;
+use crate::syllables::syllable_by;
 use message::check::check;
 use message::classify::class_of;
 use message::classify::class_table;
 use spec::Answer;
 use spec::Checked;
-use spec::Level;
 use spec::Refusal;
 
 // The end of a word, at place i: letters after its last vowel are an incomplete syllable.
-fn put_end(m: &[u8], i: usize, at: usize, out: &mut [u8], t: &[u8; 256]) -> usize
-    requires { ⌜ (now t ≡ classes) × (i ≤ length (now m)) × Steady (now m) × (length (incomplete (leftAt (now m) i .p)) ≤ at) × (at ≤ length (now out)) ⌝ }
+fn put_end(m: &[u8], i: usize, at: usize, out: &mut [u8], t: &ClassTable) -> usize
+    requires { ⌜ (now t ≡ classes) × WordEnd (now m) (now out) i at ⌝ }
     ensures { λ r. ⌜ Put (incomplete (leftAt (now (m .entry)) i .p)) (now (out .entry)) (now (out .exit)) at r ⌝ }
 {
-    let k = class_before(m, i, t);
-    if k < 4 {
-        return at;
+    if is_consonant_or_sign(class_before(m, i, t)) {
+        return put(out, at, syllables::INCOMPLETE);
     }
-    if 9 < k {
-        return at;
-    }
-    put(out, at, 7)
+    at
 }
 
 // The vowel at place i names its syllable.
-fn put_name(m: &[u8], i: usize, v: Vowels, out: &mut [u8], t: &[u8; 256]) -> Vowels
-    requires { ⌜ (now t ≡ classes) × (isVowelClass (classOf (getD (now m) i 0)) ≡ true) × NameReady (now m) (now out) i v ⌝ }
+fn put_name(m: &[u8], i: usize, v: NameState, out: &mut [u8], t: &ClassTable) -> NameState
+    requires { ⌜ (now t ≡ classes) × VowelNamed (now m) (now out) i v ⌝ }
     ensures { λ q. ⌜ Named (now (m .entry)) (now (out .entry)) (now (out .exit)) i v q ⌝ }
 {
-    let k = class_before(m, i, t);
-    let level = v.near;
-    let far = v.far;
-    let at = put(out, v.at, name_of(syllable_by(k, level)));
-    let near = level_before(level, far);
-    Vowels { at, near, far }
+    let l = v.levels;
+    let level = l.near;
+    let s = syllable_by(class_before(m, i, t), level);
+    let at = put(out, v.at, name_of(s));
+    let levels = over_vowel(l);
+    NameState { at, levels }
 }
 
 // The byte at place i.
-fn step(m: &[u8], i: usize, v: Vowels, out: &mut [u8], t: &[u8; 256]) -> Vowels
+fn step(m: &[u8], i: usize, v: NameState, out: &mut [u8], t: &ClassTable) -> NameState
     requires { ⌜ (now t ≡ classes) × NameReady (now m) (now out) i v ⌝ }
     ensures { λ q. ⌜ Named (now (m .entry)) (now (out .entry)) (now (out .exit)) i v q ⌝ }
 {
     let c = class_of(m[i], t);
-    if 10 <= c {
+    if classes::VOWEL <= c {
         return put_name(m, i, v, out, t);
     }
-    if 4 <= c {
+    if classes::HARD_SIGN <= c {
         return v;
     }
     let at = v.at;
-    if c == 1 {
-        let far = v.far;
-        return Vowels {
-            at,
-            near: Level::Stressed,
-            far,
-        };
+    if c == classes::MARK {
+        let levels = over_mark(v.levels);
+        return NameState { at, levels };
     }
     let end = put_end(m, i, at, out, t);
-    let far = far_level(mark_before(m, i));
-    Vowels {
-        at: end,
-        near: far,
-        far,
-    }
+    let levels = at_word_end(m, i);
+    NameState { at: end, levels }
 }
 
 // Writes the names of an accepted message, n of them, at the start of the output.
@@ -93,8 +83,8 @@ fn fill_names(m: &[u8], out: &mut [u8], n: usize)
     let t = class_table();
     let mut i = m.len();
     let at = put_end(m, i, n, out, &t);
-    let far = far_level(mark_before(m, i));
-    let mut v = Vowels { at, near: far, far };
+    let levels = at_word_end(m, i);
+    let mut v = NameState { at, levels };
     while 0 < i {
         i -= 1;
         v = step(m, i, v, out, &t);

@@ -2,9 +2,20 @@
 ghost use mathlib.Core.Path.{_≡_};
 ghost use Rattle.transcriber.specs.Sounds.{soundTable};
 
+// Where the parts of the table begin, after the hard codes of the letters under each tone.
+pub const LETTER_GROUPS: usize = 96;
+
+pub const TONES: usize = 128;
+
+pub const SOUND_GROUPS: usize = 192;
+
+pub const PALATALIZED: usize = 320;
+
+pub type SoundTable = [u8; 496];
+
 // The hard codes of the letters а to я as written, voiced and voiceless, and their groups; the tone of each code; 16 times the group of each sound, which is 64 more
 // where its letter palatalizes; and for each group of sounds whether it palatalizes each group of letters.
-const SOUNDS: [u8; 496] = [
+const SOUNDS: SoundTable = [
     0, // а as written
     16, // б as written
     18, // в as written
@@ -503,7 +514,7 @@ const SOUNDS: [u8; 496] = [
     1, // unused 15 before palatalizing
 ];
 
-pub fn sound_table() -> [u8; 496]
+pub fn sound_table() -> SoundTable
     ensures { λ r. ⌜ r ≡ soundTable ⌝ }
 {
     SOUNDS

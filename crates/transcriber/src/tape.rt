@@ -1,188 +1,173 @@
 // The transcriber: one walk over the message from its end, which writes the tape from its end.
 ghost use mathlib.Core.Path.{_≡_};
-ghost use mathlib.Core.Bool.{true, false, cond};
-ghost use mathlib.Core.List.{[], _∷_};
-ghost use Prim.Native.Nat.{_+_, _%_, _<_, _≤_};
-ghost use lib.ListN.{length, getD};
-ghost use Rattle.message.specs.Classes.{classes, classOf, isBreakClass, isConsonantClass, isVowelClass, elidedAt};
+ghost use Prim.Native.Nat.{_≤_};
+ghost use lib.ListN.{length};
+ghost use Rattle.message.specs.Classes.{classes, isBreakClass, isConsonantClass, isVowelClass, elidedAt};
 ghost use Rattle.spec.specs.Tape.{tape};
 ghost use Rattle.message.specs.Places.{Steady};
-ghost use Rattle.spec.specs.Answers.{afterCheck, TranscribePromise};
-ghost use Rattle.transcriber.specs.Sounds.{soundTable, gapTone};
-ghost use Rattle.transcriber.specs.Walk.{Stands, Put, Ready, Stepped, MayWalk, Walked};
+ghost use Rattle.spec.specs.Answers.{TranscribePromise};
+ghost use Rattle.transcriber.specs.Sounds.{soundTable};
+ghost use Rattle.transcriber.specs.Walk.{Stands, Put, sungCodes, Lent, ClassAt, Ready, ReadyFor, Stepped, MayWalk, Walked};
 use crate::Right;
-use crate::sounds::after_class;
-use crate::sounds::consonant_code;
-use crate::sounds::far_level;
-use crate::sounds::has_glide;
-use crate::sounds::level_before;
-use crate::sounds::syllable_by;
-use crate::sounds::tone_before;
-use crate::sounds::vowel_sound;
+use crate::Vowel;
+pub use crate::answers::refused;
+use crate::before::class_before;
+use crate::classes;
+use crate::classes::ClassTable;
+use crate::codes;
+use crate::consonants::AS_WRITTEN;
+use crate::consonants::VOICELESS;
+use crate::consonants::consonant_code;
+use crate::consonants::seen_over;
+use crate::consonants::tone_at_gap;
+use crate::consonants::tone_before;
+use crate::levels::Levels;
+use crate::levels::at_word_end;
+use crate::levels::over_mark;
+use crate::levels::over_vowel;
+use crate::output::put;
+use crate::tables::SoundTable;
 use crate::tables::sound_table;
-use crate::walk::class_before;
-use crate::walk::hard_before;
-use crate::walk::mark_before;
+use crate::vowels::first_code;
+use crate::vowels::vowel_at;
 use message::check::check;
 use message::classify::class_of;
 use message::classify::class_table;
 use message::letters::is_elided;
 use spec::Answer;
 use spec::Checked;
-use spec::Level;
 use spec::Refusal;
 
-// Puts a code right before place at.
-pub fn put(out: &mut [u8], at: usize, code: u8) -> usize
-    requires { ⌜ (0 < at) × (at ≤ length (now out)) ⌝ }
-    ensures { λ r. ⌜ Put (code ∷ []) (now (out .entry)) (now (out .exit)) at r ⌝ }
-{
-    out[at - 1] = code;
-    at - 1
-}
-
-// How an obstruent at the end of a word sounds, where a gap and a word that begins with this sound follow: 32 is voiced, 64 voiceless.
-fn tone_at_gap(sound: usize, s: &[u8; 496]) -> usize
-    requires { ⌜ now s ≡ soundTable ⌝ }
-    ensures { λ r. ⌜ r ≡ gapTone (sound % 64) ⌝ }
-{
-    if tone_before(sound % 64, s) == 32 {
-        return 32;
-    }
-    64
-}
-
-// A break puts its mark, and left of it stands another word.
-fn put_break(m: &[u8], i: usize, c: usize, r: Right, out: &mut [u8], s: &[u8; 496]) -> Right
-    requires { ⌜ (now s ≡ soundTable) × (c ≡ classOf (getD (now m) i 0)) × (isBreakClass c ≡ true) × Ready (now m) (now out) i r ⌝ }
+// A break puts its mark, and left of it stands another word. c is its class.
+fn put_break(m: &[u8], i: usize, c: usize, r: Right, out: &mut [u8], s: &SoundTable) -> Right
+    requires { ⌜ (now s ≡ soundTable) × ReadyFor isBreakClass (now m) (now out) i c r ⌝ }
     ensures { λ q. ⌜ Stepped (now (m .entry)) (now (out .entry)) (now (out .exit)) i r q ⌝ }
 {
-    let far = far_level(mark_before(m, i));
-    if c == 3 {
-        let at = put(out, r.at, 63);
+    let levels = at_word_end(m, i);
+    if c == classes::PAUSE {
+        let at = put(out, r.at, codes::PAUSE);
         return Right {
             at,
-            tone: 64, // voiceless
+            tone: VOICELESS,
             sound: 0,
-            near: far,
-            far,
+            levels,
         };
     }
     let tone = tone_at_gap(r.sound, s);
-    let at = put(out, r.at, 0);
+    let at = put(out, r.at, codes::GAP);
     Right {
         at,
         tone,
         sound: 0, // no letter of the next word palatalizes across the gap
-        near: far,
-        far,
+        levels,
     }
 }
 
 // A letter or mark that puts nothing leaves the tape as it is.
-fn pass_over(r: Right, sound: usize, near: Level) -> Right
-    ensures { λ q. ⌜ q ≡ record { at = r .at; tone = r .tone; sound = sound; near = near; far = r .far } ⌝ }
+fn pass_over(r: Right, sound: usize, levels: Levels) -> Right
+    ensures { λ q. ⌜ q ≡ record { at = r .at; tone = r .tone; sound = sound; levels = levels } ⌝ }
 {
     let at = r.at;
     let tone = r.tone;
-    let far = r.far;
     Right {
         at,
         tone,
         sound,
-        near,
-        far,
+        levels,
     }
 }
 
-// The sound right of a letter, seen from its left: 64 more where the letter palatalizes.
-fn seen_over(sound: usize, soft: bool) -> usize
-    requires { ⌜ sound < 128 ⌝ }
-    ensures { λ r. ⌜ r ≡ sound % 64 + cond soft 64 0 ⌝ }
+// Is the letter at place i, of class c, silent? т and д are only after с н р з, so another class before them spares the question.
+fn is_silent(m: &[u8], i: usize, c: usize, t: &ClassTable) -> bool
+    requires { ⌜ (now t ≡ classes) × ClassAt (now m) i c ⌝ }
+    ensures { λ r. ⌜ r ≡ elidedAt (now (m .entry)) i ⌝ }
 {
-    if soft {
-        return sound % 64 + 64;
+    if c != classes::DENTAL_STOP {
+        return false;
     }
-    sound % 64
+    if class_before(m, i, t) != classes::PAIRED {
+        return false;
+    }
+    is_elided(m, i)
 }
 
-// A consonant that is heard puts one code.
-fn put_consonant(m: &[u8], i: usize, r: Right, out: &mut [u8], s: &[u8; 496]) -> Right
-    requires { ⌜ (now s ≡ soundTable) × (isConsonantClass (classOf (getD (now m) i 0)) ≡ true) × (elidedAt (now m) i ≡ false) × Ready (now m) (now out) i r ⌝ }
+// A consonant puts one code if it is heard. c is its class.
+fn put_consonant(
+    m: &[u8],
+    i: usize,
+    c: usize,
+    r: Right,
+    out: &mut [u8],
+    t: &ClassTable,
+    s: &SoundTable,
+) -> Right
+    requires { ⌜ Lent (now t) (now s) × ReadyFor isConsonantClass (now m) (now out) i c r ⌝ }
     ensures { λ q. ⌜ Stepped (now (m .entry)) (now (out .entry)) (now (out .exit)) i r q ⌝ }
 {
+    let levels = r.levels;
+    if is_silent(m, i, c, t) {
+        return pass_over(r, seen_over(r.sound, false), levels);
+    }
     let code = consonant_code(m[i], r.tone, r.sound, s);
     let at = put(out, r.at, code as u8);
     let tone = tone_before(code, s);
-    let near = r.near;
-    let far = r.far;
     Right {
         at,
         tone,
         sound: code,
-        near,
-        far,
+        levels,
     }
+}
+
+// Puts the codes of a vowel.
+fn put_sung(out: &mut [u8], at: usize, v: Vowel) -> usize
+    requires { ⌜ (length (sungCodes v) ≤ at) × (at ≤ length (now out)) ⌝ }
+    ensures { λ r. ⌜ Put (sungCodes v) (now (out .entry)) (now (out .exit)) at r ⌝ }
+{
+    let place = put(out, at, v.sound);
+    if v.glide {
+        return put(out, place, codes::GLIDE);
+    }
+    place
 }
 
 // A vowel puts its sound, and a glide before it where it has one. c is its class.
-fn put_vowel(m: &[u8], i: usize, c: usize, r: Right, out: &mut [u8], t: &[u8; 256]) -> Right
-    requires { ⌜ (now t ≡ classes) × (c ≡ classOf (getD (now m) i 0)) × (isVowelClass c ≡ true) × Ready (now m) (now out) i r ⌝ }
+fn put_vowel(m: &[u8], i: usize, c: usize, r: Right, out: &mut [u8], t: &ClassTable) -> Right
+    requires { ⌜ (now t ≡ classes) × ReadyFor isVowelClass (now m) (now out) i c r ⌝ }
     ensures { λ q. ⌜ Stepped (now (m .entry)) (now (out .entry)) (now (out .exit)) i r q ⌝ }
 {
-    let k = class_before(m, i, t);
-    let level = r.near;
-    let far = r.far;
-    let syllable = syllable_by(k, level);
-    let hard = hard_before(m, i, k, t);
-    let vowel = vowel_sound(m[i], syllable, after_class(k), hard);
-    let at = put(out, r.at, vowel);
-    let near = level_before(level, far);
-    if has_glide(c, syllable, k) {
-        let before = put(out, at, 28);
-        return Right {
-            at: before,
-            tone: 0, // as written
-            sound: 92, // the glide, of a vowel that palatalizes
-            near,
-            far,
-        };
-    }
-    let sound = seen_over(vowel as usize, c != 10);
+    let l = r.levels;
+    let level = l.near;
+    let vowel = vowel_at(m, i, c, level, t);
+    let at = put_sung(out, r.at, vowel);
+    let sound = seen_over(first_code(vowel) as usize, c != classes::VOWEL);
+    let levels = over_vowel(l);
     Right {
         at,
-        tone: 0, // as written
+        tone: AS_WRITTEN,
         sound,
-        near,
-        far,
+        levels,
     }
 }
 
-// The byte at place i. т and д are silent only after с н р з, so another class than theirs before them spares the question.
-fn step(m: &[u8], i: usize, r: Right, out: &mut [u8], t: &[u8; 256], s: &[u8; 496]) -> Right
-    requires { ⌜ (now t ≡ classes) × (now s ≡ soundTable) × Ready (now m) (now out) i r ⌝ }
+// The byte at place i.
+fn step(m: &[u8], i: usize, r: Right, out: &mut [u8], t: &ClassTable, s: &SoundTable) -> Right
+    requires { ⌜ Lent (now t) (now s) × Ready (now m) (now out) i r ⌝ }
     ensures { λ q. ⌜ Stepped (now (m .entry)) (now (out .entry)) (now (out .exit)) i r q ⌝ }
 {
-    let near = r.near;
     let c = class_of(m[i], t);
-    if 10 <= c {
+    if classes::VOWEL <= c {
         return put_vowel(m, i, c, r, out, t);
     }
-    if c == 8 {
-        if class_before(m, i, t) == 7 {
-            if is_elided(m, i) {
-                return pass_over(r, seen_over(r.sound, false), near);
-            }
-        }
+    if classes::HARD_ONLY <= c {
+        return put_consonant(m, i, c, r, out, t, s);
     }
-    if 6 <= c {
-        return put_consonant(m, i, r, out, s);
+    let levels = r.levels;
+    if classes::HARD_SIGN <= c {
+        return pass_over(r, seen_over(r.sound, c == classes::SOFT_SIGN), levels);
     }
-    if 4 <= c {
-        return pass_over(r, seen_over(r.sound, c == 5), near);
-    }
-    if c == 1 {
-        return pass_over(r, r.sound, Level::Stressed);
+    if c == classes::MARK {
+        return pass_over(r, r.sound, over_mark(levels));
     }
     put_break(m, i, c, r, out, s)
 }
@@ -192,13 +177,12 @@ pub fn start(m: &[u8], end: usize) -> Right
     requires { ⌜ Steady (now m) ⌝ }
     ensures { λ r. ⌜ (r .at ≡ end) × Stands (now (m .entry)) (length (now (m .entry))) r ⌝ }
 {
-    let far = far_level(mark_before(m, m.len()));
+    let levels = at_word_end(m, m.len());
     Right {
         at: end,
-        tone: 64, // voiceless
+        tone: VOICELESS,
         sound: 0,
-        near: far,
-        far,
+        levels,
     }
 }
 
@@ -209,8 +193,8 @@ pub fn walk_back(
     from: usize,
     to: usize,
     r: Right,
-    t: &[u8; 256],
-    s: &[u8; 496],
+    t: &ClassTable,
+    s: &SoundTable,
 ) -> Right
     requires { ⌜ (now t ≡ classes) × (now s ≡ soundTable) × MayWalk (now m) (now out) from to r ⌝ }
     ensures { λ q. ⌜ Walked (now (m .entry)) (now (out .entry)) (now (out .exit)) from to r q ⌝ }
@@ -226,23 +210,13 @@ pub fn walk_back(
 
 // Puts the tape of an accepted message right before place end of the output, and tells where it begins. The tables are lent, since a copy of them
 // for each part of a message would cost more than the part.
-pub fn write_tape(m: &[u8], out: &mut [u8], end: usize, t: &[u8; 256], s: &[u8; 496]) -> usize
+pub fn write_tape(m: &[u8], out: &mut [u8], end: usize, t: &ClassTable, s: &SoundTable) -> usize
     requires { ⌜ (now t ≡ classes) × (now s ≡ soundTable) × Steady (now m) × (length (tape (now m)) ≤ end) × (end ≤ length (now out)) ⌝ }
     ensures { λ r. ⌜ Put (tape (now (m .entry))) (now (out .entry)) (now (out .exit)) end r ⌝ }
 {
     let r = start(m, end);
     let q = walk_back(m, out, m.len(), 0, r, t, s);
     q.at
-}
-
-// The check's refusal as an operation's answer.
-pub fn refused(c: Checked) -> Answer
-    ensures { λ r. ⌜ r ≡ afterCheck c (Answer.Written 0 0) ⌝ }
-{
-    match c {
-        Checked::Accepted(_) => Answer::Written { length: 0, live: 0 },
-        Checked::Refused(r) => Answer::Refused(r),
-    }
 }
 
 // The transcriber (paper 01): writes the tape of the message at the start of the lent output, or refuses and leaves every byte.

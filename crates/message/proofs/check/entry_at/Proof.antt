@@ -5,7 +5,7 @@ use mathlib.Core.Path.{_≡_}
 use native.Mathlib.Omega.{arith}
 use lib.ListN.{getD}
 use Rattle.message.specs.Classes.{classAt}
-use Rattle.message.specs.Steps.{packed}
+use Rattle.message.specs.Steps.{packed, stopUnit}
 use Rattle.message.proofs.Bytes.{by-class}
 use Rattle.message.proofs.StepTable.{entry-holds, unpacks, pairs-read}
 use borrow.Author.Needs.{needs}
@@ -25,7 +25,7 @@ read : (c : tie.After-class-of) → let a = c .before .before .before .args in g
 read c = let p = c .before .before .before .pre in rw (c .class-of .ensures) (pairs-read _ _ _ (p .tables .pairs) (p .kind) (omega (arith, class c)))
 
 -- and how small it is
-small : (c : tie.After-class-of) → let a = c .before .before .before .args in getD (a .s .now) (16 * (a .k) + c .class-of .result) 0 < 0x2000000
+small : (c : tie.After-class-of) → let a = c .before .before .before .args in getD (a .s .now) (16 * (a .k) + c .class-of .result) 0 < 32 * stopUnit
 small c = let s = c .before .before .before in rw (read c) (unpacks (s .args .k) (classAt (s .args .m .now) (s .args .i)) (entry-holds _ _ (s .pre .kind) (class c)) .small)
 
 shared-slice-read-class-of : tie.Need-shared-slice-read-class-of

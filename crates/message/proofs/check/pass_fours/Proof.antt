@@ -6,7 +6,8 @@ use lib.ListN.{getD}
 use Rattle.message.specs.Classes.{classAt}
 use Rattle.message.specs.declared.Seen.{Seen}
 use Rattle.message.specs.Steps.{Sees, fourAt, silentFour}
-use Rattle.message.proofs.Checking.{kind-small, sum-small, Adds, sees-four}
+use Rattle.message.proofs.Checking.{sum-small, Adds, sees-four}
+use Rattle.message.proofs.Faults.{kind-small}
 use Rattle.message.proofs.check.pass_fours.Statement.{statement}
 use Rattle.message.proofs.check.pass_fours.Tie as tie
 
@@ -44,7 +45,7 @@ returns c = let l = c .before .before .before in (l .loop .inv .0, l .loop .inv 
 weigh-four-requires : tie.Need-weigh-four-requires Inv-loop μ-loop
 weigh-four-requires c κs = let s = c .before .before .before .before .before in
     let f = four c in
-    record { classes = s .pre .tables .classes; within = s .pre .bytes _ (c .before .before .loop-test .taken); enough = rw (c .before .sum-four .ensures) (f .enough); plain = rw (c .before .sum-four .ensures) (f .plain) }
+    record { within = s .pre .bytes _ (c .before .before .loop-test .taken); enough = rw (c .before .sum-four .ensures) (f .enough); plain = rw (c .before .sum-four .ensures) (f .plain) }
 
 add-sum : tie.Need-add-sum Inv-loop μ-loop
 add-sum c = let l = c .before .before .before .before in

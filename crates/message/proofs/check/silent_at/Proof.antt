@@ -1,17 +1,29 @@
--- No other class is elided, and of т and д the test tells.
+-- No other byte is elided, and of т and д the test tells.
 -- Assumes nothing.
-use mathlib.Core.Path.{_∙_}
+use Prim.Native.Nat.{ℕ, _<_}
+use mathlib.Core.Path.{_≡_, refl, sym, _∙_}
 use native.Mathlib.Omega.{arith}
+use lib.Dec.{eqb}
+use lib.ListN.{getD}
+use borrow.Author.Tests.{eqb-false}
+use Rattle.message.specs.Classes.{classOf, isTOrD}
+use Rattle.message.proofs.Bytes.{below-same}
+use Rattle.message.proofs.Computed.{everything}
 use Rattle.message.proofs.StepTable.{class-spoken}
 use borrow.Author.Needs.{needs}
 use Rattle.message.proofs.check.silent_at.Statement.{statement}
 use Rattle.message.proofs.check.silent_at.Tie as tie
 
-shared-slice-read-class-of : tie.Need-shared-slice-read-class-of
-shared-slice-read-class-of c = search needs
+-- the bytes of т and д are those of their class
+t-or-d : (b : ℕ) → b < 256 → isTOrD b ≡ eqb (classOf b) 8
+unfolding everything
+t-or-d b h = below-same isTOrD (λ x. eqb (classOf x) 8) 256 b refl h
 
-class-of-requires : tie.Need-class-of-requires
-class-of-requires c κs = search needs
+shared-slice-read-is-t-or-d : tie.Need-shared-slice-read-is-t-or-d
+shared-slice-read-is-t-or-d c = search needs
+
+is-t-or-d-requires : tie.Need-is-t-or-d-requires
+is-t-or-d-requires c κs = search needs
 
 is-elided-requires : tie.Need-is-elided-requires
 is-elided-requires c κs = search needs
@@ -23,16 +35,16 @@ returns-2 : tie.Need-returns-2
 returns-2 c = (rw (← c .before .is-elided .ensures, c .if2 .left), omega arith)
 
 returns-3 : tie.Need-returns-3
-returns-3 c =
-    let s = c .before .before .before .before in
-    (rw (class-spoken (s .args .m .now) (s .args .i) (omega (arith, c .before .before .before .shared-slice-known .given (s .args .i))) (λ e. c .if1 .left (c .before .class-of .ensures ∙ e))), omega arith)
+returns-3 c = let s = c .before .before .before .before in
+    let h : getD (s .args .m .now) (s .args .i) 0 < 256 = omega (arith, c .before .before .before .shared-slice-known .given (s .args .i)) in
+    (rw (class-spoken (s .args .m .now) (s .args .i) h (eqb-false _ _ (sym (t-or-d _ h) ∙ sym (c .before .is-t-or-d .ensures) ∙ c .if1 .left))), omega arith)
 
 pub silent-at-spec : {M : Type 1} → statement M
 silent-at-spec =
     tie.close
     (tie.spec
-    shared-slice-read-class-of
-    class-of-requires
+    shared-slice-read-is-t-or-d
+    is-t-or-d-requires
     is-elided-requires
     returns
     returns-2

@@ -6,7 +6,8 @@ use native.Mathlib.Omega.{arith}
 use lib.ListN.{length, getD}
 use borrow.Author.Needs.{needs}
 use Rattle.message.specs.Steps.{Sees}
-use Rattle.message.proofs.Checking.{kind-small, sees-none, seen-fault, seen-all}
+use Rattle.message.proofs.Checking.{sees-none, seen-all}
+use Rattle.message.proofs.Faults.{seen-fault}
 use Rattle.message.proofs.check.walk.Statement.{statement}
 use Rattle.message.proofs.check.walk.Tie as tie
 
@@ -33,12 +34,12 @@ pass-fours-requires : tie.Need-pass-fours-requires Inv-loop μ-loop
 pass-fours-requires c κs = let l = c .before .before .before .before in
     let s = l .before .before in
     let n = c .before .lesser .ensures in
-    record { tables = s .pre .0; sees = l .loop .inv; short = s .pre .2; bytes = λ i h. omega (arith, c .fours-to .ensures i h, n .0); room = λ i h. omega (arith, c .fours-to .ensures i h, n .1) }
+    record { tables = s .pre .tables; sees = l .loop .inv; short = s .pre .short; bytes = λ i h. omega (arith, c .fours-to .ensures i h, n .0); room = λ i h. omega (arith, c .fours-to .ensures i h, n .1) }
 
 step-requires : tie.Need-step-requires Inv-loop μ-loop
 step-requires c κs = let p = c .before .before in
     let s = p .before .before .before .before .before .before .before in
-    record { tables = s .pre .0; sees = p .pass-fours .ensures .0; short = s .pre .2; byte = c .if2 .taken }
+    record { tables = s .pre .tables; sees = p .pass-fours .ensures .0; short = s .pre .short; byte = c .if2 .taken }
 
 enum-known-number : tie.Need-enum-known-number Inv-loop μ-loop
 enum-known-number c = search needs
@@ -50,7 +51,7 @@ returns c = let n = c .before in
     let l = p .before .before .before .before .before in
     let s = l .before .before in
     let q = rw (n .number .given .1) at (t .step .ensures) in
-    seen-fault (s .args .m .now) (bytes l) _ _ (t .before .if2 .taken) (s .pre .2) (p .pass-fours .ensures .0 .clear) (q .0) (q .1)
+    seen-fault (s .args .m .now) (bytes l) _ _ (t .before .if2 .taken) (s .pre .short) (p .pass-fours .ensures .0 .clear) (q .0) (q .1)
 
 enum-known-next : tie.Need-enum-known-next Inv-loop μ-loop
 enum-known-next c = search needs
@@ -74,16 +75,14 @@ loop-again-2 : tie.Need-loop-again-2 Inv-loop μ-loop
 loop-again-2 c = c .before .before .pass-fours .ensures .0
 
 finish-requires : tie.Need-finish-requires Inv-loop μ-loop
-finish-requires c κs = let l = c .before .before in
-    let s = l .before .before in
-    (s .pre .1, rw (l .loop .inv .kind) (kind-small (s .args .m .now) (bytes l) (l .loop .seen .at)))
+finish-requires c κs = c .before .before .before .before .pre .some
 
 returns-2 : tie.Need-returns-2 Inv-loop μ-loop
 returns-2 c = let e = c .before in
     let l = e .before .before in
     let s = l .before .before in
     let w = l .loop .inv in
-    c .finish .ensures ∙ seen-all (s .args .m .now) (l .loop .seen) (bytes l) (s .pre .1) (s .pre .2) w (omega (arith, w .within, e .if1 .left))
+    c .finish .ensures ∙ seen-all (s .args .m .now) (l .loop .seen) (bytes l) (s .pre .some) (s .pre .short) w (omega (arith, w .within, e .if1 .left))
 
 pub walk-spec : {M : Type 1} → statement M
 walk-spec =

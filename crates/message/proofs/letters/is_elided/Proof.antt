@@ -1,74 +1,106 @@
--- The four letters are those that the definition takes, and it asks for one of the five after the letter.
+-- `message::letters::is_elided` meets its contract: the bytes are those beside the place, and nothing is silent at the start or end of a message.
 -- Assumes nothing.
-use Prim.Native.Nat.{ℕ, _+_}
-use mathlib.Core.Path.{_≡_, sym, _∙_}
-use mathlib.Core.Bool.{Bool, true, false, _&&_, _||_, and-false, or-false, false≢true}
-use lib.Dec.{eqb}
-use Rattle.spec.specs.Alphabet.{«д», «з», «к», «н», «р», «с», «т», «ц», «ч», «ш»}
+use Prim.Native.Nat.{ℕ, _+_, _≤_}
+use mathlib.Core.Bool.{and-false}
+use native.Mathlib.Omega.{arith}
+use lib.ListN.{length, List·getD-eq-default}
+use Rattle.spec.specs.Letters.{small}
 use Rattle.spec.specs.Elision.{elidesT, elidesD, elidesAmong}
-use Rattle.message.specs.Classes.{letterAt, elidedAt, followsElided}
+use Rattle.message.specs.Classes.{letterAt, letterBefore, elidedAt}
+use Rattle.message.proofs.StepTable.{before-at}
 use borrow.Author.Needs.{needs}
 use Rattle.message.proofs.letters.is_elided.Statement.{statement}
 use Rattle.message.proofs.letters.is_elided.Tie as tie
 
--- before another letter none is elided
-heard : (p b c d : ℕ) → followsElided c ≡ false → elidesAmong p b c d ≡ false
-unfolding elidesAmong elidesT elidesD
-heard p b c d e = by (eqb c «н») (eqb c «с») (eqb c «ц») (eqb c «ч») (eqb c «ш») e
-  where
-    by : (n s ts ch sh : Bool) → (n || (s || (ts || (ch || sh)))) ≡ false
-        → (eqb b «т» && ((eqb p «с» && (s && eqb d «к» || n)) || (eqb p «н» && (s && eqb d «к»)))
-        || eqb b «д» && ((eqb p «р» && (ch || ts)) || ((eqb p «з» && (n || ts)) || (eqb p «н» && (ts || (s || sh && eqb d «т»)))))) ≡ false
-    by true s ts ch sh z = absurd (false≢true (sym z))
-    by false true ts ch sh z = absurd (false≢true (sym z))
-    by false false true ch sh z = absurd (false≢true (sym z))
-    by false false false true sh z = absurd (false≢true (sym z))
-    by false false false false true z = absurd (false≢true (sym z))
-    by false false false false false z = simp (and-false, or-false)
-
-add-letter-at : tie.Need-add-letter-at
-add-letter-at c = search needs
-
-letter-at-requires : tie.Need-letter-at-requires
-letter-at-requires c κs = search needs
-
-follows-elided-requires : tie.Need-follows-elided-requires
-follows-elided-requires c κs = search needs
-
-letter-before-requires : tie.Need-letter-before-requires
-letter-before-requires c κs = search needs
-
-letter-at-requires-2 : tie.Need-letter-at-requires-2
-letter-at-requires-2 c κs = search needs
-
-add-letter-at-2 : tie.Need-add-letter-at-2
-add-letter-at-2 c = search needs
-
-letter-at-requires-3 : tie.Need-letter-at-requires-3
-letter-at-requires-3 c κs = search needs
-
-elides-requires : tie.Need-elides-requires
-elides-requires c κs = search needs
-
 returns : tie.Need-returns
-unfolding elidedAt
-returns c = rw (← c .before .before .before .letter-before .ensures, ← c .before .before .letter-at2 .ensures, ← c .before .before .before .before .before .before .letter-at .ensures, ← c .before .letter-at3 .ensures) (c .elides .ensures)
+unfolding elidedAt elidesAmong elidesT elidesD letterBefore
+returns c = rw (c .if1 .taken) (simp and-false)
+
+add-if2 : tie.Need-add-if2
+add-if2 c = search needs
 
 returns-2 : tie.Need-returns-2
-unfolding elidedAt
-returns-2 c = let s = c .before .before .before .before in sym (heard _ _ (letterAt (s .args .m .now) (s .args .i + 1)) _ (rw (← c .before .before .letter-at .ensures) (sym (c .before .follows-elided .ensures) ∙ c .if1 .left)))
+unfolding elidedAt elidesAmong elidesT elidesD letterAt small
+returns-2 c = rw (List·getD-eq-default {A = ℕ} _ 0 (c .if2 .taken)) (simp and-false)
+
+add-if3 : tie.Need-add-if3
+add-if3 c = search needs
+
+sub-elides-byte : tie.Need-sub-elides-byte
+sub-elides-byte c = search needs
+
+shared-slice-read-elides-byte : tie.Need-shared-slice-read-elides-byte
+shared-slice-read-elides-byte c = search needs
+
+shared-slice-read-elides-byte-2 : tie.Need-shared-slice-read-elides-byte-2
+shared-slice-read-elides-byte-2 c = search needs
+
+add-elides-byte : tie.Need-add-elides-byte
+add-elides-byte c = search needs
+
+shared-slice-read-elides-byte-3 : tie.Need-shared-slice-read-elides-byte-3
+shared-slice-read-elides-byte-3 c = search needs
+
+elides-byte-requires : tie.Need-elides-byte-requires
+elides-byte-requires c κs = search needs
+
+returns-3 : tie.Need-returns-3
+unfolding elidedAt letterAt
+returns-3 c =
+    let t = c .before .before .before .before in
+    let s = t .before .before .before .before in
+    let e : length (s .args .m .now) ≤ s .args .i + 2 = omega (arith, t .if3 .taken) in
+    rw (← before-at _ _ (t .before .before .if1 .left), List·getD-eq-default {A = ℕ} _ 0 e) (c .elides-byte .ensures)
+
+sub-elides-byte-2 : tie.Need-sub-elides-byte-2
+sub-elides-byte-2 c = search needs
+
+shared-slice-read-elides-byte-4 : tie.Need-shared-slice-read-elides-byte-4
+shared-slice-read-elides-byte-4 c = search needs
+
+shared-slice-read-elides-byte-5 : tie.Need-shared-slice-read-elides-byte-5
+shared-slice-read-elides-byte-5 c = search needs
+
+add-elides-byte-2 : tie.Need-add-elides-byte-2
+add-elides-byte-2 c = search needs
+
+shared-slice-read-elides-byte-6 : tie.Need-shared-slice-read-elides-byte-6
+shared-slice-read-elides-byte-6 c = search needs
+
+add-elides-byte-3 : tie.Need-add-elides-byte-3
+add-elides-byte-3 c = search needs
+
+shared-slice-read-elides-byte-7 : tie.Need-shared-slice-read-elides-byte-7
+shared-slice-read-elides-byte-7 c = search needs
+
+elides-byte-requires-2 : tie.Need-elides-byte-requires-2
+elides-byte-requires-2 c κs = search needs
+
+returns-4 : tie.Need-returns-4
+unfolding elidedAt letterAt
+returns-4 c = rw (← before-at _ _ (c .before .before .before .before .before .before .before .if1 .left)) (c .elides-byte2 .ensures)
 
 pub is-elided-spec : {M : Type 1} → statement M
 is-elided-spec =
     tie.close
     (tie.spec
-    add-letter-at
-    letter-at-requires
-    follows-elided-requires
-    letter-before-requires
-    letter-at-requires-2
-    add-letter-at-2
-    letter-at-requires-3
-    elides-requires
     returns
-    returns-2)
+    add-if2
+    returns-2
+    add-if3
+    sub-elides-byte
+    shared-slice-read-elides-byte
+    shared-slice-read-elides-byte-2
+    add-elides-byte
+    shared-slice-read-elides-byte-3
+    elides-byte-requires
+    returns-3
+    sub-elides-byte-2
+    shared-slice-read-elides-byte-4
+    shared-slice-read-elides-byte-5
+    add-elides-byte-2
+    shared-slice-read-elides-byte-6
+    add-elides-byte-3
+    shared-slice-read-elides-byte-7
+    elides-byte-requires-2
+    returns-4)

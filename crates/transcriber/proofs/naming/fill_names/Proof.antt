@@ -2,7 +2,6 @@
 -- Assumes nothing.
 use mathlib.Core.Path.{_≡_, ap, _∙_}
 use native.Mathlib.Omega.{arith}
-use Rattle.transcriber.specs.Sounds.{farLevel}
 use Rattle.transcriber.proofs.Putting.{put-length}
 use Rattle.transcriber.proofs.Namings.{Naming, end-room, naming-none, naming-length, naming-before, naming-ready, naming-more, naming-all}
 use Rattle.transcriber.proofs.naming.fill_names.Statement.{statement}
@@ -21,19 +20,16 @@ put-end-requires : tie.Need-put-end-requires Inv-loop μ-loop
 put-end-requires c κs =
     let a = c .before .before in
     let s = a .before .before .before in
-    (a .class-table .ensures, omega arith, s .pre .0, end-room (s .pre .0) (s .pre .1), s .pre .2)
+    (a .class-table .ensures, record { within = omega arith; steady = s .pre .0; room = end-room (s .pre .0) (s .pre .1); place = s .pre .2 })
 
-mark-before-requires : tie.Need-mark-before-requires Inv-loop μ-loop
-mark-before-requires c κs = (c .before .before .before .before .before .before .before .before .pre .0, omega arith)
-
-far-level-requires : tie.Need-far-level-requires Inv-loop μ-loop
-far-level-requires c κs = tt
+at-word-end-requires : tie.Need-at-word-end-requires Inv-loop μ-loop
+at-word-end-requires c κs = (c .before .before .before .before .before .before .before .before .pre .0, omega arith)
 
 loop-holds : tie.Need-loop-holds Inv-loop μ-loop
 loop-holds c =
-    let e = c .before .before .before .before in
+    let e = c .before .before .before in
     let s = e .before .before .before .before .before .before in
-    naming-none (s .pre .0) (s .pre .1) (s .pre .2) (e .put-end .ensures) (c .far-level .ensures ∙ ap farLevel (c .before .mark-before .ensures))
+    naming-none (s .pre .0) (s .pre .1) (s .pre .2) (e .put-end .ensures) (c .at-word-end .ensures)
 
 sub-i : tie.Need-sub-i Inv-loop μ-loop
 sub-i c = omega arith
@@ -41,7 +37,7 @@ sub-i c = omega arith
 step-requires : tie.Need-step-requires Inv-loop μ-loop
 step-requires c κs =
     let b = c .before .before in
-    let e = b .before .before .before .before .before .before in
+    let e = b .before .before .before .before .before in
     (e .before .before .before .class-table .ensures, naming-ready (naming-before (b .loop-test .taken) (b .before .loop .inv)))
 
 loop-less : tie.Need-loop-less Inv-loop μ-loop
@@ -54,14 +50,14 @@ loop-again c =
 
 same-length : tie.Need-same-length Inv-loop μ-loop
 same-length c =
-    let e = c .before .before .before .before .before .before in
+    let e = c .before .before .before .before .before in
     naming-length (c .before .loop .inv) ∙ put-length _ _ _ _ _ (e .before .before .before .before .before .before .pre .2) (e .put-end .ensures)
 
 returns : tie.Need-returns Inv-loop μ-loop
 returns c =
     let l = c .before .loop in
     let e : l .i ≡ 0 = omega (arith, c .loop-test .left) in
-    let p = c .before .before .before .before .before .before in
+    let p = c .before .before .before .before .before in
     naming-all (p .before .before .before .before .before .before .pre .2) (p .put-end .ensures) (rw e at (l .inv))
 
 pub fill-names-spec : {M : Type 1} → statement M
@@ -72,8 +68,7 @@ fill-names-spec =
     μ-loop
     class-table-requires
     put-end-requires
-    mark-before-requires
-    far-level-requires
+    at-word-end-requires
     loop-holds
     sub-i
     step-requires

@@ -16,11 +16,11 @@ name-of-requires c κs = search needs
 
 put-requires : tie.Need-put-requires
 put-requires c κs =
-    let s = c .before .before .before .before .before .before in
-    (vowel-room (s .pre .2) (s .pre .1), s .pre .2 .place)
+    let a = c .before .before .before .before .before .before .before .pre .1 in
+    (vowel-room (a .ready) (a .vowel), a .ready .place)
 
-level-before-requires : tie.Need-level-before-requires
-level-before-requires c κs = search needs
+over-vowel-requires : tie.Need-over-vowel-requires
+over-vowel-requires c κs = search needs
 
 same-length : tie.Need-same-length
 same-length c = search needs
@@ -29,18 +29,9 @@ returns : tie.Need-returns
 returns c =
     let p = c .before .before .before in
     let k = p .before .before .before .before in
-    let s = k .before .before .before in
-    rw (c .level-before .ensures) (named-vowel (s .pre .2) (s .pre .1)
-    (rw (p .before .name-of .ensures, p .before .before .syllable-by .ensures, k .class-before .ensures) at (p .put .ensures)))
+    let a = k .before .before .before .before .pre .1 in
+    rw (c .over-vowel .ensures) (named-vowel (a .ready) (a .vowel)
+    (rw (p .before .name-of .ensures, p .before .before .before .syllable-by .ensures, k .class-before .ensures) at (p .put .ensures)))
 
 pub put-name-spec : {M : Type 1} → statement M
-put-name-spec =
-    tie.close
-    (tie.spec
-    class-before-requires
-    syllable-by-requires
-    name-of-requires
-    put-requires
-    level-before-requires
-    same-length
-    returns)
+put-name-spec = tie.close (tie.spec class-before-requires syllable-by-requires name-of-requires put-requires over-vowel-requires same-length returns)

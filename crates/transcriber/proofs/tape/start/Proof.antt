@@ -6,14 +6,11 @@ use Rattle.transcriber.proofs.Filling.{stands-end}
 use Rattle.transcriber.proofs.tape.start.Statement.{statement}
 use Rattle.transcriber.proofs.tape.start.Tie as tie
 
-mark-before-requires : tie.Need-mark-before-requires
-mark-before-requires c κs = search needs
-
-far-level-requires : tie.Need-far-level-requires
-far-level-requires c κs = search needs
+at-word-end-requires : tie.Need-at-word-end-requires
+at-word-end-requires c κs = search needs
 
 returns : tie.Need-returns
-returns c = let s = c .before .before .before in rw (c .far-level .ensures, c .before .mark-before .ensures) (refl, stands-end (s .args .m .now) (s .pre) (s .args .end))
+returns c = let s = c .before .before in rw (c .at-word-end .ensures) (refl, stands-end (s .args .m .now) (s .pre) (s .args .end))
 
 pub start-spec : {M : Type 1} → statement M
-start-spec = tie.close (tie.spec mark-before-requires far-level-requires returns)
+start-spec = tie.close (tie.spec at-word-end-requires returns)

@@ -34,7 +34,7 @@ step-requires : tie.Need-step-requires Inv-loop μ-loop
 step-requires c κs = let l = c .before .before in
     let s = l .before .before .before in
     let w = inside (c .before) in
-    (s .pre .0, s .pre .1, walked-ready _ (s .pre .2 .steady) _ _ _ (s .pre .2 .place) _ _ _ (omega (arith, s .pre .2 .within)) (s .pre .2 .room) w)
+    (record { byte = s .pre .0; sound = s .pre .1 }, walked-ready _ (s .pre .2 .steady) _ _ _ (s .pre .2 .place) _ _ _ (omega (arith, s .pre .2 .within)) (s .pre .2 .room) w)
 
 loop-less : tie.Need-loop-less Inv-loop μ-loop
 loop-less c = omega arith

@@ -1,0 +1,260 @@
+-- The walk of the message check finds the paper's faults: a kind tells all that the rows ask of the bytes before, so a fault goes by kind and class.
+-- Assumes nothing.
+use Prim.Native.Nat.{ℕ, zero, suc, _-_, _*_, _<_, _≤_}
+use mathlib.Core.Path.{_≡_, refl, sym, _∙_}
+use mathlib.Core.Bool.{Bool, true, false, cond, _&&_, _||_, not, and-false, false≢true}
+use mathlib.Core.List.{List, [], _∷_}
+use native.Mathlib.Omega.{arith}
+use lib.Dec.{eqb}
+use lib.ListN.{length, getD, drop}
+use lib.Seq.{drop-cons, drop-length}
+use borrow.Author.Tests.{eqb-true, eqb-false, ne-eqb}
+use Rattle.spec.specs.Letters.{isMark, isBreak}
+use Rattle.spec.specs.Refusals.{vowelByte, signByte, hardSignByte, first, none, adjacent, vowelSign, lettersBefore, row3, row4, row5, row6, row7, row8, row9, row10, rows, firstFit, faultAt, beforeAt, refusal, checkOf}
+use Rattle.message.specs.Classes.{classOf, isBreakClass, isSignClass, isConsonantClass, isVowelClass, isLetterClass, classAt}
+use Rattle.message.specs.Steps.{isVowelKind, isHardSignKind, isVowelSignKind, isSignKind, nextKind, faultIn, kindAt, codesTo, namesTo, lettersAt, faultHere}
+use Rattle.spec.specs.declared.Checked.the-variants.{Accepted, Refused}
+use Rattle.laws.proofs.Accepted.{countsOf, ClearAt, fault-clear, first-refused, passes-accepted}
+use Rattle.message.proofs.Bytes.{below-same, pairs-same, ByClass, by-class}
+use Rattle.message.proofs.StepTable.{Entry, entry-holds, width-up}
+use Rattle.message.proofs.Computed.{everything}
+
+-- the kind k tells what the rows ask of the bytes before
+pub record Told (before : List ℕ) (k : ℕ) : Type 0 where
+  pub start : (none before || first isBreak before) ≡ isBreakClass k
+  pub vowel : first vowelByte before ≡ isVowelClass k
+  pub sign : first signByte (adjacent before) ≡ isSignKind k
+  pub hardSign : first hardSignByte (adjacent before) ≡ isHardSignKind k
+  pub vowelSigned : vowelSign (adjacent before) ≡ isVowelSignKind k
+  pub vowelNear : first vowelByte (adjacent before) ≡ isVowelKind k
+
+-- at the start a gap's kind does
+told-none : Told [] 2
+unfolding none first adjacent vowelSign
+told-none = record { start = refl; vowel = refl; sign = refl; hardSign = refl; vowelSigned = refl; vowelNear = refl }
+
+-- what the next kind says of a byte of class c after kind k
+abbrev nextTests : ℕ → ℕ → List Bool
+nextTests k c = let n = nextKind k c in isBreakClass n ∷ isVowelClass n ∷ isSignKind n ∷ isHardSignKind n ∷ isVowelSignKind n ∷ (eqb c 1 || isVowelKind n) ∷ []
+
+-- the same by its class; a mark is passed over
+abbrev byteTests : ℕ → ℕ → List Bool
+byteTests k c = isBreakClass c ∷ isVowelClass c ∷ isSignClass c ∷ eqb c 4 ∷ (isSignClass c && isVowelKind k) ∷ (eqb c 1 || isVowelClass c) ∷ []
+
+-- the two agree
+next-tests : (k c : ℕ) → k < 16 → c < 13 → byteTests k c ≡ nextTests k c
+unfolding everything
+next-tests k c h l = pairs-same byteTests nextTests 16 13 k c refl h l
+
+-- a mark is no vowel
+mark-vowel : (b : ℕ) → isMark b ≡ true → vowelByte b ≡ false
+unfolding everything
+mark-vowel b e = rw (eqb-true b 42 e)
+
+-- so a vowel right before is the adjacent letter
+vowel-adjacent : (before : List ℕ) → first vowelByte before ≡ true → adjacent before ≡ before
+unfolding adjacent first
+vowel-adjacent [] e = refl
+vowel-adjacent (b ∷ before) e = by (isMark b) refl
+  where
+    by : (t : Bool) → isMark b ≡ t → cond t before (b ∷ before) ≡ b ∷ before
+    by true d = absurd (false≢true (sym (mark-vowel b d) ∙ e))
+    by false d = refl
+
+-- a mark without a fault stands after a vowel's kind
+mark-kind : (k : ℕ) → faultIn k 1 ≡ 0 → isVowelClass k ≡ true
+unfolding faultIn
+mark-kind k e = by (isVowelClass k) e
+  where
+    by : (t : Bool) → _≡_ {A = ℕ} (cond t 0 5) 0 → t ≡ true
+    by true h = refl
+    by false h = absurd (omega arith)
+
+-- what a kind says of signs
+abbrev signTests : ℕ → List Bool
+signTests k = isSignKind k ∷ isHardSignKind k ∷ isVowelSignKind k ∷ []
+
+-- a vowel's kind is no sign's
+mark-tests : (k : ℕ) → k < 16 → cond (isVowelClass k) (signTests k) [] ≡ cond (isVowelClass k) (false ∷ false ∷ false ∷ []) []
+unfolding everything
+mark-tests k h = below-same (λ x. cond (isVowelClass x) (signTests x) []) (λ x. cond (isVowelClass x) (false ∷ false ∷ false ∷ []) []) 16 k refl h
+
+module _ (before : List ℕ) (k b : ℕ) (h : k < 16) (c : ByClass b) (t : Told before k) where
+  -- the kind after a mark
+  told-mark : isMark b ≡ true → faultIn k (classOf b) ≡ 0 → Told (b ∷ before) (nextKind k (classOf b))
+  unfolding none first adjacent vowelSign nextKind
+  told-mark d f =
+      let e : classOf b ≡ 1 = eqb-true (classOf b) 1 (sym (c .mark) ∙ d) in
+      let v : isVowelClass k ≡ true = mark-kind k (rw e at f) in
+      let g : signTests k ≡ (false ∷ false ∷ false ∷ []) = rw v at (mark-tests k h) in
+      let a = vowel-adjacent before (t .vowel ∙ v) in
+      record {
+        start = c .break ∙ rw e;
+        vowel = c .vowel ∙ rw e;
+        sign = rw (d, e) (rw a at (t .sign) ∙ (cc));
+        hardSign = rw (d, e) (rw a at (t .hardSign) ∙ (cc));
+        vowelSigned = rw (d, e) (rw a at (t .vowelSigned) ∙ (cc));
+        vowelNear = rw (d, e) (t .vowel ∙ v);
+      }
+
+  -- the kind after any other byte
+  told-other : isMark b ≡ false → Told (b ∷ before) (nextKind k (classOf b))
+  unfolding none first adjacent vowelSign
+  told-other d =
+      let n = next-tests k (classOf b) h (c .class) in
+      let e : eqb (classOf b) 1 ≡ false = sym (c .mark) ∙ d in
+      let v : (eqb (classOf b) 1 || isVowelClass (classOf b)) ≡ (eqb (classOf b) 1 || isVowelKind (nextKind k (classOf b))) = cc in
+      record {
+        start = c .break ∙ (cc);
+        vowel = c .vowel ∙ (cc);
+        sign = rw d (c .sign ∙ (cc));
+        hardSign = rw d (c .hardSign ∙ (cc));
+        vowelSigned = rw (d, c .sign, t .vowelNear) (cc);
+        vowelNear = rw d (c .vowel ∙ rw e at v);
+      }
+
+  -- the kind goes on telling, over a byte without a fault
+  pub told-more : faultIn k (classOf b) ≡ 0 → Told (b ∷ before) (nextKind k (classOf b))
+  told-more f = by (isMark b) refl
+    where
+      by : (u : Bool) → isMark b ≡ u → Told (b ∷ before) (nextKind k (classOf b))
+      by true d = told-mark d f
+      by false d = told-other d
+
+-- the rows by kind and class: last, nothing stands after; full, the word has 64 letters
+abbrev faultBy : Bool → Bool → ℕ → ℕ → ℕ
+faultBy last full k c =
+    cond (not (isLetterClass c || (eqb c 1 || isBreakClass c))) 3
+    (cond (isBreakClass c && (last || isBreakClass k)) 4
+    (cond (eqb c 1 && not (isVowelClass k)) 5
+    (cond (isSignClass c && isBreakClass k) 6
+    (cond (isSignClass c && isSignKind k) 7
+    (cond (isConsonantClass c && isHardSignKind k) 8
+    (cond (isVowelClass c && isVowelSignKind k) 9
+    (cond (isLetterClass c && full) 10 0)))))))
+
+-- the walk's fault; then the 65th letter; then a break last
+abbrev pub faultOf : Bool → Bool → ℕ → ℕ → ℕ
+faultOf last full k c = cond (eqb (faultIn k c) 0) (cond (isLetterClass c && full) 10 (cond (isBreakClass c && last) 4 0)) (faultIn k c)
+
+-- the two agree
+fault-same : (last full : Bool) (k c : ℕ) → k < 16 → c < 13 → faultBy last full k c ≡ faultOf last full k c
+unfolding everything
+fault-same true true k c h l = pairs-same (faultBy true true) (faultOf true true) 16 13 k c refl h l
+fault-same true false k c h l = pairs-same (faultBy true false) (faultOf true false) 16 13 k c refl h l
+fault-same false true k c h l = pairs-same (faultBy false true) (faultOf false true) 16 13 k c refl h l
+fault-same false false k c h l = pairs-same (faultBy false false) (faultOf false false) 16 13 k c refl h l
+
+-- alternatives in another order
+or-swap : (x y z : Bool) → (x || (y || z)) ≡ (y || (x || z))
+or-swap true true z = refl
+or-swap true false z = refl
+or-swap false y z = refl
+
+-- the fault at a byte, by the kind before it and its class
+pub fault-told : (before : List ℕ) (k b : ℕ) (after : List ℕ) → k < 16 → ByClass b → Told before k
+    → faultAt before b after ≡ faultOf (none after) (eqb (lettersBefore before) 64) k (classOf b)
+unfolding faultAt firstFit rows row3 row4 row5 row6 row7 row8 row9 row10
+fault-told before k b after h c t =
+    rw (or-swap (none before) (none after) (first isBreak before), t .start, t .vowel, t .sign, t .hardSign, t .vowelSigned, c .letter, c .mark, c .break, c .sign, c .consonant, c .vowel)
+    (fault-same (none after) (eqb (lettersBefore before) 64) k (classOf b) h (c .class))
+
+-- a byte without a fault here has no number of the table of steps, and is no 65th letter
+pub here-clear : (m : List ℕ) (i : ℕ) → faultHere m i ≡ 0
+    → (faultIn (kindAt m i) (classOf (getD m i 0)) ≡ 0) × ((isLetterClass (classOf (getD m i 0)) && eqb (lettersAt m i) 64) ≡ false)
+unfolding faultHere
+here-clear m i e = by (eqb (faultIn (kindAt m i) (classOf (getD m i 0))) 0) refl (isLetterClass (classOf (getD m i 0)) && eqb (lettersAt m i) 64) refl e
+  where
+    by : (t : Bool) → eqb (faultIn (kindAt m i) (classOf (getD m i 0))) 0 ≡ t → (u : Bool) → (isLetterClass (classOf (getD m i 0)) && eqb (lettersAt m i) 64) ≡ u
+        → cond t (cond u 10 0) (faultIn (kindAt m i) (classOf (getD m i 0))) ≡ 0
+        → (faultIn (kindAt m i) (classOf (getD m i 0)) ≡ 0) × ((isLetterClass (classOf (getD m i 0)) && eqb (lettersAt m i) 64) ≡ false)
+    by true d true q z = absurd (omega arith)
+    by true d false q z = (eqb-true _ _ d, q)
+    by false d u q z = absurd (eqb-false _ _ d z)
+
+-- and the other way round
+pub clear-here : (m : List ℕ) (i : ℕ) → faultIn (kindAt m i) (classOf (getD m i 0)) ≡ 0 → (isLetterClass (classOf (getD m i 0)) && eqb (lettersAt m i) 64) ≡ false → faultHere m i ≡ 0
+unfolding faultHere
+clear-here m i f l = rw (f, l)
+
+module _ (m : List ℕ) (bytes : (j : ℕ) → getD m j 0 < 256) where
+  -- every kind has its row in the table
+  pub kind-small : (i : ℕ) → kindAt m i < 16
+  unfolding kindAt
+  kind-small zero = omega arith
+  kind-small (suc i) = entry-holds (kindAt m i) (classOf (getD m i 0)) (kind-small i) (by-class (getD m i 0) (bytes i) .class) .next
+
+  -- the entry for the byte at place i
+  pub entry-at : (i : ℕ) → Entry (kindAt m i) (classOf (getD m i 0))
+  entry-at i = entry-holds (kindAt m i) (classOf (getD m i 0)) (kind-small i) (by-class (getD m i 0) (bytes i) .class)
+
+  -- i bytes make at most 2 i codes and i names
+  pub counts-up : (i : ℕ) → (codesTo m i ≤ 2 * i) × (namesTo m i ≤ i)
+  unfolding codesTo namesTo
+  counts-up zero = (omega arith, omega arith)
+  counts-up (suc i) =
+      let c = counts-up i in
+      (omega (arith, c .0, width-up m i (kindAt m i) (entry-at i)), omega (arith, c .1, entry-at i .names))
+
+  -- the letters before a place are those that the rows count
+  letters-at : (i : ℕ) → lettersAt m i ≡ lettersBefore (beforeAt m i)
+  unfolding lettersAt lettersBefore beforeAt
+  letters-at zero = refl
+  letters-at (suc i) = let c = by-class (getD m i 0) (bytes i) in rw (c .break, c .letter, letters-at i)
+
+  -- where no byte before has a fault, the kind tells what the rows ask
+  told-at : (i : ℕ) → ((j : ℕ) → j < i → faultHere m j ≡ 0) → Told (beforeAt m i) (kindAt m i)
+  unfolding kindAt beforeAt
+  told-at zero c = told-none
+  told-at (suc i) c =
+      told-more (beforeAt m i) (kindAt m i) (getD m i 0) (kind-small i) (by-class (getD m i 0) (bytes i)) (told-at i (λ j l. c j (omega arith))) (here-clear m i (c i (omega arith)) .0)
+
+  -- the paper's fault is then the one here, or that of a break last
+  fault-paper : (i : ℕ) → ((j : ℕ) → j < i → faultHere m j ≡ 0)
+      → faultAt (beforeAt m i) (getD m i 0) (drop (suc i) m) ≡ cond (eqb (faultHere m i) 0) (cond (isBreakClass (classAt m i) && none (drop (suc i) m)) 4 0) (faultHere m i)
+  unfolding faultHere
+  fault-paper i c =
+      fault-told (beforeAt m i) (kindAt m i) (getD m i 0) (drop (suc i) m) (kind-small i) (by-class (getD m i 0) (bytes i)) (told-at i c)
+      ∙ rw (← letters-at i) (by (faultIn (kindAt m i) (classAt m i)) (eqb (faultIn (kindAt m i) (classAt m i)) 0) refl (isLetterClass (classAt m i) && eqb (lettersAt m i) 64) _)
+    where
+      by : (f : ℕ) (t : Bool) → eqb f 0 ≡ t → (u : Bool) (x : ℕ) → cond t (cond u 10 x) f ≡ cond (eqb (cond t (cond u 10 0) f) 0) x (cond t (cond u 10 0) f)
+      by f true d true x = refl
+      by f true d false x = refl
+      by f false d u x = rw d
+
+  -- so a byte that is passed is clear, but for a break last
+  passed : (i : ℕ) → ((j : ℕ) → j < suc i → faultHere m j ≡ 0) → (isBreakClass (classAt m i) && none (drop (suc i) m)) ≡ false → ClearAt m i
+  passed i c b = fault-clear (beforeAt m i) (getD m i 0) (drop (suc i) m) (fault-paper i (λ j h. c j (omega arith)) ∙ rw (c i (omega arith), b))
+
+  -- one before the last is clear
+  passed-over : (i : ℕ) → suc i < length m → ((j : ℕ) → j < suc i → faultHere m j ≡ 0) → ClearAt m i
+  unfolding none
+  passed-over i h c = passed i c (rw (drop-cons m (suc i) 0 h, and-false (isBreakClass (classAt m i))))
+
+  -- a fault is the check's answer, where no byte before has one
+  pub seen-fault : (i n : ℕ) → i < length m → length m ≤ 4096 → ((j : ℕ) → j < i → faultHere m j ≡ 0) → faultHere m i ≡ n → (n ≡ 0 → ⊥) → Refused (refusal n i) ≡ checkOf m
+  seen-fault i n h l c e z = sym (first-refused m l i h (λ j q. passed-over j (omega arith) (λ k r. c k (omega arith))) n (fault-paper i c ∙ rw (e, ne-eqb n 0 z)) z)
+
+  -- a break is the only kind that a break leaves
+  kind-break : (i : ℕ) → isBreakClass (kindAt m (suc i)) ≡ isBreakClass (classAt m i)
+  unfolding kindAt
+  kind-break i = let e = next-tests (kindAt m i) (classAt m i) (kind-small i) (by-class (getD m i 0) (bytes i) .class) in cc
+
+  -- The whole message, of suc i bytes, is passed.
+  module _ (i : ℕ) (size : length m ≡ suc i) (short : length m ≤ 4096) (clear : (j : ℕ) → j < length m → faultHere m j ≡ 0) where
+    -- a break last is refused
+    pub last-refused : isBreakClass (kindAt m (length m)) ≡ true → checkOf m ≡ Refused (refusal 4 i)
+    unfolding none
+    last-refused b =
+        let d : drop (suc i) m ≡ [] = rw (← size) (drop-length m) in
+        let k : isBreakClass (classAt m i) ≡ true = sym (kind-break i) ∙ rw size at b in
+        first-refused m short i (omega arith) (λ j q. passed-over j (omega arith) (λ k r. clear k (omega arith))) 4
+        (fault-paper i (λ k r. clear k (omega arith)) ∙ rw (clear i (omega arith), k, d)) (omega arith)
+
+    -- any other message is accepted
+    pub all-accepted : isBreakClass (kindAt m (length m)) ≡ false → checkOf m ≡ Accepted (countsOf m)
+    all-accepted b = passes-accepted m (record { some = omega arith; short = short; rows = λ j h. by j h (eqb j i) refl })
+      where
+        by : (j : ℕ) → j < length m → (t : Bool) → eqb j i ≡ t → ClearAt m j
+        by j h true d = rw (eqb-true j i d) (passed i (λ k r. clear k (omega arith)) (rw (sym (kind-break i) ∙ rw size at b)))
+        by j h false d = passed-over j (omega (arith, eqb-false j i d)) (λ k r. clear k (omega arith))

@@ -1,0 +1,32 @@
+-- Past the start, the byte before a place stands at the place before it.
+-- Assumes nothing.
+use Prim.Native.Nat.{ℕ, suc, _-_}
+use mathlib.Core.Path.{_≡_, ap}
+use mathlib.Core.List.{List}
+use native.Mathlib.Omega.{arith}
+use lib.ListN.{getD}
+use borrow.Author.Needs.{needs}
+use Rattle.transcriber.specs.Sounds.{byteBefore}
+use Rattle.transcriber.proofs.before.byte_before.Statement.{statement}
+use Rattle.transcriber.proofs.before.byte_before.Tie as tie
+
+-- past the start
+before-at : (m : List ℕ) (i : ℕ) → (i ≡ 0 → ⊥) → getD m (i - 1) 0 ≡ byteBefore m i
+unfolding byteBefore
+before-at m i h = let e : suc (i - 1) ≡ i = omega arith in ap (byteBefore m) e
+
+returns : tie.Need-returns
+unfolding byteBefore
+returns c = rw (c .if1 .taken)
+
+sub-result : tie.Need-sub-result
+sub-result c = search needs
+
+shared-slice-read-result : tie.Need-shared-slice-read-result
+shared-slice-read-result c = search needs
+
+returns-2 : tie.Need-returns-2
+returns-2 c = before-at _ _ (c .before .if1 .left)
+
+pub byte-before-spec : {M : Type 1} → statement M
+byte-before-spec = tie.close (tie.spec returns sub-result shared-slice-read-result returns-2)

@@ -1,0 +1,73 @@
+// What the bytes before a place of a message say.
+ghost use mathlib.Core.Path.{_≡_};
+ghost use Prim.Native.Nat.{_≤_};
+ghost use lib.ListN.{length};
+ghost use Rattle.spec.specs.Letters.{small, isHardOnly};
+ghost use Rattle.message.specs.Classes.{classes};
+ghost use Rattle.transcriber.specs.Sounds.{byteBefore, classBefore, hardBefore, isHardOrPaired};
+use crate::classes::ClassTable;
+use crate::letters;
+use message::classify::class_of;
+use message::letters::small_letter;
+
+// The byte before place i; a pause at the start of the message.
+pub fn byte_before(m: &[u8], i: usize) -> u8
+    requires { ⌜ i ≤ length (now m) ⌝ }
+    ensures { λ r. ⌜ r ≡ byteBefore (now (m .entry)) i ⌝ }
+{
+    if i == 0 {
+        return letters::PAUSE;
+    }
+    m[i - 1]
+}
+
+// Its class.
+pub fn class_before(m: &[u8], i: usize, t: &ClassTable) -> usize
+    requires { ⌜ (now t ≡ classes) × (i ≤ length (now m)) ⌝ }
+    ensures { λ r. ⌜ r ≡ classBefore (now (m .entry)) i ⌝ }
+{
+    class_of(byte_before(m, i), t)
+}
+
+// Class T: ж ш ц, small or capital.
+pub fn is_hard_only(p: u8) -> bool
+    ensures { λ r. ⌜ r ≡ isHardOnly (small p) ⌝ }
+{
+    match p {
+        letters::ZHE | letters::CAPITAL_ZHE => true,
+        letters::SHA | letters::CAPITAL_SHA => true,
+        letters::TSE | letters::CAPITAL_TSE => true,
+        _ => false,
+    }
+}
+
+// Classes T and P, whose letters stand in six rows of the alphabet: б to д, ж з, к to н, п to т, ф to ц, ш.
+fn is_hard_or_paired(p: u8) -> bool
+    ensures { λ r. ⌜ r ≡ isHardOrPaired (small p) ⌝ }
+{
+    let b = small_letter(p);
+    match b {
+        letters::BE..=letters::DE => true,
+        letters::ZHE..=letters::ZE => true,
+        letters::KA..=letters::EN => true,
+        letters::PE..=letters::TE => true,
+        letters::EF..=letters::TSE => true,
+        letters::SHA => true,
+        _ => false,
+    }
+}
+
+// Does a hard boundary stand before place i: a gap there, p, and before it a word that ends in T or P, or in ь with T before it?
+pub fn hard_before(m: &[u8], i: usize, p: u8) -> bool
+    requires { ⌜ (i ≤ length (now m)) × (p ≡ byteBefore (now m) i) ⌝ }
+    ensures { λ r. ⌜ r ≡ hardBefore (now (m .entry)) i ⌝ }
+{
+    if p != letters::GAP {
+        return false;
+    }
+    let last = byte_before(m, i - 1);
+    if (last == letters::SOFT_SIGN) | (last == letters::CAPITAL_SOFT_SIGN) {
+        return is_hard_only(byte_before(m, i - 2));
+    }
+    is_hard_or_paired(last)
+}

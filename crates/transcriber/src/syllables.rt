@@ -1,0 +1,56 @@
+// The syllables of a word (paper 01, pass 2), told by the class of the byte before a vowel.
+ghost use mathlib.Core.Path.{_≡_};
+ghost use Rattle.spec.specs.Letters.{between};
+ghost use Rattle.spec.specs.Syllables.{nameOf};
+ghost use Rattle.transcriber.specs.Sounds.{coverClass, syllableBy};
+use crate::classes;
+use spec::Cover;
+use spec::Level;
+use spec::Syllable;
+
+// The name of letters left after the last vowel.
+pub const INCOMPLETE: u8 = 7;
+
+pub fn is_consonant_or_sign(k: usize) -> bool
+    ensures { λ r. ⌜ r ≡ between 4 9 k ⌝ }
+{
+    (classes::HARD_SIGN <= k) & (k <= classes::SOFT_ONLY)
+}
+
+// A syllable is covered where a consonant or a sign stands before its vowel.
+fn cover_class(k: usize) -> Cover
+    ensures { λ r. ⌜ r ≡ coverClass k ⌝ }
+{
+    if is_consonant_or_sign(k) {
+        return Cover::Covered;
+    }
+    Cover::Bare
+}
+
+// The syllable of a vowel of this level after a byte of class k.
+pub fn syllable_by(k: usize, level: Level) -> Syllable
+    ensures { λ r. ⌜ r ≡ syllableBy k level ⌝ }
+{
+    let cover = cover_class(k);
+    Syllable { cover, level }
+}
+
+// The name of a syllable with a vowel.
+pub fn name_of(s: Syllable) -> u8
+    ensures { λ r. ⌜ r ≡ nameOf s ⌝ }
+{
+    let cover = s.cover;
+    let level = s.level;
+    match cover {
+        Cover::Covered => match level {
+            Level::Stressed => 1,
+            Level::First => 3,
+            Level::Second => 5,
+        },
+        Cover::Bare => match level {
+            Level::Stressed => 2,
+            Level::First => 4,
+            Level::Second => 6,
+        },
+    }
+}

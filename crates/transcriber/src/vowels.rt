@@ -1,0 +1,246 @@
+// The sounds of vowels (paper 01, pass 3): a function for each row, which asks of the letter before, and of the boundary, only where its line does.
+// The letter before is told by the byte before, p: a break at the start of a word, a mark after a stressed vowel.
+ghost use mathlib.Core.Path.{_≡_};
+ghost use mathlib.Core.Bool.{true, cond};
+ghost use Prim.Native.Nat.{_≤_};
+ghost use lib.ListN.{length};
+ghost use Rattle.spec.specs.Letters.{small, isBreak, isSoftOnly};
+ghost use Rattle.spec.specs.Refusals.{vowelByte};
+ghost use Rattle.spec.specs.Vowels.{bare, byStress, rowА, rowО, rowЭ, rowЕ, rowЯ, rowИ};
+ghost use Rattle.spec.specs.Codes.{J};
+ghost use Rattle.message.specs.Classes.{classes, isSignClass};
+ghost use Rattle.transcriber.specs.Sounds.{After, Anyway, AtBoundary, byteBefore, glideBy, hardBefore, rowOf, secondА};
+ghost use Rattle.transcriber.specs.Walk.{VowelAt, Sung};
+use crate::Vowel;
+use crate::before::byte_before;
+use crate::before::hard_before;
+use crate::before::is_hard_only;
+use crate::classes;
+use crate::classes::ClassTable;
+use crate::codes;
+use crate::letters;
+use crate::syllables::syllable_by;
+use message::classify::class_of;
+use spec::Cover;
+use spec::Level;
+use spec::Syllable;
+
+fn is_initial(p: u8) -> bool
+    ensures { λ r. ⌜ r ≡ isBreak p ⌝ }
+{
+    (p == letters::GAP) | (p == letters::PAUSE)
+}
+
+// Class Q: ч щ й.
+fn is_soft_only(p: u8) -> bool
+    ensures { λ r. ⌜ r ≡ isSoftOnly (small p) ⌝ }
+{
+    match p {
+        letters::CHE | letters::CAPITAL_CHE => true,
+        letters::SHCHA | letters::CAPITAL_SHCHA => true,
+        letters::SHORT_I | letters::CAPITAL_SHORT_I => true,
+        _ => false,
+    }
+}
+
+// A row that has one sound for level S, and one for levels 1 and 2.
+fn by_stress(s: Syllable, stressed: u8, other: u8) -> u8
+    ensures { λ r. ⌜ r ≡ byStress (s .level) stressed other ⌝ }
+{
+    let level = s.level;
+    match level {
+        Level::Stressed => stressed,
+        Level::First => other,
+        Level::Second => other,
+    }
+}
+
+// Level 2 of а and о: initial А1, after Q Э2, else А2.
+fn second_a(p: u8) -> u8
+    ensures { λ r. ⌜ After p secondА r ⌝ }
+{
+    if is_initial(p) {
+        return codes::A1;
+    }
+    if is_soft_only(p) {
+        return codes::E2;
+    }
+    codes::A2
+}
+
+// а: S А*; level 1 after Q Э1, else А1; level 2 as о.
+fn row_a(s: Syllable, p: u8) -> u8
+    ensures { λ r. ⌜ Anyway rowА p s r ⌝ }
+{
+    let level = s.level;
+    match level {
+        Level::Stressed => codes::A_STRESSED,
+        Level::First => {
+            if is_soft_only(p) {
+                return codes::E1;
+            }
+            codes::A1
+        }
+        Level::Second => second_a(p),
+    }
+}
+
+// о: S О*; level 1 А1; level 2 as а.
+fn row_o(s: Syllable, p: u8) -> u8
+    ensures { λ r. ⌜ Anyway rowО p s r ⌝ }
+{
+    let level = s.level;
+    match level {
+        Level::Stressed => codes::O_STRESSED,
+        Level::First => codes::A1,
+        Level::Second => second_a(p),
+    }
+}
+
+// э: S Э*; initial at a hard boundary Ы1; level 1 Э1; level 2 Э2.
+fn row_e(s: Syllable, p: u8, m: &[u8], i: usize) -> u8
+    requires { ⌜ (i ≤ length (now m)) × (p ≡ byteBefore (now m) i) ⌝ }
+    ensures { λ r. ⌜ AtBoundary rowЭ (hardBefore (now (m .entry)) i) p s r ⌝ }
+{
+    let level = s.level;
+    match level {
+        Level::Stressed => codes::E_STRESSED,
+        Level::First => {
+            if hard_before(m, i, p) {
+                return codes::Y1;
+            }
+            codes::E1
+        }
+        Level::Second => {
+            if hard_before(m, i, p) {
+                return codes::Y1;
+            }
+            codes::E2
+        }
+    }
+}
+
+// е: S Э*; level 1 after T Ы1, else Э1; level 2 initial Э1, after T А2, else Э2.
+fn row_ie(s: Syllable, p: u8) -> u8
+    ensures { λ r. ⌜ Anyway rowЕ p s r ⌝ }
+{
+    let level = s.level;
+    match level {
+        Level::Stressed => codes::E_STRESSED,
+        Level::First => {
+            if is_hard_only(p) {
+                return codes::Y1;
+            }
+            codes::E1
+        }
+        Level::Second => {
+            if is_initial(p) {
+                return codes::E1;
+            }
+            if is_hard_only(p) {
+                return codes::A2;
+            }
+            codes::E2
+        }
+    }
+}
+
+// я: S А*; level 1 Э1; level 2 initial Э1, else Э2.
+fn row_ya(s: Syllable, p: u8) -> u8
+    ensures { λ r. ⌜ Anyway rowЯ p s r ⌝ }
+{
+    let level = s.level;
+    match level {
+        Level::Stressed => codes::A_STRESSED,
+        Level::First => codes::E1,
+        Level::Second => {
+            if is_initial(p) {
+                return codes::E1;
+            }
+            codes::E2
+        }
+    }
+}
+
+// и: Ы* or Ы1 after T or initial at a hard boundary; else И* or И1.
+fn row_i(s: Syllable, p: u8, m: &[u8], i: usize) -> u8
+    requires { ⌜ (i ≤ length (now m)) × (p ≡ byteBefore (now m) i) ⌝ }
+    ensures { λ r. ⌜ AtBoundary rowИ (hardBefore (now (m .entry)) i) p s r ⌝ }
+{
+    if is_hard_only(p) {
+        return by_stress(s, codes::Y_STRESSED, codes::Y1);
+    }
+    if hard_before(m, i, p) {
+        return by_stress(s, codes::Y_STRESSED, codes::Y1);
+    }
+    by_stress(s, codes::I_STRESSED, codes::I1)
+}
+
+// The sound of the vowel b, small or capital, of syllable s at place i: an arm for each row.
+pub fn vowel_sound(b: u8, s: Syllable, p: u8, m: &[u8], i: usize) -> u8
+    requires { ⌜ (vowelByte b ≡ true) × (i ≤ length (now m)) × (p ≡ byteBefore (now m) i) ⌝ }
+    ensures { λ r. ⌜ AtBoundary (rowOf (small b)) (hardBefore (now (m .entry)) i) p s r ⌝ }
+{
+    match b {
+        letters::A | letters::CAPITAL_A => row_a(s, p),
+        letters::O | letters::CAPITAL_O => row_o(s, p),
+        letters::U | letters::CAPITAL_U => by_stress(s, codes::U_STRESSED, codes::U1),
+        letters::YERU | letters::CAPITAL_YERU => by_stress(s, codes::Y_STRESSED, codes::Y1),
+        letters::E | letters::CAPITAL_E => row_e(s, p, m, i),
+        letters::IE | letters::CAPITAL_IE => row_ie(s, p),
+        letters::IO | letters::CAPITAL_IO => codes::O_STRESSED,
+        letters::YU | letters::CAPITAL_YU => by_stress(s, codes::U_STRESSED, codes::U1),
+        letters::YA | letters::CAPITAL_YA => row_ya(s, p),
+        letters::I | letters::CAPITAL_I => row_i(s, p, m, i),
+        _ => 0, // no vowel
+    }
+}
+
+fn is_sign_class(k: usize) -> bool
+    ensures { λ r. ⌜ r ≡ isSignClass k ⌝ }
+{
+    (classes::HARD_SIGN <= k) & (k <= classes::SOFT_SIGN)
+}
+
+fn is_bare(s: Syllable) -> bool
+    ensures { λ r. ⌜ r ≡ bare (s .cover) ⌝ }
+{
+    let cover = s.cover;
+    match cover {
+        Cover::Bare => true,
+        Cover::Covered => false,
+    }
+}
+
+// Has a vowel of class c a glide, after a byte of class k?
+fn has_glide(c: usize, s: Syllable, k: usize) -> bool
+    ensures { λ r. ⌜ r ≡ glideBy c (s .cover) k ⌝ }
+{
+    if c != classes::IOTATED {
+        return (c == classes::LETTER_I) & is_sign_class(k);
+    }
+    is_bare(s) | is_sign_class(k)
+}
+
+// The vowel at place i, of class c and this level.
+pub fn vowel_at(m: &[u8], i: usize, c: usize, level: Level, t: &ClassTable) -> Vowel
+    requires { ⌜ (now t ≡ classes) × VowelAt (now m) i c level ⌝ }
+    ensures { λ v. ⌜ Sung (now (m .entry)) i v ⌝ }
+{
+    let p = byte_before(m, i);
+    let k = class_of(p, t);
+    let s = syllable_by(k, level);
+    let sound = vowel_sound(m[i], s, p, m, i);
+    let glide = has_glide(c, s, k);
+    Vowel { sound, glide }
+}
+
+// The first of its codes.
+pub fn first_code(v: Vowel) -> u8
+    ensures { λ r. ⌜ r ≡ cond (v .glide) J (v .sound) ⌝ }
+{
+    if v.glide {
+        return codes::GLIDE;
+    }
+    v.sound
+}
