@@ -27,6 +27,7 @@ use Rattle.laws.proofs.Cuts.{rising-of, rising-length, break-within}
 use Rattle.laws.proofs.Parts.{part, Begins, changedAfter, or-false, mark-there, part-first, first-own}
 use Rattle.laws.proofs.PartsAccepted.{part-accepted}
 use Rattle.laws.proofs.Bounds.{live-bound}
+use Rattle.laws.proofs.Heard.{tape-heard}
 use Rattle.laws.proofs.Marks.{mark-first, mark-next, mark-last}
 use Rattle.laws.proofs.MarkIndex.{Ends, Placed, stretch, end-own, placed, own-length, own-codes}
 use Rattle.joiner.specs.Writing.{PartDue, Whole, Reach, Beside, Changing, endOf, restOf, Laid, CutDue}
@@ -45,11 +46,6 @@ part-ends : (m : List ℕ) (a : ℕ) (cuts : List ℕ) → a ≤ length m → Ri
 part-ends m a [] b r = (b, omega arith, inr refl)
 part-ends m a (c ∷ cuts) b r = (r .0, omega (arith, break-within m c (r .1)), inl (r .1))
 
--- the mark there is the same on both tapes
-rest-first : (m : List ℕ) (a : ℕ) (cuts : List ℕ) → RisingFrom m a cuts → getD (restOf m cuts) 0 0 ≡ getD (tape m) (markIndex m (endOf m cuts)) 0
-rest-first m a [] r = sym (List·getD-eq-default (tape m) 0 (omega (arith, mark-last m (length m) refl)))
-rest-first m a (c ∷ cuts) r = sym (mark-there m c (r .1))
-
 -- a part's bytes are the message's
 part-bytes : (m : List ℕ) → ((j : ℕ) → getD m j 0 < 256) → (a e j : ℕ) → getD (part m a e) j 0 < 256
 part-bytes m bytes a e j = by (leb (suc j) (e - a)) refl
@@ -58,9 +54,17 @@ part-bytes m bytes a e j = by (leb (suc j) (e - a)) refl
     by true q = rw (getD-take (e - a) (drop a m) j 0 (leb-true (suc j) (e - a) q), getD-drop a m j 0) (bytes (a + j))
     by false q = rw (List·getD-eq-default (part m a e) 0 {n = j} (simp length-take (omega (arith, leb-false (suc j) (e - a) q)))) (omega arith)
 
+-- codes stand before a break's mark, since the bytes before it are accepted
+before-some : (m : List ℕ) (c : ℕ) {counts : Counts} → checkOf m ≡ Accepted counts → isBreak (getD m c 0) ≡ true → 0 < markIndex m c
+unfolding markIndex
+before-some m c {counts} accepted b =
+    rw (← part-first m c)
+    (tape-heard (part m 0 c) (accepted-passes (part m 0 c) _ (part-accepted m counts 0 c accepted tt (omega arith) (omega (arith, break-within m c b)) (inl b))))
+
 -- The part from place a on is next.
 module _ {m cuts out : List ℕ} {k : ℕ} {q : Progress} {a : ℕ} (l : Laid m cuts k out q) (begins : Begins m a) (low : a ≤ length m)
     (rising : RisingFrom m a (drop k cuts)) where
+  -- where it ends, in the message and on the tape
   abbrev e : ℕ
   e = q .e
 
@@ -71,9 +75,11 @@ module _ {m cuts out : List ℕ} {k : ℕ} {q : Progress} {a : ℕ} (l : Laid m 
   pub part-within : (a ≤ e) × (e ≤ length m) × Ends m e
   part-within = rw (l .ends) (part-ends m a (drop k cuts) low rising)
 
+  -- its own tape
   abbrev own : List ℕ
   own = tape (part m a e)
 
+  -- where its codes stand on the whole one
   here : Placed m a e
   here = placed m a e begins (part-within .0) (part-within .2)
 
@@ -81,6 +87,7 @@ module _ {m cuts out : List ℕ} {k : ℕ} {q : Progress} {a : ℕ} (l : Laid m 
   pub part-place : markIndex m a + length own ≡ at
   part-place = omega (arith, l .place, here .size, own-length m a e begins (part-within .0) (part-within .2))
 
+  -- they end there
   size : length (here .front ++ stretch m a e) ≡ at
   size = simp length-append (omega (arith, l .place, here .size, here .start))
 
@@ -96,39 +103,38 @@ module _ {m cuts out : List ℕ} {k : ℕ} {q : Progress} {a : ℕ} (l : Laid m 
   split : out ≡ here .front ++ (stretch m a e ++ restOf m (drop k cuts))
   split = l .bytes ∙ rw (codes, append-assoc (here .front) (stretch m a e) (restOf m (drop k cuts)))
 
+  -- where it begins on either tape
   start : at - length own ≡ markIndex m a
   start = omega (arith, part-place)
 
+  -- what stands before it in the output, and after it
   kept : take (at - length own) out ≡ here .front
   kept = ap (take (at - length own)) split ∙ rw start (take-at (here .front) (stretch m a e ++ restOf m (drop k cuts)) (markIndex m a) (here .start))
 
   past : drop at out ≡ restOf m (drop k cuts)
   past = rw (l .bytes, codes) (drop-at (here .front ++ stretch m a e) (restOf m (drop k cuts)) at size)
 
+  -- it ends within both
   pub tape-end : at ≤ length (tape m)
   tape-end = omega (arith, simp length-append at (ap length (here .split)), simp length-append at size)
 
   pub part-end : at ≤ length out
   part-end = rw (l .bytes, codes) (simp length-append (omega (arith, simp length-append at size)))
 
-  -- up to index at, where the next mark stands, the output's codes are the whole tape's
-  laid-same : (j : ℕ) → j ≤ at → getD out j 0 ≡ getD (tape m) j 0
-  laid-same j h = rw (l .bytes) (by (leb (suc j) at) refl)
-    where
-      n : length (take at (tape m)) ≡ at
-      n = rw codes size
-
-      by : (t : Bool) → leb (suc j) at ≡ t → getD (take at (tape m) ++ restOf m (drop k cuts)) j 0 ≡ getD (tape m) j 0
-      by true q =
-          let b = leb-true (suc j) at q in
-          List·getD-append (take at (tape m)) (restOf m (drop k cuts)) 0 j (omega (arith, n)) ∙ getD-take at (tape m) j 0 b
-      by false q =
-          let e : j ≡ length (take at (tape m)) + 0 = omega (arith, n, leb-false (suc j) at q) in
-          let i : j ≡ markIndex m (endOf m (drop k cuts)) = omega (arith, leb-false (suc j) at q, l .place ∙ ap (markIndex m) (l .ends)) in
-          ap (λ (x : ℕ). getD (take at (tape m) ++ restOf m (drop k cuts)) x 0) e ∙ getD-append-add (take at (tape m)) (restOf m (drop k cuts)) 0 0
-          ∙ rest-first m a (drop k cuts) rising ∙ ap (λ (x : ℕ). getD (tape m) x 0) (sym i)
+  -- before index at the output's codes are the whole tape's
+  laid-same : (j : ℕ) → j < at → getD out j 0 ≡ getD (tape m) j 0
+  laid-same j h =
+      let n : length (take at (tape m)) ≡ at = rw codes size in
+      rw (l .bytes) (List·getD-append (take at (tape m)) (restOf m (drop k cuts)) 0 j (omega (arith, n)) ∙ getD-take at (tape m) j 0 h)
 
   module _ {counts : Counts} (accepted : checkOf m ≡ Accepted counts) where
+    -- the part's bytes are accepted, so it has codes
+    part-passed : checkOf (part m a e) ≡ Accepted (countsOf (part m a e))
+    part-passed = let w = part-within in part-accepted m counts a e accepted begins (w .0) (w .1) (w .2)
+
+    pub part-some : markIndex m a < at
+    part-some = omega (arith, part-place, tape-heard (part m a e) (accepted-passes (part m a e) _ part-passed))
+
     pub laid-whole : (n : ℕ) → n ≤ at → Whole m out n
     laid-whole n h = record { counts = counts; accepted = accepted; size = omega (arith, part-end); same = λ j w. laid-same j (omega arith) }
 
@@ -137,7 +143,7 @@ module _ {m cuts out : List ℕ} {k : ℕ} {q : Progress} {a : ℕ} (l : Laid m 
     part-due bytes t quiet =
         let w = part-within in
         record {
-          steady = accepted-steady (part m a e) (countsOf (part m a e)) (part-accepted m counts a e accepted begins (w .0) (w .1) (w .2)) (part-bytes m bytes a e);
+          steady = accepted-steady (part m a e) (countsOf (part m a e)) part-passed (part-bytes m bytes a e);
           room = omega (arith, part-place);
           place = part-end;
           stands = λ u.
@@ -200,10 +206,11 @@ module _ {m cuts out : List ℕ} {k : ℕ} {q : Progress} (d : CutDue m cuts k o
     -- it can be judged
     pub cut-beside : Beside m out c n
     cut-beside =
-        let p = part-place (d .laid) (rises .0) low (rises .1) in
+        let p = part-some (d .laid) (rises .0) low (rises .1) (d .accepted) in
         record {
           steady = d .steady;
-          whole = laid-whole (d .laid) (rises .0) low (rises .1) (d .accepted) (suc n) (omega (arith, mark-next m c (rises .0), p));
+          whole = laid-whole (d .laid) (rises .0) low (rises .1) (d .accepted) (suc (suc n)) (omega (arith, mark-next m c (rises .0), p));
+          some = rw found (before-some m c (d .accepted) (rises .0));
           break = rises .0;
           place = found;
         }

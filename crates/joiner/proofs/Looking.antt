@@ -86,7 +86,7 @@ module _ {m t : List ℕ} {c i n : ℕ} (r : Reach m t c i n) (h : c < i) where
 
     pub reach-mark : Behind isNoSound t n
     reach-mark = let k = mark-last in
-        record { within = r .whole .size; least = markIndex m b; below = k .below; here = rw (r .whole .same (markIndex m b) (omega (arith, k .below))) (k .here) }
+        record { within = r .whole .size; least = markIndex m b; below = k .below; here = rw (r .whole .same (markIndex m b) (k .below)) (k .here) }
 
     pub reach-more : {p : ℕ} → Last isNoSound t n p → Reach m t c b p
     reach-more {p} k =
@@ -98,7 +98,7 @@ module _ {m t : List ℕ} {c i n : ℕ} (r : Reach m t c i n) (h : c < i) where
           order = last-above isBreak m m i b c (λ j w. refl) l h (r .break);
           within = omega (arith, l .below, r .within);
           ends = inl (l .here);
-          place = last-once isNoSound t (tape m) n p (markIndex m b) (λ j w. r .whole .same j (omega arith)) k mark-last;
+          place = last-once isNoSound t (tape m) n p (markIndex m b) (λ j w. r .whole .same j w) k mark-last;
         }
 
 -- at the cut itself

@@ -1,6 +1,6 @@
 -- The two sides of a cut's mark: the codes beside it are the whole tape's, which tell the bits that come from over the cut, and the word after it begins with the letter of the next byte.
 -- Assumes nothing.
-use Prim.Native.Nat.{ℕ, zero, suc, _+_, _≤_}
+use Prim.Native.Nat.{ℕ, suc, _+_, _-_}
 use mathlib.Core.Path.{_≡_, refl, sym, ap, _∙_}
 use mathlib.Core.Bool.{Bool, true, false, cond, _&&_, _||_, true≢false}
 use mathlib.Core.List.{List, [], _∷_}
@@ -13,7 +13,7 @@ use borrow.Author.Tests.{eqb-true}
 use Rattle.spec.specs.Alphabet.{gap, pause}
 use Rattle.spec.specs.Letters.{Letter, more, read, putLetter, firstByte, firstWord, beginsWithMark, small, isMark, isBreak}
 use Rattle.spec.specs.Tape.{tape}
-use Rattle.spec.specs.Joints.{wordAfter}
+use Rattle.spec.specs.Joints.{markIndex, wordAfter}
 use Rattle.message.specs.Classes.{letterAt}
 use Rattle.message.specs.Places.{Steady}
 use Rattle.message.proofs.Left.{word-put, unmarked-after}
@@ -54,16 +54,17 @@ first-after m steady c b =
     let k : isMark (getD m (c + 1) 0) ≡ false = rw (add-one c) (unmarked-after m steady c (break-vowel (getD m c 0) b)) in
     rw (first-told (drop (suc c) m) (rw e k), e)
 
--- lists that are the same up to an index are so before it
-same-before : (x y : List ℕ) (n : ℕ) → ((j : ℕ) → j ≤ suc n → getD x j 0 ≡ getD y j 0) → getD (0 ∷ x) n 0 ≡ getD (0 ∷ y) n 0
-same-before x y zero same = refl
-same-before x y (suc n) same = same n (omega arith)
-
 module _ {m t : List ℕ} {c at : ℕ} (s : Beside m t c at) where
-  -- (a) by the code before the mark
-  pub voice-told : isVoiced (getD (0 ∷ t) at 0) ≡ changedBefore m c
-  voice-told = rw (same-before t (tape m) at (s .whole .same), s .place) (before-told m (s .whole .accepted) c (s .break))
+  -- the code before the mark is the whole tape's
+  before-mark : getD t (at - 1) 0 ≡ getD (0 ∷ tape m) (markIndex m c) 0
+  before-mark =
+      let e : suc (at - 1) ≡ markIndex m c = omega (arith, s .some, s .place) in
+      s .whole .same (at - 1) (omega arith) ∙ ap (λ (j : ℕ). getD (0 ∷ tape m) j 0) e
 
-  -- (b) by the code after it and the next letter
+  -- (a) by it
+  pub voice-told : isVoiced (getD t (at - 1) 0) ≡ changedBefore m c
+  voice-told = rw before-mark (before-told m (s .whole .accepted) c (s .break))
+
+  -- (b) by the code after the mark and the next letter
   pub hardness-told : (isHigh (getD t (at + 1) 0) && isIOrE (letterAt m (c + 1))) ≡ changedAfter m (suc c)
   hardness-told = rw (← first-after m (s .steady) c (s .break), add-one at, s .whole .same (suc at) (omega arith), s .place) (after-told m c (s .break))

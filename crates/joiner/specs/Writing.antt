@@ -44,12 +44,12 @@ pub record Behind (test : ℕ → Bool) (x : List ℕ) (i : ℕ) : Type 0 where
   pub below : least < i
   pub here : test (getD x least 0) ≡ true
 
--- the accepted message's tape stands in t up to index n, and what is there is the tape's code, too
+-- the accepted message's tape stands in t up to index n
 pub record Whole (m t : List ℕ) (n : ℕ) : Type 0 where
   pub counts : Counts
   pub accepted : checkOf m ≡ Accepted counts
   pub size : n ≤ length t
-  pub same : (j : ℕ) → j ≤ n → getD t j 0 ≡ getD (tape m) j 0
+  pub same : (j : ℕ) → j < n → getD t j 0 ≡ getD (tape m) j 0
 
 -- index n is that of the mark of place e, which is a break or the message's end, and the break at place c is not behind it
 pub record Reach (m t : List ℕ) (c e n : ℕ) : Type 0 where
@@ -61,10 +61,11 @@ pub record Reach (m t : List ℕ) (c e n : ℕ) : Type 0 where
   pub ends : Ends m e
   pub place : n ≡ markIndex m e
 
--- index at is that of the mark of the break at place c, and the codes beside it are the whole tape's
+-- index at is that of the mark of the break at place c, and on both sides of it stand codes of the whole tape
 pub record Beside (m t : List ℕ) (c at : ℕ) : Type 0 where
   pub steady : Steady m
-  pub whole : Whole m t (suc at)
+  pub whole : Whole m t (suc (suc at))
+  pub some : 0 < at
   pub break : isBreak (getD m c 0) ≡ true
   pub place : at ≡ markIndex m c
 

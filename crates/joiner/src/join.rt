@@ -19,6 +19,8 @@ use spec::Answer;
 use spec::Checked;
 use spec::Refusal;
 use transcriber::answers::refused;
+use transcriber::classes::ClassTable;
+use transcriber::tables::SoundTable;
 use transcriber::tables::sound_table;
 use transcriber::tape::write_tape;
 
@@ -107,7 +109,7 @@ fn mark_of(m: &[u8], t: &[u8], c: usize, e: usize, end: usize) -> usize
 }
 
 // Of a part the whole message's codes stand right before place end of the output; where a cut changes them the part's own tape is written over them.
-fn write_part(p: &[u8], changed: bool, out: &mut [u8], end: usize, t: &[u8; 256], s: &[u8; 496])
+fn write_part(p: &[u8], changed: bool, out: &mut [u8], end: usize, t: &ClassTable, s: &SoundTable)
     requires { ⌜ (now t ≡ classes) × (now s ≡ soundTable) × PartDue (now p) (now out) end changed ⌝ }
     ensures { λ _. ⌜ Put (tape (now (p .entry))) (now (out .entry)) (now (out .exit)) end (end - length (tape (now (p .entry)))) ⌝ }
 {
@@ -123,8 +125,8 @@ fn lay_part(
     k: usize,
     out: &mut [u8],
     p: Progress,
-    t: &[u8; 256],
-    s: &[u8; 496],
+    t: &ClassTable,
+    s: &SoundTable,
 ) -> Progress
     requires { ⌜ (now t ≡ classes) × (now s ≡ soundTable) × CutDue (now m) (now cuts) k (now out) p ⌝ }
     ensures { λ r. ⌜ Laid (now (m .entry)) (now (cuts .entry)) k (now (out .exit)) r ⌝ }
@@ -148,7 +150,7 @@ fn lay_part(
 }
 
 // Writes the second tape and counts the live cuts: the whole message's tape, and then from the right, over it, the parts that a cut changes.
-fn write_joined(m: &[u8], cuts: &[usize], out: &mut [u8], t: &[u8; 256], s: &[u8; 496]) -> usize
+fn write_joined(m: &[u8], cuts: &[usize], out: &mut [u8], t: &ClassTable, s: &SoundTable) -> usize
     requires { ⌜ (now t ≡ classes) × (now s ≡ soundTable) × TapeDue (now m) (now cuts) (length (now out)) ⌝ }
     ensures { λ r. ⌜ (now (out .exit) ≡ joined (now (m .entry)) (now (cuts .entry))) × (r ≡ liveCount (now (m .entry)) (now (cuts .entry))) ⌝ }
 {

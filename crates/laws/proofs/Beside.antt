@@ -26,7 +26,7 @@ use Rattle.laws.proofs.Classes.{among-same, vowel-single, vowel-quiet}
 use Rattle.laws.proofs.Word.{lastCodeFrom, endsToned, shape, word-toned}
 use Rattle.laws.proofs.Stretch.{last-append}
 
--- those of voiced obstruents: the set D, В and В'
+-- codes of voiced obstruents: the set D, В and В'
 abbrev pub isVoiced : ℕ → Bool
 isVoiced c = ((between Б З' c && not (eqb c J)) || eqb c Ц1) || eqb c Ч1
 
@@ -43,6 +43,7 @@ abbrev is : Bool → Bool → Bool
 is true t = t
 is false t = not t
 
+-- so it is the test's
 told : (r t : Bool) → is r t ≡ true → t ≡ r
 told true t e = e
 told false true e = sym e
@@ -66,6 +67,7 @@ voiced-cond : (t : Bool) (c d : ℕ) → isVoiced (cond t c d) ≡ cond t (isVoi
 voiced-cond true c d = refl
 voiced-cond false c d = refl
 
+-- and where both are no, the answer is no
 same : (t : Bool) → cond t false false ≡ false
 same true = refl
 same false = refl
@@ -96,6 +98,7 @@ shape-regular false true true j x c xs a b f = (a refl .0, (a refl .1, f))
 shape-regular false true false j x c xs a b f = (a refl .1, f)
 shape-regular false false g j x c xs a b f = (b refl refl, f)
 
+-- a letter of the alphabet is a sign, a vowel or a consonant
 letter-regular : (hard : Bool) (facts : Facts) (p : ℕ) (l : Letter) (w : List Letter) (xs : List Phone) → spells (l .byte) ≡ true → Regular xs → Regular (phonesOf hard facts p l w ++ xs)
 unfolding spells phonesOf vowelPhones syllableOf
 letter-regular hard facts p l w xs s f =
@@ -107,20 +110,21 @@ letter-regular hard facts p l w xs s f =
     other true e = refl
     other false e = e
 
+-- pass 3, over a word
 phones-regular : (hard : Bool) (facts : Facts) (p : ℕ) (w : List Letter) → Spelled w → Regular (phonesFrom hard facts p w)
 unfolding phonesFrom
 phones-regular hard facts p [] s = tt
 phones-regular hard facts p (l ∷ w) s = letter-regular hard facts p l w (phonesFrom false facts (l .byte) w) (s .0) (phones-regular false facts (l .byte) w (s .1))
 
--- pass 5: only a letter that has a palatalized sound is palatalized, so a test that both its sounds pass is passed
-soft-passes : (f : ℕ → Bool) (r : Bool) (x : Phone) (n c : ℕ) → (is r (f c) && (not (isPaired (x .letter)) || is r (f (suc c)))) ≡ true → f (cond (isSoft x n) (suc c) c) ≡ r
-unfolding isSoft
-soft-passes f r x n c k = by (isPaired (x .letter)) _ (and-eq-true-iff (is r (f c)) _ .0 k)
+-- pass 5: only a letter that has a palatalized sound is palatalized
+soft-keeps : (r : Bool) (x : Phone) (n c : ℕ) → keeps r (x .letter) c ≡ true → isVoiced (cond (isSoft x n) (suc c) c) ≡ r
+unfolding isSoft keeps
+soft-keeps r x n c k = by (isPaired (x .letter)) _ (and-eq-true-iff (is r (isVoiced c)) _ .0 k)
   where
-    by : (p t : Bool) → (is r (f c) ≡ true) × ((not p || is r (f (suc c))) ≡ true) → f (cond (p && t) (suc c) c) ≡ r
-    by true true e = told r (f (suc c)) (e .1)
-    by true false e = told r (f c) (e .0)
-    by false t e = told r (f c) (e .0)
+    by : (p t : Bool) → (is r (isVoiced c) ≡ true) × ((not p || is r (isVoiced (suc c))) ≡ true) → isVoiced (cond (p && t) (suc c) c) ≡ r
+    by true true e = told r (isVoiced (suc c)) (e .1)
+    by true false e = told r (isVoiced c) (e .0)
+    by false t e = told r (isVoiced c) (e .0)
 
 -- an obstruent at the end of a word, voiced or not
 toned-keeps : (n : Bool) (b c : ℕ) → isObstruent b ≡ true → keeps n b (toned (cond n voiced voiceless) b c) ≡ true
@@ -130,7 +134,7 @@ toned-keeps false b c h = among-same (λ x. keeps false x (voicelessCode x)) (λ
 
 -- passes 4 and 5: the last code is voiced just where the last sound is an obstruent's and what follows voices it
 ends-voiced : (n : Bool) (d : ℕ) (xs : List Phone) → isVoiced d ≡ false → Regular xs → isVoiced (lastCodeFrom d (palatalize (voice n xs))) ≡ (n && endsToned false xs)
-unfolding lastCodeFrom palatalize voice voiceOne toneOf endsToned firstCode keeps regular
+unfolding lastCodeFrom palatalize voice voiceOne toneOf endsToned firstCode regular
 ends-voiced n d [] e r = rw and-false e
 ends-voiced n d (x ∷ []) e r = by (isObstruent (x .letter)) refl (r .0)
   where
@@ -138,12 +142,12 @@ ends-voiced n d (x ∷ []) e r = by (isObstruent (x .letter)) refl (r .0)
     one c = cond (isSoft (record { letter = x .letter; softened = x .softened; code = c }) 0) (suc c) c
 
     by : (t : Bool) → isObstruent (x .letter) ≡ t → (t || keeps false (x .letter) (x .code)) ≡ true → isVoiced (one (cond t (toned (cond n voiced voiceless) (x .letter) (x .code)) (x .code))) ≡ (n && t)
-    by true q k = soft-passes isVoiced n _ 0 _ (toned-keeps n (x .letter) (x .code) q) ∙ all n
+    by true q k = soft-keeps n _ 0 _ (toned-keeps n (x .letter) (x .code) q) ∙ all n
       where
         all : (n : Bool) → n ≡ (n && true)
         all true = refl
         all false = refl
-    by false q k = rw and-false (soft-passes isVoiced false _ 0 (x .code) k)
+    by false q k = rw and-false (soft-keeps false _ 0 (x .code) k)
 ends-voiced n d (x ∷ y ∷ xs) e r = ends-voiced n 0 (y ∷ xs) refl (r .1)
 
 -- The last code of a stretch is voiced just where its last word ends in an obstruent and what follows voices it.

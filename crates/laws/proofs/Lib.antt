@@ -15,3 +15,4 @@ pub mod Promises
 pub mod Demands
 pub mod Beside
 pub mod MarkIndex
+pub mod Heard

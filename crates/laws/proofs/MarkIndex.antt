@@ -91,6 +91,7 @@ module _ (m : List ℕ) where
   last-stretch a = rw (end-unvoiced, take-all (length m - a) (drop a m) (omega (arith, length-drop a m)))
 
   module _ (a e : ℕ) (begins : Begins m a) (le : a ≤ e) (ends : Ends m e) where
+    -- a part between two breaks, or from a break to the end
     pub placed : Placed m a e
     placed = let f = tape-from m a begins in ⊎-elim (λ k.
         let t = f .split ∙ ap (λ (x : List ℕ). f .front ++ x) (onward-cut m a e begins le k) in
@@ -125,7 +126,7 @@ module _ (m : List ℕ) where
               rw (le-leb А* (getD (tape m) j 0) (r .0), le-leb (getD (tape m) j 0) Щ (r .1));
         }
 
-    -- At a break a voiced code before its mark, the first tape's, is one that a cut changes.
+    -- A voiced code before the mark of a break, on the whole tape, is one that a cut there changes.
     pub before-told : (c : ℕ) → isBreak (getD m c 0) ≡ true → isVoiced (getD (0 ∷ tape m) (markIndex m c) 0) ≡ changedBefore m c
     unfolding changedBefore wordBefore
     before-told c b =

@@ -143,7 +143,7 @@ unfolding elide endsInObstruent
 word-toned h w = phones-toned h (factsOf w) false 0 (elideFrom 0 w) ∙ elide-ends false 0 w
 
 -- a word's first letter is not elided
-first-kept : (b : ℕ) (w : List Letter) → elides 0 b w ≡ false
+pub first-kept : (b : ℕ) (w : List Letter) → elides 0 b w ≡ false
 unfolding elides elidesAmong elidesT elidesD
 first-kept b w = simp and-false
 

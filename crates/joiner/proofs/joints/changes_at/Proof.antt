@@ -4,6 +4,7 @@ use Prim.Native.Nat.{suc, _+_}
 use mathlib.Core.Path.{_≡_, _∙_}
 use mathlib.Core.Bool.{_&&_}
 use native.Mathlib.Omega.{arith}
+use borrow.Author.Needs.{needs}
 use Rattle.message.specs.Classes.{letterAt}
 use Rattle.laws.proofs.Cuts.{break-within}
 use Rattle.laws.proofs.Parts.{changedAfter, changedBefore}
@@ -14,37 +15,40 @@ use Rattle.joiner.proofs.joints.changes_at.Tie as tie
 
 -- (a)
 voice : (c : tie.After-is-voiced) → let s = c .before .before .before .before .args in c .is-voiced .result ≡ changedBefore (s .m .now) (s .c)
-voice c = rw (c .is-voiced .ensures, c .before .code-before .ensures) (voice-told (c .before .before .before .before .pre))
+voice c = rw (c .is-voiced .ensures) (voice-told (c .before .before .before .before .pre))
 
 -- (b)
 hardness : (c : tie.After-is-high) → let s = c .before .before .before .before .before .before .args in
     (c .is-high .result && isIOrE (letterAt (s .m .now) (s .c + 1))) ≡ changedAfter (s .m .now) (suc (s .c))
-hardness c = rw (c .is-high .ensures, c .before .code-at .ensures) (hardness-told (c .before .before .before .before .before .before .pre))
+hardness c = rw (c .is-high .ensures) (hardness-told (c .before .before .before .before .before .before .pre))
 
-code-before-requires : tie.Need-code-before-requires
-code-before-requires c κs = omega (arith, c .before .before .pre .whole .size)
+sub-is-voiced : tie.Need-sub-is-voiced
+sub-is-voiced c = search needs
+
+shared-slice-read-is-voiced : tie.Need-shared-slice-read-is-voiced
+shared-slice-read-is-voiced c = search needs
 
 is-voiced-requires : tie.Need-is-voiced-requires
-is-voiced-requires c κs = tt
+is-voiced-requires c κs = search needs
 
-add-code-at : tie.Need-add-code-at
-add-code-at c = omega (arith, c .before .before .before .before .pre .whole .size)
+add-is-high : tie.Need-add-is-high
+add-is-high c = search needs
 
-code-at-requires : tie.Need-code-at-requires
-code-at-requires c κs = tt
+shared-slice-read-is-high : tie.Need-shared-slice-read-is-high
+shared-slice-read-is-high c = search needs
 
 is-high-requires : tie.Need-is-high-requires
-is-high-requires c κs = tt
+is-high-requires c κs = search needs
 
 add-letter-at : tie.Need-add-letter-at
 add-letter-at c = let s = c .before .before .before .before .before .before .before in
     omega (arith, break-within (s .args .m .now) (s .args .c) (s .pre .break))
 
 letter-at-requires : tie.Need-letter-at-requires
-letter-at-requires c κs = tt
+letter-at-requires c κs = search needs
 
 is-i-or-e-requires : tie.Need-is-i-or-e-requires
-is-i-or-e-requires c κs = tt
+is-i-or-e-requires c κs = search needs
 
 returns : tie.Need-returns
 returns c = record { before = voice (c .before .before .before .before .before); after = c .is-i-or-e .ensures ∙ rw (c .before .letter-at .ensures) (rw (c .before .before .if1 .taken) at (hardness (c .before .before .before))) }
@@ -56,10 +60,11 @@ pub changes-at-spec : {M : Type 1} → statement M
 changes-at-spec =
     tie.close
     (tie.spec
-    code-before-requires
+    sub-is-voiced
+    shared-slice-read-is-voiced
     is-voiced-requires
-    add-code-at
-    code-at-requires
+    add-is-high
+    shared-slice-read-is-high
     is-high-requires
     add-letter-at
     letter-at-requires

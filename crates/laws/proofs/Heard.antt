@@ -1,0 +1,48 @@
+-- An accepted message is heard: its first letter is no sign and is not elided, so it has a sound.
+-- Assumes nothing.
+use Prim.Native.Nat.{ℕ, suc, _<_}
+use mathlib.Core.Path.{_≡_, sym}
+use mathlib.Core.Bool.{Bool, true, false, cond, _&&_, and-false, true≢false}
+use mathlib.Core.List.{List, [], _∷_, _++_}
+use native.Mathlib.Omega.{arith}
+use lib.ListN.{length, length-append}
+use Rattle.spec.specs.Letters.{Letter, Message, last, more, read, putLetter, beginsWithMark, small, isBreak, isMark, isSign, isVowel}
+use Rattle.spec.specs.Elision.{elides, elidesAmong, elidesT, elidesD, elideFrom, elide}
+use Rattle.spec.specs.Syllables.{coverAfter, factsOf, syllableOf}
+use Rattle.spec.specs.Vowels.{Phone, glides, vowelPhones, phonesOf, phonesFrom}
+use Rattle.spec.specs.Voicing.{voice}
+use Rattle.spec.specs.Palatalization.{palatalize}
+use Rattle.spec.specs.Tape.{wordTape, segment, tape}
+use Rattle.spec.specs.Refusals.{none, first, signByte, row4, row5, row6, rows, fitsIn, beforeAt}
+use Rattle.laws.proofs.Accepted.{Passes}
+use Rattle.laws.proofs.Word.{shape, first-kept}
+
+-- the sounds of a letter that is no sign
+shape-heard : (v g n : Bool) (j x c : Phone) (xs : List Phone) → 0 < length (palatalize (voice n (shape false v g j x c ++ xs)))
+unfolding palatalize voice
+shape-heard true true n j x c xs = omega arith
+shape-heard true false n j x c xs = omega arith
+shape-heard false g n j x c xs = omega arith
+
+-- a word that begins with one; its first letter is not elided
+word-heard : (h n : Bool) (l : Letter) (w : List Letter) → isSign (l .byte) ≡ false → 0 < length (wordTape h n (l ∷ w))
+unfolding wordTape elide elideFrom phonesFrom phonesOf vowelPhones syllableOf
+word-heard h n l w s = rw (first-kept (l .byte) w, s) (shape-heard (isVowel (l .byte)) (glides 0 (coverAfter 0) (l .byte)) n _ _ _ _)
+
+-- and so a message
+segment-heard : (h n : Bool) (l : Letter) (r : Message) → isSign (l .byte) ≡ false → 0 < length (segment h n (putLetter l r))
+unfolding segment putLetter
+segment-heard h n l (last w) s = word-heard h n l w s
+segment-heard h n l (more w x r) s = simp length-append (omega arith)
+
+-- what a row forbids at the first byte
+forbidden : (t : Bool) → (t && true) ≡ false → t ≡ false
+forbidden true e = e
+forbidden false e = e
+
+pub tape-heard : (m : List ℕ) → Passes m → 0 < length (tape m)
+unfolding tape read beforeAt fitsIn rows row4 row5 row6 none first signByte
+tape-heard [] p = absurd (omega (arith, p .some))
+tape-heard (b ∷ m) p =
+    let c = p .rows 0 (omega arith) in
+    rw (forbidden (isBreak b) (c 4), forbidden (isMark b) (c 5)) (segment-heard false false _ (read m) (forbidden (isSign (small b)) (c 6)))
