@@ -14,12 +14,12 @@ ghost use Rattle.joiner.specs.Writing.{TapeDue, PartDue, outside, Behind
 use crate::Progress;
 use crate::joints::changes_at;
 use message::check::check;
+use message::classes::ClassTable;
 use message::classify::class_table;
 use spec::Answer;
 use spec::Checked;
 use spec::Refusal;
 use transcriber::answers::refused;
-use transcriber::classes::ClassTable;
 use transcriber::tables::SoundTable;
 use transcriber::tables::sound_table;
 use transcriber::tape::write_tape;

@@ -12,8 +12,8 @@ use crate::Seen;
 use crate::Step;
 use crate::classes::AFTER_VOWEL_STEP;
 use crate::classes::ASK;
-use crate::classes::BYTES;
 use crate::classes::COLUMNS;
+use crate::classes::ClassTable;
 use crate::classes::FIRST_LETTER;
 use crate::classes::GAP;
 use crate::classes::HARD_ONLY;
@@ -23,9 +23,9 @@ use crate::classes::LETTERS_MAX;
 use crate::classes::MARK;
 use crate::classes::MESSAGE_MAX;
 use crate::classes::NAME;
-use crate::classes::PAIRS_SIZE;
 use crate::classes::PAUSE;
 use crate::classes::PLAIN_VOWEL;
+use crate::classes::PairTable;
 use crate::classes::SOFT_ONLY;
 use crate::classes::SOFT_SIGN;
 use crate::classes::SOFT_SIGN_AFTER_VOWEL;
@@ -41,7 +41,7 @@ use spec::Counts;
 use spec::Refusal;
 
 // The entry for the byte at place i after kind k.
-fn entry_at(m: &[u8], i: usize, k: usize, t: &[u8; BYTES], s: &[u32; PAIRS_SIZE]) -> usize
+fn entry_at(m: &[u8], i: usize, k: usize, t: &ClassTable, s: &PairTable) -> usize
     requires { ⌜ Reads (now m) (now t) (now s) k (i + 1) ⌝ }
     ensures { λ r. ⌜ (r ≡ packed k (classAt (now (m .entry)) i)) × (r < 32 * stopUnit) ⌝ }
 {
@@ -50,7 +50,7 @@ fn entry_at(m: &[u8], i: usize, k: usize, t: &[u8; BYTES], s: &[u32; PAIRS_SIZE]
 }
 
 // The sum of the entries of four bytes.
-fn sum_four(m: &[u8], i: usize, k: usize, t: &[u8; BYTES], s: &[u32; PAIRS_SIZE]) -> usize
+fn sum_four(m: &[u8], i: usize, k: usize, t: &ClassTable, s: &PairTable) -> usize
     requires { ⌜ Reads (now m) (now t) (now s) k (i + 4) ⌝ }
     ensures { λ r. ⌜ r ≡ fourAt (now (m .entry)) i k ⌝ }
 {
@@ -96,7 +96,7 @@ fn weigh_four(m: &[u8], i: usize, x: usize) -> usize
 }
 
 // Passes bytes by fours while these begin before place to and need no more than to be added. This loop has nearly all bytes, so it does nothing else.
-fn pass_fours(m: &[u8], to: usize, seen: Seen, t: &[u8; BYTES], s: &[u32; PAIRS_SIZE]) -> Seen
+fn pass_fours(m: &[u8], to: usize, seen: Seen, t: &ClassTable, s: &PairTable) -> Seen
     requires { ⌜ Goes (now m) (now t) (now s) seen to ⌝ }
     ensures { λ r. ⌜ Sees (now (m .entry)) r × (seen .at ≤ r .at) ⌝ }
 {
@@ -130,7 +130,7 @@ fn pass_fours(m: &[u8], to: usize, seen: Seen, t: &[u8; BYTES], s: &[u32; PAIRS_
 }
 
 // How many letters of its word stand before the place of what is seen, counted back to a break or to the letters counted before.
-fn letters_at(m: &[u8], seen: Seen, t: &[u8; BYTES]) -> usize
+fn letters_at(m: &[u8], seen: Seen, t: &ClassTable) -> usize
     requires { ⌜ (now t ≡ classes) × Sees (now m) seen ⌝ }
     ensures { λ r. ⌜ r ≡ lettersAt (now (m .entry)) (seen .at) ⌝ }
 {
@@ -150,7 +150,7 @@ fn letters_at(m: &[u8], seen: Seen, t: &[u8; BYTES]) -> usize
 }
 
 // The same with the letters counted, where the limit is less than four bytes ahead. Each letter is counted once.
-fn count_on(m: &[u8], seen: Seen, t: &[u8; BYTES]) -> Seen
+fn count_on(m: &[u8], seen: Seen, t: &ClassTable) -> Seen
     requires { ⌜ (now t ≡ classes) × Sees (now m) seen ⌝ }
     ensures { λ r. ⌜ Counted (now (m .entry)) (seen .at) r ⌝ }
 {
@@ -189,7 +189,7 @@ fn is_too_many(c: usize, at: usize, limit: usize) -> bool
 }
 
 // The byte at the place, whatever it is.
-fn step(m: &[u8], seen: Seen, t: &[u8; BYTES], s: &[u32; PAIRS_SIZE]) -> Step
+fn step(m: &[u8], seen: Seen, t: &ClassTable, s: &PairTable) -> Step
     requires { ⌜ Stands (now m) (now t) (now s) seen ⌝ }
     ensures { λ r. ⌜ Judged (now (m .entry)) seen r ⌝ }
 {
@@ -267,7 +267,7 @@ fn finish(n: usize, seen: Seen) -> Checked
 }
 
 // All bytes from the left, until the first fault.
-fn walk(m: &[u8], t: &[u8; BYTES], s: &[u32; PAIRS_SIZE]) -> Checked
+fn walk(m: &[u8], t: &ClassTable, s: &PairTable) -> Checked
     requires { ⌜ Begins (now m) (now t) (now s) ⌝ }
     ensures { λ r. ⌜ r ≡ checkOf (now (m .entry)) ⌝ }
 {

@@ -1,4 +1,4 @@
-// The numbers that code and tables agree on: classes of bytes, letters by their bytes, sizes.
+// The numbers that code and tables agree on: classes of bytes, sizes of tables, units of their entries.
 
 // The class of each byte (specs/Classes.antt, classOf). Signs, consonants and vowels are ranges, so a test of them is two comparisons.
 pub const UNNAMED: usize = 0;
@@ -37,46 +37,11 @@ pub const AFTER_VOWEL_STEP: usize = SOFT_SIGN_AFTER_VOWEL - SOFT_SIGN;
 // The first class of letters.
 pub const FIRST_LETTER: usize = HARD_SIGN;
 
-// Letters that code names, small, in the order of the alphabet.
-pub const DE: u8 = 0xE4;
-
-pub const ZE: u8 = 0xE7;
-
-pub const KA: u8 = 0xEA;
-
-pub const EN: u8 = 0xED;
-
-pub const ER: u8 = 0xF0;
-
-pub const ES: u8 = 0xF1;
-
-pub const TE: u8 = 0xF2;
-
-pub const TSE: u8 = 0xF6;
-
-pub const CHE: u8 = 0xF7;
-
-pub const SHA: u8 = 0xF8;
-
-// Capitals are FIRST_CAPITAL to LAST_CAPITAL, each CASE_STEP below its small letter, but for ё.
-pub const FIRST_CAPITAL: u8 = 0xC0;
-
-pub const LAST_CAPITAL: u8 = 0xDF;
-
-pub const FIRST_SMALL: u8 = 0xE0;
-
-pub const CASE_STEP: u8 = 32;
-
-pub const YO: u8 = 0xB8;
-
-pub const CAPITAL_YO: u8 = 0xA8;
-
-pub const CAPITAL_DE: u8 = DE - CASE_STEP;
-
-pub const CAPITAL_TE: u8 = TE - CASE_STEP;
-
 // How many bytes there are, and so entries of a table by byte; the longest message and the longest word.
 pub const BYTES: usize = 256;
+
+// The table that has the class of each byte.
+pub type ClassTable = [u8; BYTES];
 
 pub const MESSAGE_MAX: usize = 4096;
 
@@ -86,6 +51,8 @@ pub const LETTERS_MAX: usize = 64;
 pub const COLUMNS: usize = 16;
 
 pub const PAIRS_SIZE: usize = 256;
+
+pub type PairTable = [u32; PAIRS_SIZE];
 
 // An entry of it (specs/Steps.antt, packed): the codes, NAME for a name, ASK where the letter may be elided, and STOP where it is not enough to add, once more for each number of a fault.
 pub const NAME: usize = 0x4000;

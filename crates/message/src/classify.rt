@@ -1,10 +1,10 @@
 // The class of a byte, by a table. specs/Classes.antt has its rule, and that these numbers keep it is shown here once; whoever walks a message makes a copy and lends it.
 ghost use mathlib.Core.Path.{_≡_};
 ghost use Rattle.message.specs.Classes.{classes, classOf};
-use crate::classes::BYTES;
+use crate::classes::ClassTable;
 
 // The class of each byte.
-const CLASSES: [u8; BYTES] = [
+const CLASSES: ClassTable = [
     0, // byte 00
     0, // byte 01
     0, // byte 02
@@ -264,14 +264,14 @@ const CLASSES: [u8; BYTES] = [
 ];
 
 // A copy of the table.
-pub fn class_table() -> [u8; BYTES]
+pub fn class_table() -> ClassTable
     ensures { λ r. ⌜ r ≡ classes ⌝ }
 {
     CLASSES
 }
 
 // The class of a byte.
-pub fn class_of(b: u8, t: &[u8; BYTES]) -> usize
+pub fn class_of(b: u8, t: &ClassTable) -> usize
     requires { ⌜ now t ≡ classes ⌝ }
     ensures { λ r. ⌜ r ≡ classOf b ⌝ }
 {

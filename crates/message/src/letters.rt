@@ -5,24 +5,24 @@ ghost use lib.ListN.{length};
 ghost use Rattle.spec.specs.Letters.{small};
 ghost use Rattle.spec.specs.Elision.{elidesT, elidesD, elidesAmong};
 ghost use Rattle.message.specs.Classes.{letterAt, letterBefore, elidedAt, followsElided, foldOf, isTOrD};
-use crate::classes::CAPITAL_DE;
-use crate::classes::CAPITAL_TE;
-use crate::classes::CAPITAL_YO;
-use crate::classes::CASE_STEP;
-use crate::classes::CHE;
-use crate::classes::DE;
-use crate::classes::EN;
-use crate::classes::ER;
-use crate::classes::ES;
-use crate::classes::FIRST_CAPITAL;
-use crate::classes::FIRST_SMALL;
-use crate::classes::KA;
-use crate::classes::LAST_CAPITAL;
-use crate::classes::SHA;
-use crate::classes::TE;
-use crate::classes::TSE;
-use crate::classes::YO;
-use crate::classes::ZE;
+use crate::alphabet::CAPITAL_DE;
+use crate::alphabet::CAPITAL_IO;
+use crate::alphabet::CAPITAL_TE;
+use crate::alphabet::CASE_STEP;
+use crate::alphabet::CHE;
+use crate::alphabet::DE;
+use crate::alphabet::EN;
+use crate::alphabet::ER;
+use crate::alphabet::ES;
+use crate::alphabet::FIRST_CAPITAL;
+use crate::alphabet::FIRST_SMALL;
+use crate::alphabet::IO;
+use crate::alphabet::KA;
+use crate::alphabet::LAST_CAPITAL;
+use crate::alphabet::SHA;
+use crate::alphabet::TE;
+use crate::alphabet::TSE;
+use crate::alphabet::ZE;
 
 // The small letter of a byte.
 pub fn small_letter(b: u8) -> u8
@@ -30,7 +30,7 @@ pub fn small_letter(b: u8) -> u8
 {
     match b {
         FIRST_CAPITAL..=LAST_CAPITAL => b + CASE_STEP,
-        CAPITAL_YO => YO,
+        CAPITAL_IO => IO,
         _ => b,
     }
 }

@@ -1,3 +1,4 @@
+pub mod alphabet;
 pub mod check;
 pub mod classes;
 pub mod classify;

@@ -2,10 +2,10 @@
 // a copy and lends it.
 ghost use mathlib.Core.Path.{_≡_};
 ghost use Rattle.message.specs.Steps.{pairs};
-use crate::classes::PAIRS_SIZE;
+use crate::classes::PairTable;
 
 // A row for each kind and a column for each class, in hexadecimal: the first two digits are 0, or 1 and the fault; the next is 2 for a letter that may be elided; 4000 is a name, and the last digit the codes.
-const PAIRS: [u32; PAIRS_SIZE] = [
+const PAIRS: PairTable = [
     0x0400000, // unnamed after unnamed
     0x0600000, // mark after unnamed
     0x0000001, // gap after unnamed
@@ -264,7 +264,7 @@ const PAIRS: [u32; PAIRS_SIZE] = [
     0x0400000, // unused 15 15
 ];
 
-pub fn pair_table() -> [u32; PAIRS_SIZE]
+pub fn pair_table() -> PairTable
     ensures { λ r. ⌜ r ≡ pairs ⌝ }
 {
     PAIRS

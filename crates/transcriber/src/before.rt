@@ -5,8 +5,8 @@ ghost use lib.ListN.{length};
 ghost use Rattle.spec.specs.Letters.{small, isHardOnly};
 ghost use Rattle.message.specs.Classes.{classes};
 ghost use Rattle.transcriber.specs.Sounds.{ByteBefore, byteBefore, classBefore, hardBefore, isHardOrPaired};
-use crate::classes::ClassTable;
-use crate::letters;
+use message::alphabet;
+use message::classes::ClassTable;
 use message::classify::class_of;
 use message::letters::small_letter;
 
@@ -16,7 +16,7 @@ pub fn byte_before(m: &[u8], i: usize) -> u8
     ensures { λ r. ⌜ r ≡ byteBefore (now (m .entry)) i ⌝ }
 {
     if i == 0 {
-        return letters::PAUSE;
+        return alphabet::PAUSE;
     }
     m[i - 1]
 }
@@ -34,9 +34,9 @@ pub fn is_hard_only(p: u8) -> bool
     ensures { λ r. ⌜ r ≡ isHardOnly (small p) ⌝ }
 {
     match p {
-        letters::ZHE | letters::CAPITAL_ZHE => true,
-        letters::SHA | letters::CAPITAL_SHA => true,
-        letters::TSE | letters::CAPITAL_TSE => true,
+        alphabet::ZHE | alphabet::CAPITAL_ZHE => true,
+        alphabet::SHA | alphabet::CAPITAL_SHA => true,
+        alphabet::TSE | alphabet::CAPITAL_TSE => true,
         _ => false,
     }
 }
@@ -47,12 +47,12 @@ fn is_hard_or_paired(p: u8) -> bool
 {
     let b = small_letter(p);
     match b {
-        letters::BE..=letters::DE => true,
-        letters::ZHE..=letters::ZE => true,
-        letters::KA..=letters::EN => true,
-        letters::PE..=letters::TE => true,
-        letters::EF..=letters::TSE => true,
-        letters::SHA => true,
+        alphabet::BE..=alphabet::DE => true,
+        alphabet::ZHE..=alphabet::ZE => true,
+        alphabet::KA..=alphabet::EN => true,
+        alphabet::PE..=alphabet::TE => true,
+        alphabet::EF..=alphabet::TSE => true,
+        alphabet::SHA => true,
         _ => false,
     }
 }
@@ -62,11 +62,11 @@ pub fn hard_before(m: &[u8], i: usize, p: u8) -> bool
     requires { ⌜ ByteBefore (now m) i p ⌝ }
     ensures { λ r. ⌜ r ≡ hardBefore (now (m .entry)) i ⌝ }
 {
-    if p != letters::GAP {
+    if p != alphabet::GAP {
         return false;
     }
     let last = byte_before(m, i - 1);
-    if (last == letters::SOFT_SIGN) | (last == letters::CAPITAL_SOFT_SIGN) {
+    if (last == alphabet::SOFT_SIGN) | (last == alphabet::CAPITAL_SOFT_SIGN) {
         return is_hard_only(byte_before(m, i - 2));
     }
     is_hard_or_paired(last)

@@ -5,7 +5,7 @@ ghost use Prim.Native.Nat.{_≤_};
 ghost use lib.ListN.{length};
 ghost use Rattle.message.specs.Places.{Steady, markBefore};
 ghost use Rattle.transcriber.specs.Levels.{levelBefore, overVowel, overMark, wordEnd};
-use crate::letters;
+use message::alphabet;
 use spec::Level;
 
 // At a place of a word: the level of the next vowel to the left, which is S where a mark stands at the place, and the level of a vowel that has no mark near.
@@ -22,8 +22,8 @@ fn mark_before(m: &[u8], i: usize) -> bool
     let mut j = i;
     while 0 < j {
         j -= 1;
-        if m[j] < letters::FIRST {
-            return m[j] == letters::MARK;
+        if m[j] < alphabet::FIRST {
+            return m[j] == alphabet::MARK;
         }
     }
     false

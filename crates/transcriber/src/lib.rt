@@ -1,9 +1,7 @@
 pub mod answers;
 mod before;
-pub mod classes;
 mod codes;
 pub mod consonants;
-mod letters;
 pub mod levels;
 pub mod naming;
 mod output;

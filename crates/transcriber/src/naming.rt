@@ -12,8 +12,6 @@ ghost use Rattle.transcriber.specs.Walk.{Put, WordEnd, NameReady, VowelN
 use crate::NameState;
 use crate::answers::refused;
 use crate::before::class_before;
-use crate::classes;
-use crate::classes::ClassTable;
 use crate::levels::at_word_end;
 use crate::levels::over_mark;
 use crate::levels::over_vowel;
@@ -23,6 +21,8 @@ use crate::syllables::is_consonant_or_sign;
 use crate::syllables::name_of;
 use crate::syllables::syllable_by;
 use message::check::check;
+use message::classes;
+use message::classes::ClassTable;
 use message::classify::class_of;
 use message::classify::class_table;
 use spec::Answer;
@@ -59,7 +59,7 @@ fn step(m: &[u8], i: usize, v: NameState, out: &mut [u8], t: &ClassTable) -> Nam
     ensures { λ q. ⌜ Named (now (m .entry)) (now (out .entry)) (now (out .exit)) i v q ⌝ }
 {
     let c = class_of(m[i], t);
-    if classes::VOWEL <= c {
+    if classes::PLAIN_VOWEL <= c {
         return put_name(m, i, v, out, t);
     }
     if classes::HARD_SIGN <= c {

@@ -3,7 +3,7 @@ ghost use mathlib.Core.Path.{_≡_};
 ghost use Rattle.spec.specs.Letters.{between};
 ghost use Rattle.spec.specs.Syllables.{nameOf};
 ghost use Rattle.transcriber.specs.Sounds.{coverClass, syllableBy};
-use crate::classes;
+use message::classes;
 use spec::Cover;
 use spec::Level;
 use spec::Syllable;

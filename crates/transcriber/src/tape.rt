@@ -12,8 +12,6 @@ use crate::Right;
 use crate::Vowel;
 pub use crate::answers::refused;
 use crate::before::class_before;
-use crate::classes;
-use crate::classes::ClassTable;
 use crate::codes;
 use crate::consonants::AS_WRITTEN;
 use crate::consonants::VOICELESS;
@@ -32,6 +30,8 @@ use crate::tables::sound_table;
 use crate::vowels::first_code;
 use crate::vowels::vowel_at;
 use message::check::check;
+use message::classes;
+use message::classes::ClassTable;
 use message::classify::class_of;
 use message::classify::class_table;
 use message::letters::is_elided;
@@ -83,7 +83,7 @@ fn is_silent(m: &[u8], i: usize, c: usize, t: &ClassTable) -> bool
     requires { ⌜ (now t ≡ classes) × ClassAt (now m) i c ⌝ }
     ensures { λ r. ⌜ r ≡ elidedAt (now (m .entry)) i ⌝ }
 {
-    if c != classes::DENTAL_STOP {
+    if c != classes::T_OR_D {
         return false;
     }
     if class_before(m, i, t) != classes::PAIRED {
@@ -141,7 +141,7 @@ fn put_vowel(m: &[u8], i: usize, c: usize, r: Right, out: &mut [u8], t: &ClassTa
     let level = l.near;
     let vowel = vowel_at(m, i, c, level, t);
     let at = put_sung(out, r.at, vowel);
-    let sound = sound_of(first_code(vowel), c != classes::VOWEL);
+    let sound = sound_of(first_code(vowel), c != classes::PLAIN_VOWEL);
     let levels = over_vowel(l);
     Right {
         at,
@@ -157,7 +157,7 @@ fn step(m: &[u8], i: usize, r: Right, out: &mut [u8], t: &ClassTable, s: &SoundT
     ensures { λ q. ⌜ Stepped (now (m .entry)) (now (out .entry)) (now (out .exit)) i r q ⌝ }
 {
     let c = class_of(m[i], t);
-    if classes::VOWEL <= c {
+    if classes::PLAIN_VOWEL <= c {
         return put_vowel(m, i, c, r, out, t);
     }
     if classes::HARD_ONLY <= c {

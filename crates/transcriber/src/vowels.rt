@@ -13,11 +13,11 @@ use crate::Vowel;
 use crate::before::byte_before;
 use crate::before::hard_before;
 use crate::before::is_hard_only;
-use crate::classes;
-use crate::classes::ClassTable;
 use crate::codes;
-use crate::letters;
 use crate::syllables::syllable_by;
+use message::alphabet;
+use message::classes;
+use message::classes::ClassTable;
 use message::classify::class_of;
 use spec::Cover;
 use spec::Level;
@@ -26,7 +26,7 @@ use spec::Syllable;
 fn is_initial(p: u8) -> bool
     ensures { λ r. ⌜ r ≡ isBreak p ⌝ }
 {
-    (p == letters::GAP) | (p == letters::PAUSE)
+    (p == alphabet::GAP) | (p == alphabet::PAUSE)
 }
 
 // Class Q: ч щ й.
@@ -34,9 +34,9 @@ fn is_soft_only(p: u8) -> bool
     ensures { λ r. ⌜ r ≡ isSoftOnly (small p) ⌝ }
 {
     match p {
-        letters::CHE | letters::CAPITAL_CHE => true,
-        letters::SHCHA | letters::CAPITAL_SHCHA => true,
-        letters::SHORT_I | letters::CAPITAL_SHORT_I => true,
+        alphabet::CHE | alphabet::CAPITAL_CHE => true,
+        alphabet::SHCHA | alphabet::CAPITAL_SHCHA => true,
+        alphabet::SHORT_I | alphabet::CAPITAL_SHORT_I => true,
         _ => false,
     }
 }
@@ -180,16 +180,16 @@ pub fn vowel_sound(b: u8, s: Syllable, p: u8, m: &[u8], i: usize) -> u8
     ensures { λ r. ⌜ AtBoundary (rowOf (small b)) (hardBefore (now (m .entry)) i) p s r ⌝ }
 {
     match b {
-        letters::A | letters::CAPITAL_A => row_a(s, p),
-        letters::O | letters::CAPITAL_O => row_o(s, p),
-        letters::U | letters::CAPITAL_U => by_stress(s, codes::U_STRESSED, codes::U1),
-        letters::YERU | letters::CAPITAL_YERU => by_stress(s, codes::Y_STRESSED, codes::Y1),
-        letters::E | letters::CAPITAL_E => row_e(s, p, m, i),
-        letters::IE | letters::CAPITAL_IE => row_ie(s, p),
-        letters::IO | letters::CAPITAL_IO => codes::O_STRESSED,
-        letters::YU | letters::CAPITAL_YU => by_stress(s, codes::U_STRESSED, codes::U1),
-        letters::YA | letters::CAPITAL_YA => row_ya(s, p),
-        letters::I | letters::CAPITAL_I => row_i(s, p, m, i),
+        alphabet::A | alphabet::CAPITAL_A => row_a(s, p),
+        alphabet::O | alphabet::CAPITAL_O => row_o(s, p),
+        alphabet::U | alphabet::CAPITAL_U => by_stress(s, codes::U_STRESSED, codes::U1),
+        alphabet::YERU | alphabet::CAPITAL_YERU => by_stress(s, codes::Y_STRESSED, codes::Y1),
+        alphabet::E | alphabet::CAPITAL_E => row_e(s, p, m, i),
+        alphabet::IE | alphabet::CAPITAL_IE => row_ie(s, p),
+        alphabet::IO | alphabet::CAPITAL_IO => codes::O_STRESSED,
+        alphabet::YU | alphabet::CAPITAL_YU => by_stress(s, codes::U_STRESSED, codes::U1),
+        alphabet::YA | alphabet::CAPITAL_YA => row_ya(s, p),
+        alphabet::I | alphabet::CAPITAL_I => row_i(s, p, m, i),
         _ => 0, // no vowel
     }
 }
@@ -214,8 +214,8 @@ fn is_bare(s: Syllable) -> bool
 fn has_glide(c: usize, s: Syllable, k: usize) -> bool
     ensures { λ r. ⌜ r ≡ glideBy c (s .cover) k ⌝ }
 {
-    if c != classes::IOTATED {
-        return (c == classes::LETTER_I) & is_sign_class(k);
+    if c != classes::GLIDE_VOWEL {
+        return (c == classes::VOWEL_I) & is_sign_class(k);
     }
     is_bare(s) | is_sign_class(k)
 }

@@ -31,6 +31,10 @@ pub const O: u8 = 0xEE; // о
 
 pub const PE: u8 = 0xEF; // п
 
+pub const ER: u8 = 0xF0; // р
+
+pub const ES: u8 = 0xF1; // с
+
 pub const TE: u8 = 0xF2; // т
 
 pub const U: u8 = 0xF3; // у
@@ -59,6 +63,8 @@ pub const IO: u8 = 0xB8; // ё
 
 pub const CAPITAL_A: u8 = 0xC0;
 
+pub const CAPITAL_DE: u8 = 0xC4;
+
 pub const CAPITAL_IE: u8 = 0xC5;
 
 pub const CAPITAL_ZHE: u8 = 0xC6;
@@ -68,6 +74,8 @@ pub const CAPITAL_I: u8 = 0xC8;
 pub const CAPITAL_SHORT_I: u8 = 0xC9;
 
 pub const CAPITAL_O: u8 = 0xCE;
+
+pub const CAPITAL_TE: u8 = 0xD2;
 
 pub const CAPITAL_U: u8 = 0xD3;
 
@@ -90,3 +98,12 @@ pub const CAPITAL_YU: u8 = 0xDE;
 pub const CAPITAL_YA: u8 = 0xDF;
 
 pub const CAPITAL_IO: u8 = 0xA8;
+
+// Capitals are FIRST_CAPITAL to LAST_CAPITAL, each CASE_STEP below its small letter, but for ё.
+pub const FIRST_CAPITAL: u8 = CAPITAL_A;
+
+pub const LAST_CAPITAL: u8 = CAPITAL_YA;
+
+pub const FIRST_SMALL: u8 = A;
+
+pub const CASE_STEP: u8 = 32;
