@@ -10,7 +10,7 @@ ghost use Rattle.transcriber.specs.Sounds.{soundTable};
 ghost use Rattle.transcriber.specs.Walk.{Stands, Put, sungCodes, Lent, ClassAt, Ready, ReadyFor, Stepped, MayWalk, Walked};
 use crate::Right;
 use crate::Vowel;
-pub use crate::answers::refused;
+use crate::answers::refused;
 use crate::before::class_before;
 use crate::codes;
 use crate::consonants::AS_WRITTEN;

@@ -4,7 +4,7 @@ ghost use mathlib.Core.Path.{_≡_};
 ghost use mathlib.Core.Bool.{true, cond};
 ghost use Rattle.spec.specs.Letters.{small, isBreak, isSoftOnly};
 ghost use Rattle.spec.specs.Refusals.{vowelByte};
-ghost use Rattle.spec.specs.Vowels.{bare, byStress, rowА, rowО, rowЭ, rowЕ, rowЯ, rowИ};
+ghost use Rattle.spec.specs.Vowels.{byStress, rowА, rowО, rowЭ, rowЕ, rowЯ, rowИ};
 ghost use Rattle.spec.specs.Codes.{J};
 ghost use Rattle.message.specs.Classes.{classes, isSignClass};
 ghost use Rattle.transcriber.specs.Sounds.{After, Anyway, AtBoundary, ByteBefore, glideBy, hardBefore, rowOf, secondА};
@@ -200,24 +200,21 @@ fn is_sign_class(k: usize) -> bool
     (classes::HARD_SIGN <= k) & (k <= classes::SOFT_SIGN)
 }
 
-fn is_bare(s: Syllable) -> bool
-    ensures { λ r. ⌜ r ≡ bare (s .cover) ⌝ }
-{
-    let cover = s.cover;
-    match cover {
-        Cover::Bare => true,
-        Cover::Covered => false,
-    }
-}
-
 // Has a vowel of class c a glide, after a byte of class k?
 fn has_glide(c: usize, s: Syllable, k: usize) -> bool
     ensures { λ r. ⌜ r ≡ glideBy c (s .cover) k ⌝ }
 {
-    if c != classes::GLIDE_VOWEL {
-        return (c == classes::VOWEL_I) & is_sign_class(k);
+    if c == classes::VOWEL_I {
+        return is_sign_class(k);
     }
-    is_bare(s) | is_sign_class(k)
+    if c != classes::GLIDE_VOWEL {
+        return false;
+    }
+    let cover = s.cover;
+    match cover {
+        Cover::Bare => true,
+        Cover::Covered => is_sign_class(k),
+    }
 }
 
 // The vowel at place i, of class c and this level.
