@@ -2,7 +2,7 @@
 -- Assumes nothing.
 use mathlib.Core.Bool.{or-false}
 use borrow.Author.Tests.{ne-eqb}
-use Rattle.message.specs.Scan.{isSignClass}
+use Rattle.message.specs.Classes.{isSignClass}
 use Rattle.spec.specs.Vowels.{bare}
 use borrow.Author.Needs.{needs}
 use Rattle.transcriber.proofs.vowels.has_glide.Statement.{statement}
