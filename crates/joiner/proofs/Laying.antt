@@ -11,7 +11,7 @@ use borrow.Author.Tests.{leb-true, leb-false}
 use lib.Dec.{leb}
 use mir.Val.{boolByte}
 use lib.ListN.{length, take, drop, getD, length-append, length-take, length-drop, List·getD-append, List·getD-eq-default}
-use lib.Seq.{take-all, take-length, take-at, take-suc, drop-at, drop-length, drop-cons, append-snoc, getD-take, getD-drop, getD-append-add}
+use lib.Seq.{take-all, take-length, take-at, take-suc, drop-at, drop-length, drop-cons, append-snoc, getD-take, getD-drop}
 use Rattle.spec.specs.Letters.{isBreak}
 use Rattle.spec.specs.Tape.{tape}
 use Rattle.spec.specs.Refusals.{checkOf}

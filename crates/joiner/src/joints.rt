@@ -47,7 +47,7 @@ fn is_i_or_e(b: u8) -> bool
 }
 
 // (a) changes the code before the mark: at the end of a word an obstruent is voiced only from over a gap. (b) changes the code after it: и and э at the start of
-// a word sound Ы only behind a hard boundary. index at is that of the mark of the break at place c.
+// a word sound Ы only behind a hard boundary. Index at is that of the mark of the break at place c.
 pub fn changes_at(m: &[u8], t: &[u8], c: usize, at: usize) -> Changes
     requires { ⌜ Beside (now m) (now t) c at ⌝ }
     ensures { λ r. ⌜ Changing (now (m .entry)) c r ⌝ }

@@ -1,14 +1,14 @@
 -- An accepted message is heard: its first letter is no sign and is not elided, so it has a sound.
 -- Assumes nothing.
-use Prim.Native.Nat.{ℕ, suc, _<_}
-use mathlib.Core.Path.{_≡_, sym}
-use mathlib.Core.Bool.{Bool, true, false, cond, _&&_, and-false, true≢false}
+use Prim.Native.Nat.{ℕ, _<_}
+use mathlib.Core.Path.{_≡_}
+use mathlib.Core.Bool.{Bool, true, false, _&&_}
 use mathlib.Core.List.{List, [], _∷_, _++_}
 use native.Mathlib.Omega.{arith}
 use lib.ListN.{length, length-append}
-use Rattle.spec.specs.Letters.{Letter, Message, last, more, read, putLetter, beginsWithMark, small, isBreak, isMark, isSign, isVowel}
-use Rattle.spec.specs.Elision.{elides, elidesAmong, elidesT, elidesD, elideFrom, elide}
-use Rattle.spec.specs.Syllables.{coverAfter, factsOf, syllableOf}
+use Rattle.spec.specs.Letters.{Letter, Message, last, more, read, putLetter, small, isBreak, isMark, isSign, isVowel}
+use Rattle.spec.specs.Elision.{elideFrom, elide}
+use Rattle.spec.specs.Syllables.{coverAfter, syllableOf}
 use Rattle.spec.specs.Vowels.{Phone, glides, vowelPhones, phonesOf, phonesFrom}
 use Rattle.spec.specs.Voicing.{voice}
 use Rattle.spec.specs.Palatalization.{palatalize}
@@ -40,6 +40,7 @@ forbidden : (t : Bool) → (t && true) ≡ false → t ≡ false
 forbidden true e = e
 forbidden false e = e
 
+-- Numbers 4, 5 and 6 leave a letter that is no sign as the first byte, so an accepted message has a code.
 pub tape-heard : (m : List ℕ) → Passes m → 0 < length (tape m)
 unfolding tape read beforeAt fitsIn rows row4 row5 row6 none first signByte
 tape-heard [] p = absurd (omega (arith, p .some))
