@@ -13,6 +13,7 @@ ghost use Rattle.laws.proofs.MarkIndex.{Last};
 ghost use Rattle.joiner.specs.Writing.{TapeDue, PartDue, outside, Behind, Reach, Laid, CutDue};
 use crate::Progress;
 use crate::joints::changes_at;
+use message::alphabet;
 use message::check::check;
 use message::classes::ClassTable;
 use message::classify::class_table;
@@ -20,29 +21,21 @@ use spec::Answer;
 use spec::Checked;
 use spec::Refusal;
 use transcriber::answers::refused;
+use transcriber::codes;
 use transcriber::tables::SoundTable;
 use transcriber::tables::sound_table;
 use transcriber::tape::write_tape;
 
-// Bytes of breaks, and what the other bytes of an accepted message lie between.
-const GAP: u8 = 0x20;
+// What lies between these is no break of an accepted message.
+const FIRST_UNBROKEN: u8 = alphabet::MARK;
 
-const PAUSE: u8 = 0x23;
-
-const STRESS_MARK: u8 = 0x2A;
-
-const LAST_LETTER: u8 = 0xFF;
-
-// Codes of sounds; a gap's mark is below them, a pause's above.
-const FIRST_SOUND: u8 = 1;
-
-const LAST_SOUND: u8 = 56;
+const LAST_UNBROKEN: u8 = alphabet::YA;
 
 // Is it a gap or a pause?
 fn is_break(b: u8) -> bool
     ensures { λ r. ⌜ r ≡ isBreak b ⌝ }
 {
-    (b == GAP) | (b == PAUSE)
+    (b == alphabet::GAP) | (b == alphabet::PAUSE)
 }
 
 // Number 12 at one cut: no break stands there, or it is below the least place that it may have.
@@ -102,8 +95,8 @@ fn mark_of(m: &[u8], t: &[u8], c: usize, e: usize, end: usize) -> usize
     let mut i = e;
     let mut k = end;
     while c < i {
-        i = last_outside(m, i, STRESS_MARK, LAST_LETTER);
-        k = last_outside(t, k, FIRST_SOUND, LAST_SOUND);
+        i = last_outside(m, i, FIRST_UNBROKEN, LAST_UNBROKEN);
+        k = last_outside(t, k, codes::FIRST_SOUND, codes::LAST_SOUND);
     }
     k
 }

@@ -3,47 +3,31 @@ ghost use mathlib.Core.Path.{_≡_};
 ghost use Rattle.laws.proofs.Beside.{isVoiced, isHigh, isIOrE};
 ghost use Rattle.joiner.specs.Writing.{Beside, Changing};
 use crate::Changes;
+use message::alphabet;
 use message::letters::letter_at;
-
-// Codes of sounds (paper 01, 'Codes'): those of voiced obstruents are B to SOFT_Z but for the glide, and two more; Y is ы.
-const B: u8 = 16; // Б
-
-const SOFT_Z: u8 = 30; // З'
-
-const GLIDE: u8 = 28; // J
-
-const TS1: u8 = 52; // Ц1
-
-const CH1: u8 = 54; // Ч1
-
-const Y_STRESSED: u8 = 4; // Ы*
-
-const Y1: u8 = 9; // Ы1
-
-// Small letters.
-const I: u8 = 0xE8; // и
-
-const E: u8 = 0xFD; // э
+use transcriber::codes;
 
 // Is it a voiced obstruent's sound?
 fn is_voiced(code: u8) -> bool
     ensures { λ r. ⌜ r ≡ isVoiced code ⌝ }
 {
-    (B <= code) & (code <= SOFT_Z) & (code != GLIDE) | (code == TS1) | (code == CH1)
+    (codes::BE <= code) & (code <= codes::SOFT_ZE) & (code != codes::GLIDE)
+        | (code == codes::VOICED_TSE)
+        | (code == codes::VOICED_CHE)
 }
 
 // Is it a sound of ы?
 fn is_high(code: u8) -> bool
     ensures { λ r. ⌜ r ≡ isHigh code ⌝ }
 {
-    (code == Y_STRESSED) | (code == Y1)
+    (code == codes::Y_STRESSED) | (code == codes::Y1)
 }
 
 // Is it и or э?
 fn is_i_or_e(b: u8) -> bool
     ensures { λ r. ⌜ r ≡ isIOrE b ⌝ }
 {
-    (b == I) | (b == E)
+    (b == alphabet::I) | (b == alphabet::E)
 }
 
 // (a) changes the code before the mark: at the end of a word an obstruent is voiced only from over a gap. (b) changes the code after it: и and э at the start of

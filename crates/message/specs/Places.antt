@@ -63,7 +63,7 @@ tailNext l (more w x r) = isGap x && voices (segment (isGap x && endsHardFrom (l
 unfoldable pub tailWord : Left → Facts → Message → List ℕ
 tailWord l facts r = fusedFrom (l .hard) facts (tailNext l r) (l .p) (firstWord r)
 
--- At a place: the tape from there on, and what a letter before it would see: the tone, the first sound of its word, whether the next letter softens, whether the next vowel is stressed
+-- At a place: the tape from there on, and what a letter before it would see: the rest of its word, the tone, and the first sound of that rest
 unfoldable pub tapeAt : List ℕ → ℕ → List ℕ
 tapeAt m i = tailTape (leftAt m i) (factsAt m i) (read (drop i m))
 

@@ -4,7 +4,7 @@ ghost use mathlib.Core.Path.{_≡_};
 ghost use Rattle.message.specs.Steps.{pairs};
 use crate::classes::PairTable;
 
-// A row for each kind and a column for each class, in hexadecimal: the first two digits are 0, or 1 and the fault; the next is 2 for a letter that may be elided; 4000 is a name, and the last digit the codes.
+// A row for each kind and a column for each class, in hexadecimal: the first two digits are 0, or one more than the fault's number; the next is 2 for a letter that may be elided; 4000 is a name, and the last digit the codes.
 const PAIRS: PairTable = [
     0x0400000, // unnamed after unnamed
     0x0600000, // mark after unnamed

@@ -25,7 +25,21 @@ pub const A2: u8 = 12; // А2
 
 pub const E2: u8 = 13; // Э2
 
+// The voiced obstruents are BE to SOFT_ZE but for the glide, and two more.
+pub const BE: u8 = 16; // Б
+
 pub const GLIDE: u8 = 28; // J
+
+pub const SOFT_ZE: u8 = 30; // З'
+
+pub const VOICED_TSE: u8 = 52; // Ц1
+
+pub const VOICED_CHE: u8 = 54; // Ч1
+
+// Sounds lie between the marks of the breaks.
+pub const FIRST_SOUND: u8 = A_STRESSED;
+
+pub const LAST_SOUND: u8 = 56; // Щ
 
 pub const GAP: u8 = 0;
 

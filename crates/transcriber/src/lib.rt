@@ -1,6 +1,6 @@
 pub mod answers;
 mod before;
-mod codes;
+pub mod codes;
 pub mod consonants;
 pub mod levels;
 pub mod naming;

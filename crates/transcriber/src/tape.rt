@@ -78,7 +78,7 @@ fn pass_over(r: Right, sound: usize, levels: Levels) -> Right
     }
 }
 
-// Is the letter at place i, of class c, silent? т and д are only after с н р з, so another class before them spares the question.
+// Is the letter at place i, of class c, silent? Only т and д are, and only after с н р з, so another class before them spares the question.
 fn is_silent(m: &[u8], i: usize, c: usize, t: &ClassTable) -> bool
     requires { ⌜ (now t ≡ classes) × ClassAt (now m) i c ⌝ }
     ensures { λ r. ⌜ r ≡ elidedAt (now (m .entry)) i ⌝ }
@@ -174,7 +174,7 @@ fn step(m: &[u8], i: usize, r: Right, out: &mut [u8], t: &ClassTable, s: &SoundT
 }
 
 // What stands right of the message's end, where place end of the output is the end of its tape.
-pub fn start(m: &[u8], end: usize) -> Right
+fn start(m: &[u8], end: usize) -> Right
     requires { ⌜ Steady (now m) ⌝ }
     ensures { λ r. ⌜ (r .at ≡ end) × Stands (now (m .entry)) (length (now (m .entry))) r ⌝ }
 {
@@ -188,7 +188,7 @@ pub fn start(m: &[u8], end: usize) -> Right
 }
 
 // The walk from place from back to place to. It is the one caller of the step, so that the state stays in registers.
-pub fn walk_back(
+fn walk_back(
     m: &[u8],
     out: &mut [u8],
     from: usize,

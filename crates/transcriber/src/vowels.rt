@@ -1,4 +1,4 @@
-// The sounds of vowels (paper 01, pass 3): a function for each row, which asks of the letter before, and of the boundary, only where its line does.
+// The sounds of vowels (paper 01, pass 3): an arm for each row. A row that asks of the letter before, or of the boundary, is a function that asks only where its line does.
 // The letter before is told by the byte before, p: a break at the start of a word, a mark after a stressed vowel.
 ghost use mathlib.Core.Path.{_≡_};
 ghost use mathlib.Core.Bool.{true, cond};
