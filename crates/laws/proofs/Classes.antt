@@ -2,7 +2,7 @@
 -- Assumes nothing.
 use Prim.Native.Nat.{ℕ}
 use mathlib.Core.Path.{_≡_, refl, sym, ap, _∙_}
-use mathlib.Core.Bool.{Bool, true, false, _||_, false≢true}
+use mathlib.Core.Bool.{Bool, true, false, cond, _||_, false≢true}
 use mathlib.Core.List.{List, [], _∷_, _++_, map}
 use lib.Dec.{eqb}
 use borrow.Author.Tests.{eqb-true}
@@ -11,6 +11,21 @@ use Rattle.spec.specs.Alphabet.{gap, pause}
 use Rattle.spec.specs.Letters.{isBreak, isMark, plainVowels, softeningVowels, isVowel, isObstruent, isPaired}
 use Rattle.spec.specs.Refusals.{vowelByte, signByte, hardSignByte, consonantByte}
 use Rattle.spec.proofs.Computed.{everything}
+
+-- what holds of both choices holds of what a test chooses
+pub cond-both : {A : Type 0} (P : A → Type 0) (t : Bool) {x y : A} → P x → P y → P (cond t x y)
+cond-both P true a b = a
+cond-both P false a b = b
+
+-- a function of what a test chooses
+pub cond-app : {A B : Type 0} (f : A → B) (t : Bool) (x y : A) → f (cond t x y) ≡ cond t (f x) (f y)
+cond-app f true x y = refl
+cond-app f false x y = refl
+
+-- a test that chooses nothing
+pub cond-same : {A : Type 0} (t : Bool) (x : A) → cond t x x ≡ x
+cond-same true x = refl
+cond-same false x = refl
 
 -- two functions that agree on a list agree at each of its bytes
 pub among-same : {A : Type 0} (f g : ℕ → A) (xs : List ℕ) (b : ℕ) → map f xs ≡ map g xs → among xs b ≡ true → f b ≡ g b
