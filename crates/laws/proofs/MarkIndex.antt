@@ -20,6 +20,7 @@ use Rattle.spec.specs.Joints.{markIndex, wordBefore, wordAfter}
 use Rattle.spec.specs.declared.Counts.{Counts}
 use Rattle.spec.specs.declared.Checked.the-variants.{Accepted}
 use Rattle.laws.proofs.Accepted.{accepted-passes}
+use Rattle.laws.proofs.Classes.{cond-both}
 use Rattle.laws.proofs.Stretch.{segment-length}
 use Rattle.laws.proofs.Codes.{part-spells}
 use Rattle.laws.proofs.Parts.{part, Begins, hardAt, onward, voicedAt, changedAfter, changedBefore, last-at, onward-cut, part-own, tape-cut, mark-index, mark-there, code-after, onward-alone}
@@ -56,11 +57,7 @@ isNoSound c = not (between А* Щ c)
 -- a break's mark is none
 mark-no-sound : (x : ℕ) → isNoSound (markOf x) ≡ true
 unfolding markOf
-mark-no-sound x = by (eqb x pause)
-  where
-    by : (t : Bool) → isNoSound (cond t 63 0) ≡ true
-    by true = refl
-    by false = refl
+mark-no-sound x = cond-both (λ c. isNoSound c ≡ true) (eqb x pause) refl refl
 
 -- the whole message's codes of the bytes from a up to e
 abbrev pub stretch : List ℕ → ℕ → ℕ → List ℕ

@@ -2,13 +2,12 @@
 -- Assumes nothing.
 use Prim.Native.Nat.{ℕ, zero, suc}
 use mathlib.Core.Path.{_≡_, refl, ap, _∙_}
-use mathlib.Core.Bool.{Bool, true, false, cond, _&&_, _||_}
+use mathlib.Core.Bool.{Bool, true, false, cond, _&&_}
 use mathlib.Core.List.{List, [], _∷_, _++_, append-assoc}
 use native.Mathlib.Omega.{arith}
 use lib.Dec.{eqb}
-use borrow.Author.Tests.{eqb-true}
 use lib.ListN.{length, drop, getD, length-append}
-use Rattle.spec.specs.Alphabet.{gap, pause, mark}
+use Rattle.spec.specs.Alphabet.{pause}
 use Rattle.spec.specs.Tables.{among}
 use Rattle.spec.specs.Letters.{Letter, Message, last, more, read, putLetter, beginsWithMark, firstWord, lastWord, isGap, isBreak, isMark}
 use Rattle.spec.specs.Codes.{markOf, isVoicing}
@@ -17,7 +16,7 @@ use Rattle.spec.specs.Palatalization.{firstCode}
 use Rattle.spec.specs.Voicing.{voices}
 use Rattle.spec.specs.Tape.{wordTape, segment}
 use Rattle.spec.specs.Joints.{endsInObstruent, beginsWithIOrE}
-use Rattle.laws.proofs.Classes.{break-mark}
+use Rattle.laws.proofs.Classes.{cond-both, break-mark}
 use Rattle.laws.proofs.Word.{lastCodeFrom, lastCode, word-length, word-quiet, word-ends-differ, word-firm, word-starts-differ}
 
 -- the message a, the break x, and the message b, read as one
@@ -66,11 +65,7 @@ read-join (b ∷ p) s x e = rw (read-join p s x e, mark-before-break p s x e, pu
 -- a break's mark is no voicing sound, and neither is nothing, so a word is followed by the same voice with or without what stands behind the break
 pub voices-over : (t u : List ℕ) (x : ℕ) → voices (t ++ (markOf x ∷ u)) ≡ voices t
 unfolding voices markOf isVoicing among
-voices-over [] u x = by (eqb x pause)
-  where
-    by : (b : Bool) → isVoicing (cond b 63 0) ≡ false
-    by true = refl
-    by false = refl
+voices-over [] u x = cond-both (λ c. isVoicing c ≡ false) (eqb x pause) refl refl
 voices-over (c ∷ t) u x = refl
 
 -- sounds voice what their first one does; 0, for none, voices nothing
