@@ -5,6 +5,7 @@ use mathlib.Core.Path.{_≡_, refl, sym, ap, _∙_}
 use mathlib.Core.Logic.{_⊎_, inl, inr, ⊎-elim}
 use mathlib.Core.Bool.{Bool, true, false, cond, _&&_, not, and-eq-true-iff, and-false, true≢false, false≢true}
 use mathlib.Core.List.{List, [], _∷_}
+use native.Mathlib.Nat.{eq-zero-or-pos}
 use native.Mathlib.Omega.{arith}
 use lib.Dec.{eqb, leb}
 use lib.ListN.{length, getD, drop, length-drop}
@@ -16,6 +17,7 @@ use Rattle.spec.specs.declared.Counts.{Counts}
 use Rattle.spec.specs.declared.Checked.{Checked}
 use Rattle.spec.specs.declared.Checked.the-variants.{Accepted, Refused}
 use Rattle.spec.proofs.Computed.{everything}
+use Rattle.laws.proofs.Classes.{refuted, below-or}
 
 -- Rows with numbers above 2, no number twice.
 unfoldable pub orderly : List Row → Bool
@@ -67,11 +69,7 @@ module _ (before : List ℕ) (b : ℕ) (after : List ℕ) where
 
   -- a number that fits further on is not the first row's
   not-first : (n : ℕ) (rs : List Row) → indexIn rs n ≡ length rs → (k : ℕ) → fitsIn rs k before b after ≡ true → eqb n k ≡ false
-  not-first n rs a k e = by (eqb n k) refl
-    where
-      by : (t : Bool) → eqb n k ≡ t → t ≡ false
-      by true q = absurd (omega (arith, fits-within rs k e, rw (eqb-true n k q) at a))
-      by false q = refl
+  not-first n rs a k e = refuted (eqb n k) (λ q. omega (arith, fits-within rs k e, rw (eqb-true n k q) at a))
 
   -- the first row that fits does fit
   first-fits : (rs : List Row) → orderly rs ≡ true → 0 < firstFit rs before b after → fitsIn rs (firstFit rs before b after) before b after ≡ true
@@ -126,13 +124,8 @@ fault-clear before b after e k = first-none before b after rows k rows-orderly e
 -- no row, no fault
 pub clear-fault : (before : List ℕ) (b : ℕ) (after : List ℕ) → Clear before b after → faultAt before b after ≡ 0
 unfolding faultAt
-clear-fault before b after c = by (eqb (firstFit rows before b after) 0) refl
-  where
-    by : (t : Bool) → eqb (firstFit rows before b after) 0 ≡ t → firstFit rows before b after ≡ 0
-    by true q = eqb-true _ _ q
-    by false q =
-        let z : 0 < firstFit rows before b after = omega (arith, eqb-false (firstFit rows before b after) 0 q) in
-        absurd (true≢false (sym (first-fits before b after rows rows-orderly z) ∙ c (firstFit rows before b after)))
+clear-fault before b after c =
+    ⊎-elim (λ e. e) (λ z. absurd (true≢false (sym (first-fits before b after rows rows-orderly z) ∙ c (firstFit rows before b after)))) (eq-zero-or-pos (firstFit rows before b after))
 
 -- the order of two rows is that of their indices
 rank-lower : (k n : ℕ) → eqb k 1 ≡ false → eqb k 2 ≡ false → rank k < rank n → indexIn rows k < indexIn rows n
@@ -154,11 +147,7 @@ ClearAt m i = Clear (beforeAt m i) (getD m i 0) (drop (suc i) m)
 
 -- no row fits at the places before suc i, if none fits at those before i and at i
 clear-more : (m : List ℕ) (i : ℕ) → ((j : ℕ) → j < i → ClearAt m j) → ClearAt m i → (j : ℕ) → j < suc i → ClearAt m j
-clear-more m i c d j h = by (eqb j i) refl
-  where
-    by : (t : Bool) → eqb j i ≡ t → ClearAt m j
-    by true q = rw (eqb-true j i q) d
-    by false q = c j (omega (arith, eqb-false j i q))
+clear-more m i c d j h = ⊎-elim (λ l. c j l) (λ l. let e : j ≡ i = omega arith in rw e d) (below-or j i)
 
 -- as many bytes stand before a place as it counts
 pub before-length : (m : List ℕ) (i : ℕ) → length (beforeAt m i) ≡ i
@@ -280,11 +269,8 @@ check-finds m = by (eqb (length m) 0) refl (leb (length m) 4096) refl
 
 -- a message that passes is fitted by nothing
 pub passes-none : (m : List ℕ) → Passes m → NoneFits m
-passes-none m p k q = by (leb (suc q) (length m)) refl
-  where
-    by : (t : Bool) → leb (suc q) (length m) ≡ t → fits m k q ≡ false
-    by true d = let h = leb-true (suc q) (length m) d in sized-fits m (p .some) (p .short) k q false h (p .rows q h k)
-    by false d = past-fits m (p .some) (p .short) k q (omega (arith, leb-false (suc q) (length m) d))
+passes-none m p k q =
+    ⊎-elim (λ h. sized-fits m (p .some) (p .short) k q false h (p .rows q h k)) (λ h. past-fits m (p .some) (p .short) k q h) (below-or q (length m))
 
 -- what is given fits, so it is not given where nothing fits
 none-given : (m : List ℕ) (n p : ℕ) → NoneFits m → Given m n p → ⊥
@@ -314,7 +300,8 @@ rank-same m p n k i e f = by (eqb n 1) refl (eqb n 2) refl (eqb k 1) refl (eqb k
 
 -- At most one number is given, at one place.
 pub given-once : (m : List ℕ) (n p k q : ℕ) → Given m n p → Given m k q → (n ≡ k) × (p ≡ q)
-given-once m n p k q g h = by (leb (suc p) q) refl (leb (suc q) p) refl (leb (suc (rank n)) (rank k)) refl (leb (suc (rank k)) (rank n)) refl
+given-once m n p k q g h =
+    ⊎-elim (λ l. absurd (before (inl l))) (λ x. ⊎-elim (λ l. absurd (after (inl l))) (λ y. at-once (omega arith)) (below-or q p)) (below-or p q)
   where
     -- what comes before does not fit
     before : Earlier n p k q → ⊥
@@ -323,16 +310,9 @@ given-once m n p k q g h = by (leb (suc p) q) refl (leb (suc q) p) refl (leb (su
     after : Earlier k q n p → ⊥
     after e = true≢false (sym (h .holds) ∙ g .first k q e)
 
-    by : (a : Bool) → leb (suc p) q ≡ a → (b : Bool) → leb (suc q) p ≡ b → (c : Bool) → leb (suc (rank n)) (rank k) ≡ c → (d : Bool) → leb (suc (rank k)) (rank n) ≡ d
-        → (n ≡ k) × (p ≡ q)
-    by true x b y c z d w = absurd (before (inl (leb-true _ _ x)))
-    by false x true y c z d w = absurd (after (inl (leb-true _ _ y)))
-    by false x false y true z d w = absurd (before (inr (omega (arith, leb-false (suc p) q x, leb-false (suc q) p y), leb-true _ _ z)))
-    by false x false y false z true w = absurd (after (inr (omega (arith, leb-false (suc p) q x, leb-false (suc q) p y), leb-true _ _ w)))
-    by false x false y false z false w =
-        let e : p ≡ q = omega (arith, leb-false (suc p) q x, leb-false (suc q) p y) in
-        let r : rank n ≡ rank k = omega (arith, leb-false (suc (rank n)) (rank k) z, leb-false (suc (rank k)) (rank n) w) in
-        (rank-same m q n k r (rw e at (g .holds)) (h .holds), e)
+    at-once : p ≡ q → (n ≡ k) × (p ≡ q)
+    at-once e = ⊎-elim (λ l. absurd (before (inr (e, l)))) (λ x. ⊎-elim (λ l. absurd (after (inr (sym e, l))))
+        (λ y. (rank-same m q n k (omega arith) (rw e at (g .holds)) (h .holds), e)) (below-or (rank k) (rank n))) (below-or (rank n) (rank k))
 
 -- Accepted: nothing fits.
 pub accepted-passes : (m : List ℕ) (counts : Counts) → checkOf m ≡ Accepted counts → Passes m

@@ -27,7 +27,7 @@ use Rattle.spec.specs.declared.Syllable.{Syllable}
 use Rattle.spec.specs.declared.Level.{Level}
 use Rattle.spec.specs.declared.Level.the-variants.{Stressed, First, Second}
 use Rattle.spec.proofs.Computed.{everything}
-use Rattle.laws.proofs.Classes.{cond-both, cond-app, cond-same, among-same, vowel-single}
+use Rattle.laws.proofs.Classes.{cond-both, cond-app, cond-same, refuted, among-same, vowel-single}
 use Rattle.laws.proofs.Word.{shape}
 use Rattle.laws.proofs.Accepted.{Passes, none-passes}
 
@@ -195,12 +195,7 @@ part-spells m p a n =
 -- a sound is no mark of a break
 sound-unmarked : (c : ℕ) → isSound c ≡ true → isMarkCode c ≡ false
 unfolding isSound isMarkCode
-sound-unmarked c s = by (eqb c 0) refl (eqb c 63) refl
-  where
-    by : (t : Bool) → eqb c 0 ≡ t → (u : Bool) → eqb c 63 ≡ u → (t || u) ≡ false
-    by true q u r = absurd (false≢true (rw (eqb-true c 0 q) at s))
-    by false q true r = absurd (false≢true (rw (eqb-true c 63 r) at s))
-    by false q false r = refl
+sound-unmarked c s = rw (refuted (eqb c 0) (λ q. false≢true (rw (eqb-true c 0 q) at s)), refuted (eqb c 63) (λ q. false≢true (rw (eqb-true c 63 q) at s)))
 
 -- so sounds add no mark
 marks-sounds : (s t : List ℕ) → Each isSound s → marksOf (s ++ t) ≡ marksOf t

@@ -7,22 +7,17 @@ use mathlib.Core.Logic.{inl, inr, ⊎-elim}
 use mathlib.Core.List.{List, [], _∷_}
 use native.Mathlib.Omega.{arith}
 use lib.Dec.{eqb, leb}
-use borrow.Author.Tests.{eqb-true, eqb-false, leb-true, leb-false, le-leb}
+use borrow.Author.Tests.{eqb-true, eqb-false, leb-true, le-leb}
 use lib.ListN.{length, drop, getD, length-drop, List·getD-eq-default}
 use Rattle.spec.specs.Letters.{isBreak}
 use Rattle.spec.specs.Joints.{RisingFrom, Rising, CutOf, breaksFrom, breaks, row12, badCutFrom, badCut, leastAt, FirstBadFrom, FirstBad}
 use Rattle.laws.proofs.Accepted.{rest-first}
+use Rattle.laws.proofs.Classes.{cond-app, below-or}
 
 -- a break stands within the message
 pub break-within : (m : List ℕ) (c : ℕ) → isBreak (getD m c 0) ≡ true → c < length m
 unfolding isBreak
-break-within m c e = by (leb (suc c) (length m)) refl
-  where
-    by : (t : Bool) → leb (suc c) (length m) ≡ t → c < length m
-    by true q = leb-true (suc c) (length m) q
-    by false q =
-        let l : length m ≤ c = omega (arith, leb-false (suc c) (length m) q) in
-        absurd (false≢true (rw (List·getD-eq-default m 0 l) at e))
+break-within m c e = ⊎-elim (λ h. h) (λ l. absurd (false≢true (rw (List·getD-eq-default m 0 l) at e))) (below-or c (length m))
 
 module _ (m : List ℕ) where
   -- what number 12 says of one cut
@@ -93,11 +88,7 @@ module _ (m : List ℕ) where
   bad-shift : (least k : ℕ) (cuts : List ℕ) → badCutFrom m least (suc k) cuts ≡ suc (badCutFrom m least k cuts)
   unfolding badCutFrom
   bad-shift least k [] = refl
-  bad-shift least k (c ∷ cuts) = rw (bad-shift (suc c) (suc k) cuts) (by (row12 m least c))
-    where
-      by : (t : Bool) → cond t (suc k) (suc (badCutFrom m (suc c) (suc k) cuts)) ≡ suc (cond t k (badCutFrom m (suc c) (suc k) cuts))
-      by true = refl
-      by false = refl
+  bad-shift least k (c ∷ cuts) = rw (bad-shift (suc c) (suc k) cuts) (sym (cond-app suc (row12 m least c) _ _))
 
   bad-next : (least c : ℕ) (cuts : List ℕ) → row12 m least c ≡ false → badCutFrom m least 0 (c ∷ cuts) ≡ suc (badCutFrom m (suc c) 0 cuts)
   unfolding badCutFrom

@@ -13,6 +13,7 @@ use Rattle.spec.specs.Refusals.{NoneFits}
 use Rattle.spec.specs.Joints.{Rising, CutOf, SplitAt, DiffersAt, joined, isLive, NoneLive, liveCount, markIndex, wordBefore, endsInObstruent}
 use Rattle.spec.specs.Demands.{TwoTapes}
 use Rattle.laws.proofs.Accepted.{none-passes}
+use Rattle.laws.proofs.Classes.{refuted}
 use Rattle.laws.proofs.Codes.{Spells, bytes-marks, part-spells}
 use Rattle.laws.proofs.Word.{lastCode}
 use Rattle.laws.proofs.Cuts.{cut-break}
@@ -93,12 +94,10 @@ equal-lengths m cuts r = joined-length m 0 cuts tt r ∙ ap length (onward-first
 -- And equal just where none of the cuts is live.
 pub equal-tapes : (m cuts : List ℕ) → Rising m cuts → (joined m cuts ≡ tape m) ↔ NoneLive m cuts
 unfolding joined
-equal-tapes m cuts r =
-    (λ e c i. by c i e (isLive m c) refl, λ f. joined-dead m 0 cuts tt r (first-own m) f ∙ onward-first m)
-  where
-    by : (c : ℕ) → CutOf c cuts → joined m cuts ≡ tape m → (t : Bool) → isLive m c ≡ t → t ≡ false
-    by c i e true l = absurd (differ-nowhere (tape m) (joined m cuts) (markIndex m c) e (differs m cuts r c i l))
-    by c i e false l = refl
+equal-tapes m cuts r = (
+  λ e c i. refuted _ (λ l. differ-nowhere (tape m) (joined m cuts) (markIndex m c) e (differs m cuts r c i l)),
+  λ f. joined-dead m 0 cuts tt r (first-own m) f ∙ onward-first m,
+)
 
 -- Demand 3 of the two tapes of an accepted message.
 pub two-tapes : (m cuts : List ℕ) → NoneFits m → Rising m cuts → TwoTapes m cuts

@@ -7,10 +7,10 @@ use mathlib.Core.Bool.{Bool, true, false, cond, not, _&&_, true≢false}
 use mathlib.Core.Logic.{_⊎_, ⊎-elim}
 use mathlib.Core.List.{List, [], _∷_, _++_, append-nil}
 use native.Mathlib.Omega.{arith}
-use lib.Dec.{eqb, leb}
+use lib.Dec.{eqb}
 use lib.ListN.{length, take, drop, getD, length-append, length-drop, List·getD-eq-default}
 use lib.Seq.{take-all}
-use borrow.Author.Tests.{leb-true, leb-false, le-leb}
+use borrow.Author.Tests.{le-leb}
 use Rattle.spec.specs.Alphabet.{pause}
 use Rattle.spec.specs.Letters.{between, read, firstByte, isGap, isBreak}
 use Rattle.spec.specs.Codes.{А*, Щ, markOf}
@@ -20,7 +20,7 @@ use Rattle.spec.specs.Joints.{markIndex, wordBefore, wordAfter}
 use Rattle.spec.specs.declared.Counts.{Counts}
 use Rattle.spec.specs.declared.Checked.the-variants.{Accepted}
 use Rattle.laws.proofs.Accepted.{accepted-passes}
-use Rattle.laws.proofs.Classes.{cond-both}
+use Rattle.laws.proofs.Classes.{cond-both, below-or}
 use Rattle.laws.proofs.Stretch.{segment-length}
 use Rattle.laws.proofs.Codes.{part-spells}
 use Rattle.laws.proofs.Parts.{part, Begins, hardAt, onward, voicedAt, changedAfter, changedBefore, last-at, onward-cut, part-own, tape-cut, mark-index, mark-there, code-after, onward-alone}
@@ -39,11 +39,7 @@ pub record Last (test : ℕ → Bool) (x : List ℕ) (i r : ℕ) : Type 0 where
 
 -- it is not below another such index
 pub last-above : (test : ℕ → Bool) (x y : List ℕ) (i r s : ℕ) → ((j : ℕ) → j < i → getD x j 0 ≡ getD y j 0) → Last test x i r → s < i → test (getD y s 0) ≡ true → s ≤ r
-last-above test x y i r s same l b h = by (leb s r) refl
-  where
-    by : (t : Bool) → leb s r ≡ t → s ≤ r
-    by true q = leb-true s r q
-    by false q = absurd (true≢false (sym h ∙ ap test (sym (same s b)) ∙ l .past s (omega (arith, leb-false s r q)) b))
+last-above test x y i r s same l b h = ⊎-elim (λ g. absurd (true≢false (sym h ∙ ap test (sym (same s b)) ∙ l .past s g b))) (λ g. g) (below-or r s)
 
 -- so lists that are the same below i have one
 pub last-once : (test : ℕ → Bool) (x y : List ℕ) (i r s : ℕ) → ((j : ℕ) → j < i → getD x j 0 ≡ getD y j 0) → Last test x i r → Last test y i s → r ≡ s

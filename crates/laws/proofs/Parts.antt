@@ -2,12 +2,12 @@
 -- Assumes nothing.
 use Prim.Native.Nat.{ℕ, zero, suc, _+_, _-_, _<_, _≤_}
 use mathlib.Core.Path.{_≡_, refl, sym, ap, _∙_}
-use mathlib.Core.Bool.{Bool, true, false, _&&_, _||_, and-comm, and-eq-true-iff, true≢false}
+use mathlib.Core.Bool.{Bool, true, false, _&&_, _||_, and-comm, and-or-distrib-left, and-eq-true-iff, true≢false}
 use mathlib.Core.Logic.{inl, inr, ⊎-elim, _≢_}
 use mathlib.Core.List.{List, [], _∷_, _++_, append-assoc}
 use native.Mathlib.Omega.{arith}
 use lib.ListN.{length, take, drop, getD, length-append, take-append-drop}
-use lib.Seq.{drop-cons, drop-drop, take-add, getD-at}
+use lib.Seq.{drop-cons, drop-drop, drop-append-add, take-add, getD-at}
 use Rattle.spec.specs.Letters.{Message, read, firstWord, lastWord, isGap, isBreak}
 use Rattle.spec.specs.Codes.{markOf}
 use Rattle.spec.specs.Voicing.{voices}
@@ -75,20 +75,10 @@ after-mark [] x [] k e = refl
 after-mark [] x (c ∷ t) k e = rw (← e)
 after-mark (y ∷ s) x t k e = rw (← e) (after-mark s x t (length s) refl)
 
--- the codes after the mark k
-drop-past : (s : List ℕ) (x : ℕ) (t : List ℕ) (k : ℕ) → length s ≡ k → drop (suc k) (s ++ (x ∷ t)) ≡ t
-drop-past [] x t k e = rw (← e)
-drop-past (y ∷ s) x t k e = rw (← e) (drop-past s x t (length s) refl)
-
 -- an or that fails fails twice
 pub or-false : (s t : Bool) → (s || t) ≡ false → (s ≡ false) × (t ≡ false)
 or-false true t e = absurd (true≢false e)
 or-false false t e = (refl, e)
-
--- 'a gap, and this or that' is 'a gap and this, or a gap and that'
-and-or : (g s t : Bool) → (g && (s || t)) ≡ ((g && s) || (g && t))
-and-or true s t = refl
-and-or false s t = refl
 
 -- 'a gap, and this and that' is 'a gap and that, and this'
 and-swap : (g s t : Bool) → (g && (s && t)) ≡ (g && t && s)
@@ -180,7 +170,10 @@ module _ (m : List ℕ) where
 
     -- the sounds after the cut in the whole message's tape
     pub codes-after : drop (suc (markIndex m c)) (tape m) ≡ onward m (suc c)
-    codes-after = rw tape-cut (drop-past (segment false (voicedAt m c) (read (take c m))) (markOf (getD m c 0)) (onward m (suc c)) (markIndex m c) mark-index)
+    codes-after =
+        let s = segment false (voicedAt m c) (read (take c m)) in
+        let e : suc (markIndex m c) ≡ length s + 1 = omega (arith, mark-index) in
+        rw (tape-cut, e, drop-append-add s)
 
     -- and the first of them
     pub code-after : getD (tape m) (suc (markIndex m c)) 0 ≡ firstCode (onward m (suc c))
@@ -199,7 +192,7 @@ module _ (m : List ℕ) where
     -- a cut is live just when one of its two neighbours is changed from over the cut
     pub live-here : isLive m c ≡ (changedBefore m c || changedAfter m (suc c))
     unfolding isLive
-    live-here = rw (and-or, before-here, after-here)
+    live-here = rw (and-or-distrib-left, before-here, after-here)
 
   -- what the tape from place a on is made of
   onward-open : (a : ℕ) → onward m a ≡ segment (hardAt m a) false (read (drop a m))

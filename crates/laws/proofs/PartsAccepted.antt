@@ -6,7 +6,6 @@ use mathlib.Core.Bool.{Bool, true, false, cond, _||_, or-true, true≢false}
 use mathlib.Core.List.{List, [], _∷_, _++_}
 use mathlib.Core.Logic.{_⊎_, inl, inr, ⊎-elim}
 use native.Mathlib.Omega.{arith}
-use lib.Dec.{eqb}
 use lib.ListN.{length, take, drop, getD, length-take, length-drop}
 use lib.Seq.{take-all, drop-length, getD-take, getD-drop}
 use Rattle.spec.specs.Letters.{isBreak, isMark}
@@ -15,7 +14,7 @@ use Rattle.spec.specs.Joints.{RisingFrom, EachPartFrom}
 use Rattle.spec.specs.declared.Counts.{Counts}
 use Rattle.spec.specs.declared.Checked.the-variants.{Accepted}
 use Rattle.laws.proofs.Accepted.{countsOf, Clear, Passes, accepted-passes, passes-accepted, passes-none}
-use Rattle.laws.proofs.Classes.{NoBreak, break-mark, break-vowel, break-sign, break-hard-sign}
+use Rattle.laws.proofs.Classes.{cond-both, refuted, NoBreak, break-mark, break-vowel, break-sign, break-hard-sign}
 use Rattle.laws.proofs.Cuts.{break-within}
 use Rattle.laws.proofs.Parts.{part, Begins}
 
@@ -157,11 +156,7 @@ module _ (m : List ℕ) (p : Passes m) (e : ℕ) (s : (isBreak (getD m e 0) ≡ 
   module _ (a : ℕ) (b : Begins m a) (h : a ≤ e) (l : e ≤ length m) where
     -- so a byte stands after each break of a part
     after-some : (i : ℕ) → i < e - a → isBreak (getD m (a + i) 0) ≡ true → none (drop (suc i) (part m a e)) ≡ false
-    after-some i k d = by (none (drop (suc i) (part m a e))) refl
-      where
-        by : (t : Bool) → none (drop (suc i) (part m a e)) ≡ t → t ≡ false
-        by true q = absurd (last-firm (a + i) (omega (arith, none-empty (drop (suc i) (part m a e)) q, length-drop (suc i) (part m a e), part-length m a e l)) d)
-        by false q = refl
+    after-some i k d = refuted _ (λ q. last-firm (a + i) (omega (arith, none-empty (drop (suc i) (part m a e)) q, length-drop (suc i) (part m a e), part-length m a e l)) d)
 
     -- nothing of the table fits a part
     part-passes : Passes (part m a e)
