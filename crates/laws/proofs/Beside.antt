@@ -8,11 +8,11 @@ use mathlib.Core.List.{List, [], _∷_, _++_, append-nil}
 use lib.Dec.{eqb}
 use borrow.Author.Tests.{eqb-true}
 use Rattle.spec.specs.Alphabet.{pause, «и», «э»}
-use Rattle.spec.specs.Letters.{Letter, Message, last, more, between, firstByte, firstWord, lastWord, hardOnly, paired, softOnly, obstruents, isPaired, isConsonant, isSign, isVowel, isObstruent}
+use Rattle.spec.specs.Letters.{Letter, Message, last, more, between, firstByte, firstWord, lastWord, hardOnly, paired, softOnly, obstruents, isConsonant, isVowel, isObstruent}
 use Rattle.spec.specs.Codes.{Ы*, Ы1, Б, З', J, Ц1, Ч1, markOf}
 use Rattle.spec.specs.Elision.{elideFrom, elide}
-use Rattle.spec.specs.Syllables.{Facts, factsOf, hasMark, nextStressed, coverAfter, levelOf, syllableOf}
-use Rattle.spec.specs.Vowels.{Phone, vowelSound, glides, writtenCode, vowelPhones, phonesOf, phonesFrom}
+use Rattle.spec.specs.Syllables.{Facts, factsOf, hasMark, nextStressed, coverAfter, levelOf}
+use Rattle.spec.specs.Vowels.{Phone, vowelSound, writtenCode, phonesFrom}
 use Rattle.spec.specs.Voicing.{voiced, voiceless, voicedCode, voicelessCode, toneOf, toned, voiceOne, voice}
 use Rattle.spec.specs.Palatalization.{isSoft, firstCode, palatalize}
 use Rattle.spec.specs.Tape.{wordTape, segment}
@@ -23,7 +23,7 @@ use Rattle.spec.specs.declared.Level.the-variants.{Stressed, First, Second}
 use Rattle.spec.proofs.Computed.{everything}
 use Rattle.laws.proofs.Codes.{Spelled, Spells, EachPhone, both, elide-spelled, phones-each, soft-both}
 use Rattle.laws.proofs.Classes.{cond-both, cond-app, cond-same, among-same, vowel-single, vowel-quiet}
-use Rattle.laws.proofs.Word.{lastCodeFrom, endsToned, shape, word-toned}
+use Rattle.laws.proofs.Word.{lastCodeFrom, endsToned, word-toned}
 use Rattle.laws.proofs.Stretch.{last-append}
 
 -- codes of voiced obstruents: the set D, В and В'

@@ -14,7 +14,7 @@ use Rattle.spec.specs.Joints.{RisingFrom, EachPartFrom}
 use Rattle.spec.specs.declared.Counts.{Counts}
 use Rattle.spec.specs.declared.Checked.the-variants.{Accepted}
 use Rattle.laws.proofs.Accepted.{countsOf, Clear, Passes, accepted-passes, passes-accepted, passes-none}
-use Rattle.laws.proofs.Classes.{cond-both, refuted, NoBreak, break-mark, break-vowel, break-sign, break-hard-sign}
+use Rattle.laws.proofs.Classes.{refuted, NoBreak, break-mark, break-vowel, break-sign, break-hard-sign}
 use Rattle.laws.proofs.Cuts.{break-within}
 use Rattle.laws.proofs.Parts.{part, Begins}
 
