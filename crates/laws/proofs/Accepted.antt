@@ -5,7 +5,6 @@ use mathlib.Core.Path.{_≡_, refl, sym, ap, _∙_}
 use mathlib.Core.Logic.{_⊎_, inl, inr, ⊎-elim}
 use mathlib.Core.Bool.{Bool, true, false, cond, _&&_, not, and-eq-true-iff, and-false, true≢false, false≢true}
 use mathlib.Core.List.{List, [], _∷_}
-use native.Mathlib.Nat.{eq-zero-or-pos}
 use native.Mathlib.Omega.{arith}
 use lib.Dec.{eqb, leb}
 use lib.ListN.{length, getD, drop, length-drop}
@@ -120,12 +119,6 @@ Clear before b after = (k : ℕ) → fitsIn rows k before b after ≡ false
 pub fault-clear : (before : List ℕ) (b : ℕ) (after : List ℕ) → faultAt before b after ≡ 0 → Clear before b after
 unfolding faultAt
 fault-clear before b after e k = first-none before b after rows k rows-orderly e
-
--- no row, no fault
-pub clear-fault : (before : List ℕ) (b : ℕ) (after : List ℕ) → Clear before b after → faultAt before b after ≡ 0
-unfolding faultAt
-clear-fault before b after c =
-    ⊎-elim (λ e. e) (λ z. absurd (true≢false (sym (first-fits before b after rows rows-orderly z) ∙ c (firstFit rows before b after)))) (eq-zero-or-pos (firstFit rows before b after))
 
 -- the order of two rows is that of their indices
 rank-lower : (k n : ℕ) → eqb k 1 ≡ false → eqb k 2 ≡ false → rank k < rank n → indexIn rows k < indexIn rows n

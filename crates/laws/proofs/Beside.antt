@@ -2,16 +2,15 @@
 -- start и and э sound Ы just behind a hard boundary. Why: only pass 4's last step looks at what follows, and only the first letter's row at what stands before.
 -- Assumes nothing.
 use Prim.Native.Nat.{ℕ, suc}
-use mathlib.Core.Path.{_≡_, refl, sym, subst, _∙_}
+use mathlib.Core.Path.{_≡_, refl, sym, _∙_}
 use mathlib.Core.Bool.{Bool, true, false, cond, not, _&&_, _||_, and-true, and-false}
-use mathlib.Core.List.{List, [], _∷_, _++_, append-nil}
+use mathlib.Core.List.{List, [], _∷_, _++_, append-assoc}
 use lib.Dec.{eqb}
-use borrow.Author.Tests.{eqb-true}
-use Rattle.spec.specs.Alphabet.{pause, «и», «э»}
+use Rattle.spec.specs.Alphabet.{pause}
 use Rattle.spec.specs.Letters.{Letter, Message, last, more, between, firstByte, firstWord, lastWord, hardOnly, paired, softOnly, obstruents, isConsonant, isVowel, isObstruent}
-use Rattle.spec.specs.Codes.{Ы*, Ы1, Б, З', J, Ц1, Ч1, markOf}
+use Rattle.spec.specs.Codes.{Б, З', J, Ц1, Ч1, markOf}
 use Rattle.spec.specs.Elision.{elideFrom, elide}
-use Rattle.spec.specs.Syllables.{Facts, factsOf, hasMark, nextStressed, coverAfter, levelOf}
+use Rattle.spec.specs.Syllables.{Facts, factsOf}
 use Rattle.spec.specs.Vowels.{Phone, vowelSound, writtenCode, phonesFrom}
 use Rattle.spec.specs.Voicing.{voiced, voiceless, voicedCode, voicelessCode, toneOf, toned, voiceOne, voice}
 use Rattle.spec.specs.Palatalization.{isSoft, firstCode, palatalize}
@@ -23,20 +22,13 @@ use Rattle.spec.specs.declared.Level.the-variants.{Stressed, First, Second}
 use Rattle.spec.proofs.Computed.{everything}
 use Rattle.laws.proofs.Codes.{Spelled, Spells, EachPhone, both, elide-spelled, phones-each, soft-both}
 use Rattle.laws.proofs.Classes.{cond-both, cond-app, cond-same, among-same, vowel-single, vowel-quiet}
-use Rattle.laws.proofs.Word.{lastCodeFrom, endsToned, word-toned}
+use Rattle.laws.proofs.Word.{lastCodeFrom, endsToned, word-toned, word-starts}
+pub use Rattle.laws.proofs.Word.{isHigh, isIOrE}
 use Rattle.laws.proofs.Stretch.{last-append}
 
 -- codes of voiced obstruents: the set D, В and В'
 abbrev pub isVoiced : ℕ → Bool
 isVoiced c = ((between Б З' c && not (eqb c J)) || eqb c Ц1) || eqb c Ч1
-
--- the sounds of ы
-abbrev pub isHigh : ℕ → Bool
-isHigh c = eqb c Ы* || eqb c Ы1
-
--- the letters that a hard boundary changes
-abbrev pub isIOrE : ℕ → Bool
-isIOrE b = eqb b «и» || eqb b «э»
 
 -- a test has this answer
 abbrev is : Bool → Bool → Bool
@@ -102,50 +94,19 @@ ends-voiced n d (x ∷ []) e r = by (isObstruent (x .letter)) refl (r .0)
     by false q k = rw and-false (soft-keeps false _ 0 (x .code) k)
 ends-voiced n d (x ∷ y ∷ xs) e r = ends-voiced n 0 (y ∷ xs) refl (r .1)
 
+-- a break's mark is not voiced
+pub mark-unvoiced : (x : ℕ) → isVoiced (markOf x) ≡ false
+unfolding markOf
+mark-unvoiced x = cond-both (λ c. isVoiced c ≡ false) (eqb x pause) refl refl
+
 -- The last code of a stretch is voiced just where its last word ends in an obstruent and what follows voices it.
 pub segment-ends : (h n : Bool) (d : ℕ) (r : Message) → isVoiced d ≡ false → Spells r → isVoiced (lastCodeFrom d (segment h n r)) ≡ (n && endsInObstruent (lastWord r))
 unfolding segment lastWord wordTape elide markOf
 segment-ends h n d (last w) e s = ends-voiced n d _ e (phones-regular h (factsOf w) 0 (elideFrom 0 w) (elide-spelled 0 w s)) ∙ rw (word-toned h w)
-segment-ends h n d (more w x r) e s = rw last-append (segment-ends _ n (markOf x) r (cond-both (λ c. isVoiced c ≡ false) (eqb x pause) refl refl) (s .1))
-
--- at the start of a word и sounds Ы just behind a hard boundary
-high-И : (h : Bool) (cover : Cover) (level : Level) → (isHigh (vowelSound h 0 (record { cover = cover; level = level }) «и») && true) ≡ (h && true)
-unfolding everything
-high-И true c Stressed = refl
-high-И true c First = refl
-high-И true c Second = refl
-high-И false c Stressed = refl
-high-И false c First = refl
-high-И false c Second = refl
-
--- and so does э where it is not stressed
-high-Э : (h s t : Bool) (cover : Cover) → (isHigh (vowelSound h 0 (record { cover = cover; level = cond s Stressed (cond t First Second) }) «э») && true) ≡ (h && not s)
-unfolding everything
-high-Э true true t c = refl
-high-Э true false true c = refl
-high-Э true false false c = refl
-high-Э false true t c = refl
-high-Э false false true c = refl
-high-Э false false false c = refl
-
--- At the start of a word that begins with one of them Ы tells the hard boundary.
-word-starts : (h n : Bool) (w : List Letter) (u : List ℕ) → (isHigh (firstCode (wordTape h n w ++ u)) && isIOrE (firstByte w)) ≡ (h && beginsWithIOrE w)
-unfolding everything
-word-starts h n [] u = simp and-false
-word-starts h n (l ∷ w) u = by (eqb (l .byte) «и») refl (eqb (l .byte) «э») refl
-  where
-    Told : ℕ → Type 0
-    Told b =
-        let v : List Letter = record { byte = b; stressed = l .stressed } ∷ w in
-        (isHigh (firstCode (wordTape h n v ++ u)) && isIOrE b) ≡ (h && beginsWithIOrE v)
-
-    by : (s : Bool) → eqb (l .byte) «и» ≡ s → (t : Bool) → eqb (l .byte) «э» ≡ t → Told (l .byte)
-    by true q t r = subst Told (sym (eqb-true (l .byte) «и» q)) (high-И h (coverAfter 0) (levelOf (factsOf (l ∷ w)) l (elideFrom «и» w)))
-    by false q true r = subst Told (sym (eqb-true (l .byte) «э» r)) (high-Э h (l .stressed) (nextStressed (elideFrom «э» w) || not (hasMark (l ∷ w))) (coverAfter 0))
-    by false q false r = rw (q, r) (simp and-false)
+segment-ends h n d (more w x r) e s = rw last-append (segment-ends _ n (markOf x) r (mark-unvoiced x) (s .1))
 
 -- so it does at the start of a stretch
-pub segment-starts : (h n : Bool) (r : Message) → (isHigh (firstCode (segment h n r)) && isIOrE (firstByte (firstWord r))) ≡ (h && beginsWithIOrE (firstWord r))
+pub segment-starts : (h n : Bool) (r : Message) (u : List ℕ) → (isHigh (firstCode (segment h n r ++ u)) && isIOrE (firstByte (firstWord r))) ≡ (h && beginsWithIOrE (firstWord r))
 unfolding segment firstWord
-segment-starts h n (last w) = rw (← append-nil (wordTape h n w)) (word-starts h n w [])
-segment-starts h n (more w x r) = word-starts h _ w _
+segment-starts h n (last w) u = word-starts h n w u
+segment-starts h n (more w x r) u = rw append-assoc (word-starts h _ w _)

@@ -164,4 +164,4 @@ module _ (m : List ℕ) where
   -- And Ы after it, where the next word begins with и or э, is too.
   pub after-told : (c : ℕ) → isBreak (getD m c 0) ≡ true → (isHigh (getD (tape m) (suc (markIndex m c)) 0) && isIOrE (firstByte (wordAfter m c))) ≡ changedAfter m (suc c)
   unfolding changedAfter wordAfter onward
-  after-told c b = rw (code-after m c b) (segment-starts (hardAt m (suc c)) false (read (drop (suc c) m)))
+  after-told c b = rw (code-after m c b) (rw append-nil at (segment-starts (hardAt m (suc c)) false (read (drop (suc c) m)) []))

@@ -4,14 +4,15 @@
 use Prim.Native.Nat.{ℕ, suc}
 use native.Mathlib.Omega.{arith}
 use mathlib.Core.Path.{_≡_, refl, sym, ap, subst, _∙_}
-use mathlib.Core.Bool.{Bool, true, false, cond, not, _&&_, _||_, true≢false, false≢true, and-false, and-eq-true-iff}
-use mathlib.Core.List.{List, [], _∷_, _++_, map}
+use mathlib.Core.Bool.{Bool, true, false, cond, not, _&&_, _||_, true≢false, false≢true, and-true, and-false}
+use mathlib.Core.List.{List, [], _∷_, _++_, append-nil, map}
 use lib.ListN.{length}
 use lib.Dec.{eqb}
-use borrow.Author.Tests.{eqb-true, eqb-false, not-true}
+use borrow.Author.Tests.{eqb-true, eqb-false}
 use Rattle.spec.specs.Alphabet.{«и», «н», «с», «ц», «ч», «ш», «э»}
 use Rattle.spec.specs.Tables.{among, entry}
 use Rattle.spec.specs.Letters.{Letter, firstByte, obstruents, signs, isSign, isVowel, isObstruent}
+use Rattle.spec.specs.Codes.{Ы*, Ы1}
 use Rattle.spec.specs.Elision.{elidesT, elidesD, elides, elideFrom, elide, elidesAmong}
 use Rattle.spec.specs.Syllables.{Facts, factsOf, coverAfter, hasMark, nextStressed, levelOf, syllableOf}
 use Rattle.spec.specs.Vowels.{Phone, byStress, byLevel, glides, vowelSound, vowelPhones, phonesOf, phonesFrom}
@@ -155,18 +156,49 @@ vowel-firm h h′ true t false e c b x y q = rw x
 vowel-firm h h′ false t false true c b x y q = absurd (true≢false q)
 vowel-firm h h′ false t false false c b x y q = rw (x, y)
 
--- at the start of a word и has other sounds after a hard boundary, whatever its level
-start-И : (c : Cover) (level : Level) → vowelSound true 0 (record { cover = c; level = level }) «и» ≡ vowelSound false 0 (record { cover = c; level = level }) «и» → ⊥
-unfolding everything
-start-И c Stressed q = omega arith
-start-И c First q = omega arith
-start-И c Second q = omega arith
+-- the sounds of ы
+abbrev pub isHigh : ℕ → Bool
+isHigh c = eqb c Ы* || eqb c Ы1
 
--- and so has э where it is not stressed
-start-Э : (c : Cover) (t : Bool) → vowelSound true 0 (record { cover = c; level = cond t First Second }) «э» ≡ vowelSound false 0 (record { cover = c; level = cond t First Second }) «э» → ⊥
+-- the letters that a hard boundary changes
+abbrev pub isIOrE : ℕ → Bool
+isIOrE b = eqb b «и» || eqb b «э»
+
+-- at the start of a word и sounds Ы just behind a hard boundary
+high-И : (h : Bool) (cover : Cover) (level : Level) → (isHigh (vowelSound h 0 (record { cover = cover; level = level }) «и») && true) ≡ (h && true)
 unfolding everything
-start-Э c true q = omega arith
-start-Э c false q = omega arith
+high-И true c Stressed = refl
+high-И true c First = refl
+high-И true c Second = refl
+high-И false c Stressed = refl
+high-И false c First = refl
+high-И false c Second = refl
+
+-- and so does э where it is not stressed
+high-Э : (h s t : Bool) (cover : Cover) → (isHigh (vowelSound h 0 (record { cover = cover; level = cond s Stressed (cond t First Second) }) «э») && true) ≡ (h && not s)
+unfolding everything
+high-Э true true t c = refl
+high-Э true false true c = refl
+high-Э true false false c = refl
+high-Э false true t c = refl
+high-Э false false true c = refl
+high-Э false false false c = refl
+
+-- At the start of a word that begins with one of them Ы tells the hard boundary.
+pub word-starts : (h n : Bool) (w : List Letter) (u : List ℕ) → (isHigh (firstCode (wordTape h n w ++ u)) && isIOrE (firstByte w)) ≡ (h && beginsWithIOrE w)
+unfolding everything
+word-starts h n [] u = simp and-false
+word-starts h n (l ∷ w) u = by (eqb (l .byte) «и») refl (eqb (l .byte) «э») refl
+  where
+    Told : ℕ → Type 0
+    Told b =
+        let v : List Letter = record { byte = b; stressed = l .stressed } ∷ w in
+        (isHigh (firstCode (wordTape h n v ++ u)) && isIOrE b) ≡ (h && beginsWithIOrE v)
+
+    by : (s : Bool) → eqb (l .byte) «и» ≡ s → (t : Bool) → eqb (l .byte) «э» ≡ t → Told (l .byte)
+    by true q t r = subst Told (sym (eqb-true (l .byte) «и» q)) (high-И h (coverAfter 0) (levelOf (factsOf (l ∷ w)) l (elideFrom «и» w)))
+    by false q true r = subst Told (sym (eqb-true (l .byte) «э» r)) (high-Э h (l .stressed) (nextStressed (elideFrom «э» w) || not (hasMark (l ∷ w))) (coverAfter 0))
+    by false q false r = rw (q, r) (simp and-false)
 
 -- the length depends on neither bit
 pub word-length : (h h′ n n′ : Bool) (w : List Letter) → length (wordTape h n w) ≡ length (wordTape h′ n′ w)
@@ -193,16 +225,7 @@ word-firm h h′ n (l ∷ w) e =
 
 -- and else the first code differs, whatever follows
 pub word-starts-differ : (n n′ : Bool) (w : List Letter) → beginsWithIOrE w ≡ true → firstCode (wordTape true n w) ≡ firstCode (wordTape false n′ w) → ⊥
-unfolding everything
-word-starts-differ n n′ [] e q = false≢true e
-word-starts-differ n n′ (l ∷ w) e q = by (eqb (l .byte) «и») refl e
+word-starts-differ n n′ w e q = true≢false (sym (told true n) ∙ rw q (told false n′))
   where
-    Same : ℕ → Bool → Type 0
-    Same b s = firstCode (wordTape true n (record { byte = b; stressed = s } ∷ w)) ≡ firstCode (wordTape false n′ (record { byte = b; stressed = s } ∷ w))
-
-    by : (t : Bool) → eqb (l .byte) «и» ≡ t → (t || (eqb (l .byte) «э» && not (l .stressed))) ≡ true → ⊥
-    by true x o = start-И (coverAfter 0) (levelOf (factsOf (l ∷ w)) l (elideFrom «и» w)) (subst (λ b. Same b (l .stressed)) (eqb-true (l .byte) «и» x) q)
-    by false x o =
-        let a = and-eq-true-iff (eqb (l .byte) «э») (not (l .stressed)) .0 o in
-        let q′ = subst (λ b. Same b (l .stressed)) (eqb-true (l .byte) «э» (a .0)) q in
-        start-Э (coverAfter 0) (nextStressed (elideFrom «э» w) || not (hasMark w)) (subst (Same «э») (not-true (l .stressed) (a .1)) q′)
+    told : (h k : Bool) → (isHigh (firstCode (wordTape h k w)) && isIOrE (firstByte w)) ≡ h
+    told h k = rw append-nil at (word-starts h k w []) ∙ rw (e, and-true)
