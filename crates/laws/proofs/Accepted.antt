@@ -16,7 +16,7 @@ use Rattle.spec.specs.declared.Counts.{Counts}
 use Rattle.spec.specs.declared.Checked.{Checked}
 use Rattle.spec.specs.declared.Checked.the-variants.{Accepted, Refused}
 use Rattle.spec.proofs.Computed.{everything}
-use Rattle.laws.proofs.Classes.{refuted, below-or}
+use Rattle.laws.proofs.Classes.{cond-app, cond-same, refuted, below-or}
 
 -- Rows with numbers above 2, no number twice.
 unfoldable pub orderly : List Row → Bool
@@ -123,12 +123,7 @@ fault-clear before b after e k = first-none before b after rows k rows-orderly e
 -- the order of two rows is that of their indices
 rank-lower : (k n : ℕ) → eqb k 1 ≡ false → eqb k 2 ≡ false → rank k < rank n → indexIn rows k < indexIn rows n
 unfolding rank
-rank-lower k n q r l = by (eqb n 1) (eqb n 2) (rw (q, r) at l)
-  where
-    by : (t u : Bool) → suc (suc (indexIn rows k)) < cond t 0 (cond u 1 (suc (suc (indexIn rows n)))) → indexIn rows k < indexIn rows n
-    by true u h = absurd (omega arith)
-    by false true h = absurd (omega arith)
-    by false false h = omega arith
+rank-lower k n q r l = later (eqb n 2) _ _ (later (eqb n 1) _ _ (rw (q, r, ← cond-app suc (eqb n 2) 0 (suc (indexIn rows n))) at l))
 
 -- what an accepted message's check answers
 abbrev pub countsOf : List ℕ → Counts
@@ -199,12 +194,7 @@ module _ (m : List ℕ) (z : 0 < length m) (s : length m ≤ 4096) where
   -- and none past its end
   past-fits : (k p : ℕ) → length m ≤ p → fits m k p ≡ false
   unfolding fits
-  past-fits k p h = rw (ne-eqb (length m) 0 (omega arith), le-leb (length m) 4096 s, lt-leb (suc p) (length m) (omega arith), and-false) (by (eqb k 1) (eqb k 2))
-    where
-      by : (t u : Bool) → cond t false (cond u false false) ≡ false
-      by true u = refl
-      by false true = refl
-      by false false = refl
+  past-fits k p h = rw (ne-eqb (length m) 0 (omega arith), le-leb (length m) 4096 s, lt-leb (suc p) (length m) (omega arith), and-false) (simp cond-same)
 
   -- a number that stands before a row in the order does not fit where that row is the first one that does
   lower-fits : (k p : ℕ) → p < length m → let n = firstFit rows (beforeAt m p) (getD m p 0) (drop (suc p) m) in 0 < n → rank k < rank n → fits m k p ≡ false

@@ -216,18 +216,11 @@ marksIn (more w x r) = markOf x ∷ marksIn r
 pub read-marks : (m : List ℕ) → marksIn (read m) ≡ breakMarks m
 unfolding read breakMarks marksIn putLetter
 read-marks [] = refl
-read-marks (b ∷ m) = by (isBreak b) (isMark b) (read-marks m)
+read-marks (b ∷ m) = simp (cond-app marksIn, put, cond-same, read-marks m)
   where
     put : (l : Letter) (r : Message) → marksIn (putLetter l r) ≡ marksIn r
     put l (last w) = refl
     put l (more w x r) = refl
-
-    by : (s t : Bool) → marksIn (read m) ≡ breakMarks m
-        → marksIn (cond s (more [] b (read m)) (cond t (read m) (putLetter (record { byte = small b; stressed = beginsWithMark m }) (read m))))
-        ≡ cond s (markOf b ∷ breakMarks m) (breakMarks m)
-    by true t e = ap (λ (x : List ℕ). markOf b ∷ x) e
-    by false true e = e
-    by false false e = put _ (read m) ∙ e
 
 -- the marks on the tape of a stretch
 segment-marks : (h n : Bool) (r : Message) → Spells r → marksOf (segment h n r) ≡ marksIn r

@@ -2,7 +2,7 @@
 -- Assumes nothing.
 use Prim.Native.Nat.{ℕ, zero, suc, _+_, _-_, _<_, _≤_}
 use mathlib.Core.Path.{_≡_, refl, sym, _∙_}
-use mathlib.Core.Bool.{Bool, true, false, cond, _||_, or-true, true≢false}
+use mathlib.Core.Bool.{Bool, true, false, _||_, or-true, true≢false}
 use mathlib.Core.List.{List, [], _∷_, _++_}
 use mathlib.Core.Logic.{_⊎_, inl, inr, ⊎-elim}
 use native.Mathlib.Omega.{arith}
@@ -14,9 +14,9 @@ use Rattle.spec.specs.Joints.{RisingFrom, EachPartFrom}
 use Rattle.spec.specs.declared.Counts.{Counts}
 use Rattle.spec.specs.declared.Checked.the-variants.{Accepted}
 use Rattle.laws.proofs.Accepted.{countsOf, Clear, Passes, accepted-passes, passes-accepted, passes-none}
-use Rattle.laws.proofs.Classes.{refuted, NoBreak, break-mark, break-vowel, break-sign, break-hard-sign}
+use Rattle.laws.proofs.Classes.{cond-app, refuted, NoBreak, break-mark, break-vowel, break-sign, break-hard-sign}
 use Rattle.laws.proofs.Cuts.{break-within}
-use Rattle.laws.proofs.Parts.{part, Begins}
+use Rattle.laws.proofs.Parts.{part, Begins, or-false}
 
 -- the bytes before a part, nearest first: none, or a break is next
 abbrev pub Opens : List ℕ → Type 0
@@ -48,11 +48,7 @@ adjacent-over : (f : List ℕ → Bool) (t : List ℕ) → Opens t → ((x : Lis
 unfolding adjacent
 adjacent-over f [] o h [] = refl
 adjacent-over f (d ∷ t) o h [] = rw (break-mark d o) (h [])
-adjacent-over f t o h (b ∷ x) = by (isMark b)
-  where
-    by : (k : Bool) → f (cond k (x ++ t) (b ∷ (x ++ t))) ≡ f (cond k x (b ∷ x))
-    by true = h x
-    by false = h (b ∷ x)
+adjacent-over f t o h (b ∷ x) = rw (cond-app f (isMark b) (x ++ t) (b ∷ (x ++ t)), h x, h (b ∷ x)) (sym (cond-app f (isMark b) x (b ∷ x)))
 
 -- the class of the adjacent letter
 near-over : (class : ℕ → Bool) → NoBreak class → (t : List ℕ) → Opens t → (x : List ℕ) → first class (adjacent (x ++ t)) ≡ first class (adjacent x)
@@ -105,12 +101,7 @@ rows-after k x b after after′ n = by (isBreak b) refl
 -- a clear break is not last
 pub clear-followed : (x : List ℕ) (b : ℕ) (after : List ℕ) → Clear x b after → isBreak b ≡ true → none after ≡ false
 unfolding fitsIn rows row4
-clear-followed x b after c d = by (none x) (none after) (rw d at (c 4))
-  where
-    by : (p q : Bool) → (p || (q || first isBreak x)) ≡ false → q ≡ false
-    by true q e = absurd (true≢false e)
-    by false true e = absurd (true≢false e)
-    by false false e = refl
+clear-followed x b after c d = or-false (none after) _ (or-false (none x) _ (rw d at (c 4)) .1) .0
 
 -- a byte that is clear in a message is clear in a part, where no break is last
 clear-part : (x t : List ℕ) (b : ℕ) (after after′ : List ℕ) → Opens t → (isBreak b ≡ true → none after′ ≡ false) → Clear (x ++ t) b after → Clear x b after′

@@ -16,7 +16,7 @@ use Rattle.spec.specs.Palatalization.{firstCode}
 use Rattle.spec.specs.Voicing.{voices}
 use Rattle.spec.specs.Tape.{segment}
 use Rattle.spec.specs.Joints.{endsInObstruent, beginsWithIOrE}
-use Rattle.laws.proofs.Classes.{cond-both, break-mark}
+use Rattle.laws.proofs.Classes.{cond-both, cond-app, break-mark}
 use Rattle.laws.proofs.Word.{lastCodeFrom, word-length, word-quiet, word-firm}
 
 -- the message a, the break x, and the message b, read as one
@@ -48,19 +48,11 @@ unfolding putLetter meet
 put-meet l (last w) x b = refl
 put-meet l (more w y r) x b = refl
 
--- one byte is read alike before two messages: t says that it is a break, u that it is a mark, and c is a with its letter
-read-one-meet : (t u : Bool) (y : ℕ) (a c : Message) (x : ℕ) (b : Message)
-    → cond t (more [] y (meet a x b)) (cond u (meet a x b) (meet c x b)) ≡ meet (cond t (more [] y a) (cond u a c)) x b
-unfolding meet
-read-one-meet true u y a c x b = refl
-read-one-meet false true y a c x b = refl
-read-one-meet false false y a c x b = refl
-
 -- reading bytes with a break in them: what stands before it, the break, what stands after it
 pub read-join : (p s : List ℕ) (x : ℕ) → isBreak x ≡ true → read (p ++ (x ∷ s)) ≡ meet (read p) x (read s)
 unfolding read meet
 read-join [] s x e = rw e
-read-join (b ∷ p) s x e = rw (read-join p s x e, mark-before-break p s x e, put-meet) (read-one-meet (isBreak b) (isMark b) b (read p) _ x (read s))
+read-join (b ∷ p) s x e = rw (read-join p s x e, mark-before-break p s x e, put-meet) (simp (cond-app (λ (z : Message). meet z x (read s))))
 
 -- a break's mark is no voicing sound, and neither is nothing, so a word is followed by the same voice with or without what stands behind the break
 pub voices-over : (t u : List ℕ) (x : ℕ) → voices (t ++ (markOf x ∷ u)) ≡ voices t
