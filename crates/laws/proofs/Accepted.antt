@@ -16,7 +16,7 @@ use Rattle.spec.specs.declared.Counts.{Counts}
 use Rattle.spec.specs.declared.Checked.{Checked}
 use Rattle.spec.specs.declared.Checked.the-variants.{Accepted, Refused}
 use Rattle.spec.proofs.Computed.{everything}
-use Rattle.laws.proofs.Classes.{cond-app, cond-same, refuted, below-or}
+use Rattle.laws.proofs.Classes.{cond-app, cond-same, yes-or, refuted, below-or}
 
 -- Rows with numbers above 2, no number twice.
 unfoldable pub orderly : List Row → Bool
@@ -45,26 +45,16 @@ module _ (before : List ℕ) (b : ℕ) (after : List ℕ) where
   fits-within : (rs : List Row) (k : ℕ) → fitsIn rs k before b after ≡ true → indexIn rs k < length rs
   unfolding fitsIn indexIn
   fits-within [] k e = absurd (false≢true e)
-  fits-within ((n when test) ∷ rs) k e = by (eqb n k) e (fits-within rs k)
-    where
-      by : (t : Bool) → cond t (test before b after) (fitsIn rs k before b after) ≡ true → (fitsIn rs k before b after ≡ true → indexIn rs k < length rs)
-          → cond t 0 (suc (indexIn rs k)) < suc (length rs)
-      by true h r = omega arith
-      by false h r = omega (arith, r h)
+  fits-within ((n when test) ∷ rs) k e = ⊎-elim (λ q. rw q (omega arith)) (λ q. rw q (omega (arith, fits-within rs k (rw q at e)))) (yes-or (eqb n k))
 
   -- two numbers that fit and have one index are one
   fits-same : (rs : List Row) (k n : ℕ) → indexIn rs k ≡ indexIn rs n → fitsIn rs k before b after ≡ true → fitsIn rs n before b after ≡ true → k ≡ n
   unfolding fitsIn indexIn
   fits-same [] k n i e f = absurd (false≢true e)
-  fits-same ((x when test) ∷ rs) k n i e f = by (eqb x k) (eqb x n) refl refl i e f (fits-same rs k n)
-    where
-      by : (t u : Bool) → eqb x k ≡ t → eqb x n ≡ u → cond t 0 (suc (indexIn rs k)) ≡ cond u 0 (suc (indexIn rs n))
-          → cond t (test before b after) (fitsIn rs k before b after) ≡ true → cond u (test before b after) (fitsIn rs n before b after) ≡ true
-          → (indexIn rs k ≡ indexIn rs n → fitsIn rs k before b after ≡ true → fitsIn rs n before b after ≡ true → k ≡ n) → k ≡ n
-      by true true p q i e f r = sym (eqb-true x k p) ∙ eqb-true x n q
-      by true false p q i e f r = absurd (omega arith)
-      by false true p q i e f r = absurd (omega arith)
-      by false false p q i e f r = r (omega arith) e f
+  fits-same ((x when test) ∷ rs) k n i e f = ⊎-elim
+      (λ p. ⊎-elim (λ q. sym (eqb-true x k p) ∙ eqb-true x n q) (λ q. absurd (omega (arith, rw (p, q) at i))) (yes-or (eqb x n)))
+      (λ p. ⊎-elim (λ q. absurd (omega (arith, rw (p, q) at i))) (λ q. fits-same rs k n (omega (arith, rw (p, q) at i)) (rw p at e) (rw q at f)) (yes-or (eqb x n)))
+      (yes-or (eqb x k))
 
   -- a number that fits further on is not the first row's
   not-first : (n : ℕ) (rs : List Row) → indexIn rs n ≡ length rs → (k : ℕ) → fitsIn rs k before b after ≡ true → eqb n k ≡ false
@@ -76,13 +66,8 @@ module _ (before : List ℕ) (b : ℕ) (after : List ℕ) where
   first-fits [] o z = absurd (omega arith)
   first-fits ((n when test) ∷ rs) o z =
       let r = orderly-more n test rs o in
-      by (test before b after) refl z (first-fits rs (r .2)) (not-first n rs (r .1))
-    where
-      by : (t : Bool) → test before b after ≡ t → 0 < cond t n (firstFit rs before b after)
-          → (0 < firstFit rs before b after → fitsIn rs (firstFit rs before b after) before b after ≡ true) → ((k : ℕ) → fitsIn rs k before b after ≡ true → eqb n k ≡ false)
-          → cond (eqb n (cond t n (firstFit rs before b after))) (test before b after) (fitsIn rs (cond t n (firstFit rs before b after)) before b after) ≡ true
-      by true q z r f = rw (eq-eqb n n refl) q
-      by false q z r f = rw (f _ (r z)) (r z)
+      ⊎-elim (λ q. rw q (rw (eq-eqb n n refl)))
+      (λ q. let g = first-fits rs (r .2) (rw q at z) in rw q (rw (not-first n rs (r .1) _ g) g)) (yes-or (test before b after))
 
   -- no row before it does
   first-first : (rs : List Row) (k : ℕ) → orderly rs ≡ true → 0 < firstFit rs before b after → indexIn rs k < indexIn rs (firstFit rs before b after)
@@ -103,13 +88,10 @@ module _ (before : List ℕ) (b : ℕ) (after : List ℕ) where
   first-none : (rs : List Row) (k : ℕ) → orderly rs ≡ true → firstFit rs before b after ≡ 0 → fitsIn rs k before b after ≡ false
   unfolding firstFit fitsIn
   first-none [] k o z = refl
-  first-none ((n when test) ∷ rs) k o z = let r = orderly-more n test rs o in by (test before b after) (eqb n k) refl z (r .0) (first-none rs k (r .2))
-    where
-      by : (t u : Bool) → test before b after ≡ t → cond t n (firstFit rs before b after) ≡ 0 → 3 ≤ n
-          → (firstFit rs before b after ≡ 0 → fitsIn rs k before b after ≡ false) → cond u (test before b after) (fitsIn rs k before b after) ≡ false
-      by true u q z h r = absurd (omega arith)
-      by false true q z h r = q
-      by false false q z h r = r z
+  first-none ((n when test) ∷ rs) k o z =
+      let r = orderly-more n test rs o in
+      ⊎-elim (λ q. absurd (omega (arith, r .0, rw q at z)))
+      (λ q. let g = first-none rs k (r .2) (rw q at z) in ⊎-elim (λ u. rw u q) (λ u. rw u g) (yes-or (eqb n k))) (yes-or (test before b after))
 
 -- no row fits at a byte
 abbrev pub Clear : List ℕ → ℕ → List ℕ → Type 0
@@ -199,12 +181,9 @@ module _ (m : List ℕ) (z : 0 < length m) (s : length m ≤ 4096) where
   -- a number that stands before a row in the order does not fit where that row is the first one that does
   lower-fits : (k p : ℕ) → p < length m → let n = firstFit rows (beforeAt m p) (getD m p 0) (drop (suc p) m) in 0 < n → rank k < rank n → fits m k p ≡ false
   unfolding rows fitsIn
-  lower-fits k p h i l = by (eqb k 1) refl (eqb k 2) refl
-    where
-      by : (t : Bool) → eqb k 1 ≡ t → (u : Bool) → eqb k 2 ≡ u → fits m k p ≡ false
-      by true q u r = rw (eqb-true k 1 q) (sized-fits 1 p false h refl)
-      by false q true r = rw (eqb-true k 2 r) (sized-fits 2 p false h refl)
-      by false q false r = sized-fits k p false h (first-first (beforeAt m p) (getD m p 0) (drop (suc p) m) rows k rows-orderly i (rank-lower k _ q r l))
+  lower-fits k p h i l = ⊎-elim (λ q. rw (eqb-true k 1 q) (sized-fits 1 p false h refl))
+      (λ q. ⊎-elim (λ r. rw (eqb-true k 2 r) (sized-fits 2 p false h refl))
+      (λ r. sized-fits k p false h (first-first (beforeAt m p) (getD m p 0) (drop (suc p) m) rows k rows-orderly i (rank-lower k _ q r l))) (yes-or (eqb k 2))) (yes-or (eqb k 1))
 
   -- the first place with a fault gives its number
   fault-given : (p : ℕ) → p < length m → ((j : ℕ) → j < p → ClearAt m j)

@@ -2,7 +2,8 @@
 -- Assumes nothing.
 use Prim.Native.Nat.{ℕ, suc, _+_, _-_, _≤_}
 use mathlib.Core.Path.{_≡_, refl}
-use mathlib.Core.Bool.{Bool, true, false, cond, not, _&&_, _||_, and-eq-true-iff}
+use mathlib.Core.Bool.{Bool, true, false, cond, _&&_, and-eq-true-iff}
+use mathlib.Core.Logic.{⊎-elim}
 use mathlib.Core.List.{List, [], _∷_}
 use native.Mathlib.Omega.{arith}
 use lib.Dec.{eqb, leb}
@@ -20,7 +21,7 @@ use Rattle.spec.specs.declared.Checked.the-variants.{Accepted, Refused}
 use Rattle.spec.specs.declared.Answer.the-variants as answer
 use Rattle.spec.proofs.Computed.{everything}
 use Rattle.laws.proofs.Accepted.{accepted-counts}
-use Rattle.laws.proofs.Classes.{cond-both}
+use Rattle.laws.proofs.Classes.{cond-both, yes-or}
 use Rattle.laws.proofs.Cuts.{break-within, rising-of, rising-length}
 use Rattle.laws.proofs.Cutting.{equal-lengths}
 use Rattle.laws.proofs.Sizes.{tape-size, names-size}
@@ -86,13 +87,10 @@ live-bound m (c ∷ cuts) = let h = live-bound m cuts in cond-both (λ k. k ≤ 
 bad-from : (m : List ℕ) (least k : ℕ) (cuts : List ℕ) → badCutFrom m least k cuts ≤ k + (length m - least)
 unfolding badCutFrom row12
 bad-from m least k [] = omega arith
-bad-from m least k (c ∷ cuts) = by (isBreak (getD m c 0)) (leb least c) refl refl (bad-from m (suc c) (suc k) cuts)
-  where
-    by : (t u : Bool) → isBreak (getD m c 0) ≡ t → leb least c ≡ u → badCutFrom m (suc c) (suc k) cuts ≤ suc k + (length m - suc c)
-        → cond (not t || not u) k (badCutFrom m (suc c) (suc k) cuts) ≤ k + (length m - least)
-    by true true p q h = omega (arith, break-within m c p, leb-true least c q)
-    by true false p q h = omega arith
-    by false u p q h = omega arith
+bad-from m least k (c ∷ cuts) =
+    let h = bad-from m (suc c) (suc k) cuts in
+    ⊎-elim (λ (p : isBreak (getD m c 0) ≡ true). ⊎-elim (λ (q : leb least c ≡ true). rw (p, q) (omega (arith, break-within m c p, leb-true least c q))) (λ (q : leb least c ≡ false). rw (p, q) (omega arith)) (yes-or (leb least c)))
+    (λ p. rw p (omega arith)) (yes-or (isBreak (getD m c 0)))
 
 -- so the first bad cut has an index no larger than the message's length
 bad-bound : (m cuts : List ℕ) → badCut m cuts ≤ length m

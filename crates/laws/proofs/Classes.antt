@@ -29,6 +29,11 @@ pub cond-same : {A : Type 0} (t : Bool) (x : A) → cond t x x ≡ x
 cond-same true x = refl
 cond-same false x = refl
 
+-- a test holds or fails
+pub yes-or : (t : Bool) → (t ≡ true) ⊎ (t ≡ false)
+yes-or true = inl refl
+yes-or false = inr refl
+
 -- a test that cannot hold fails
 pub refuted : (t : Bool) → (t ≡ true → ⊥) → t ≡ false
 refuted true f = absurd (f refl)

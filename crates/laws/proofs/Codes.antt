@@ -4,6 +4,7 @@
 use Prim.Native.Nat.{ℕ, zero, suc, _+_, _-_, _<_}
 use mathlib.Core.Path.{_≡_, refl, sym, ap, _∙_}
 use mathlib.Core.Bool.{Bool, true, false, cond, not, _&&_, _||_, and-eq-true-iff, or-false, false≢true}
+use mathlib.Core.Logic.{⊎-elim}
 use mathlib.Core.List.{List, [], _∷_, _++_, append-nil}
 use native.Mathlib.Omega.{arith}
 use lib.Dec.{eqb}
@@ -27,7 +28,7 @@ use Rattle.spec.specs.declared.Syllable.{Syllable}
 use Rattle.spec.specs.declared.Level.{Level}
 use Rattle.spec.specs.declared.Level.the-variants.{Stressed, First, Second}
 use Rattle.spec.proofs.Computed.{everything}
-use Rattle.laws.proofs.Classes.{cond-both, cond-app, cond-same, refuted, among-same, vowel-single}
+use Rattle.laws.proofs.Classes.{cond-both, cond-app, cond-same, yes-or, refuted, among-same, vowel-single}
 use Rattle.laws.proofs.Word.{shape}
 use Rattle.laws.proofs.Accepted.{Passes, none-passes}
 
@@ -140,11 +141,8 @@ toned-fine asWritten b c h f = f
 voice-fine : (next : Bool) (xs : List Phone) → EachPhone fine xs → EachPhone fine (voice next xs)
 unfolding voice voiceOne
 voice-fine next [] f = tt
-voice-fine next (x ∷ xs) f = (by (isObstruent (x .letter)) refl, voice-fine next xs (f .1))
-  where
-    by : (t : Bool) → isObstruent (x .letter) ≡ t → fine (x .letter) (cond t (toned (toneOf next (codesOf (voice next xs))) (x .letter) (x .code)) (x .code)) ≡ true
-    by true q = toned-fine (toneOf next (codesOf (voice next xs))) (x .letter) (x .code) q (f .0)
-    by false q = f .0
+voice-fine next (x ∷ xs) f =
+    (⊎-elim (λ q. rw q (toned-fine (toneOf next (codesOf (voice next xs))) (x .letter) (x .code) q (f .0))) (λ q. rw q (f .0)) (yes-or (isObstruent (x .letter))), voice-fine next xs (f .1))
 
 -- pass 5, over a word
 palatalize-sounds : (xs : List Phone) → EachPhone fine xs → Each isSound (palatalize xs)

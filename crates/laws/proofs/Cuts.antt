@@ -12,7 +12,7 @@ use lib.ListN.{length, drop, getD, length-drop, List·getD-eq-default}
 use Rattle.spec.specs.Letters.{isBreak}
 use Rattle.spec.specs.Joints.{RisingFrom, Rising, CutOf, breaksFrom, breaks, row12, badCutFrom, badCut, leastAt, FirstBadFrom, FirstBad}
 use Rattle.laws.proofs.Accepted.{rest-first}
-use Rattle.laws.proofs.Classes.{cond-app, below-or}
+use Rattle.laws.proofs.Classes.{cond-app, yes-or, below-or}
 
 -- a break stands within the message
 pub break-within : (m : List ℕ) (c : ℕ) → isBreak (getD m c 0) ≡ true → c < length m
@@ -135,11 +135,10 @@ module _ (m : List ℕ) where
   full-from : (k : ℕ) (r : List ℕ) → drop k m ≡ r → RisingFrom m k (breaksFrom k r)
   unfolding breaksFrom
   full-from k [] e = tt
-  full-from k (b ∷ r) e = let s = rest-first m k b r e in by (isBreak b) refl (s .1) (full-from (suc k) r (s .2))
-    where
-      by : (t : Bool) → isBreak b ≡ t → getD m k 0 ≡ b → RisingFrom m (suc k) (breaksFrom (suc k) r) → RisingFrom m k (cond t (k ∷ breaksFrom (suc k) r) (breaksFrom (suc k) r))
-      by true q h f = (omega arith, rw h q, f)
-      by false q h f = rising-lower k (breaksFrom (suc k) r) f
+  full-from k (b ∷ r) e =
+      let s = rest-first m k b r e in
+      let f = full-from (suc k) r (s .2) in
+      ⊎-elim (λ q. rw q (omega arith, rw (s .1) q, f)) (λ q. rw q (rising-lower k (breaksFrom (suc k) r) f)) (yes-or (isBreak b))
 
   every-from : (k : ℕ) (r : List ℕ) → drop k m ≡ r → (c : ℕ) → k ≤ c → isBreak (getD m c 0) ≡ true → CutOf c (breaksFrom k r)
   unfolding breaksFrom

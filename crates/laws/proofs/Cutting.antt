@@ -2,7 +2,7 @@
 -- Assumes nothing.
 use Prim.Native.Nat.{ℕ, suc, _-_, _<_}
 use mathlib.Core.Path.{_≡_, refl, sym, ap, _∙_}
-use mathlib.Core.Bool.{Bool, true, false, cond, _||_, true≢false}
+use mathlib.Core.Bool.{Bool, true, false, cond, true≢false}
 use mathlib.Core.Logic.{inl, inr, ⊎-elim, _≢_, _↔_}
 use mathlib.Core.List.{List, [], _∷_}
 use native.Mathlib.Omega.{arith}
@@ -13,7 +13,7 @@ use Rattle.spec.specs.Refusals.{NoneFits}
 use Rattle.spec.specs.Joints.{Rising, CutOf, SplitAt, DiffersAt, joined, isLive, NoneLive, liveCount, markIndex, wordBefore}
 use Rattle.spec.specs.Demands.{TwoTapes}
 use Rattle.laws.proofs.Accepted.{none-passes}
-use Rattle.laws.proofs.Classes.{refuted}
+use Rattle.laws.proofs.Classes.{yes-or, refuted}
 use Rattle.laws.proofs.Codes.{Spells, bytes-marks, part-spells}
 use Rattle.laws.proofs.Beside.{segment-ends}
 use Rattle.laws.proofs.Cuts.{cut-break}
@@ -69,7 +69,7 @@ module _ (m cuts : List ℕ) (spells : (p n : ℕ) → Spells (read (take n (dro
   -- the code before the mark was voiced from over the cut, or the code after it made by a hard boundary there
   differs : isLive m c ≡ true → DiffersAt (tape m) (joined m cuts) (markIndex m c)
   unfolding changedBefore wordBefore
-  differs l = by (changedBefore m c) refl (sym (live-here m c break) ∙ l)
+  differs l = ⊎-elim (λ p. inl (before p)) (λ p. inr (after (rw p at (sym (live-here m c break) ∙ l)))) (yes-or (changedBefore m c))
     where
       before : changedBefore m c ≡ true → (0 < markIndex m c) × (getD (tape m) (markIndex m c - 1) 0 ≢ getD (joined m cuts) (markIndex m c - 1) 0)
       before e =
@@ -79,10 +79,6 @@ module _ (m cuts : List ℕ) (spells : (p n : ℕ) → Spells (read (take n (dro
 
       after : changedAfter m (suc c) ≡ true → getD (tape m) (suc (markIndex m c)) 0 ≢ getD (joined m cuts) (suc (markIndex m c)) 0
       after e = rw (code-after m c break, here .split, after-mark (here .front) _ _ (markIndex m c) size) (here .starts e)
-
-      by : (t : Bool) → changedBefore m c ≡ t → (t || changedAfter m (suc c)) ≡ true → DiffersAt (tape m) (joined m cuts) (markIndex m c)
-      by true p e = inl (before p)
-      by false p e = inr (after e)
 
 -- The two tapes are equally long, whatever the list.
 pub equal-lengths : (m cuts : List ℕ) → Rising m cuts → length (joined m cuts) ≡ length (tape m)

@@ -14,7 +14,7 @@ use Rattle.spec.specs.Joints.{RisingFrom, EachPartFrom}
 use Rattle.spec.specs.declared.Counts.{Counts}
 use Rattle.spec.specs.declared.Checked.the-variants.{Accepted}
 use Rattle.laws.proofs.Accepted.{countsOf, Clear, Passes, accepted-passes, passes-accepted, passes-none}
-use Rattle.laws.proofs.Classes.{cond-app, refuted, NoBreak, break-mark, break-vowel, break-sign, break-hard-sign}
+use Rattle.laws.proofs.Classes.{cond-app, yes-or, refuted, NoBreak, break-mark, break-vowel, break-sign, break-hard-sign}
 use Rattle.laws.proofs.Cuts.{break-within}
 use Rattle.laws.proofs.Parts.{part, Begins, or-false}
 
@@ -92,11 +92,7 @@ rows-over k x t b after o =
 -- Of the bytes after it a row asks only whether a break is last.
 pub rows-after : (k : ℕ) (x : List ℕ) (b : ℕ) (after after′ : List ℕ) → (isBreak b ≡ true → none after ≡ none after′) → fitsIn rows k x b after ≡ fitsIn rows k x b after′
 unfolding fitsIn rows row3 row4 row5 row6 row7 row8 row9 row10
-rows-after k x b after after′ n = by (isBreak b) refl
-  where
-    by : (t : Bool) → isBreak b ≡ t → fitsIn rows k x b after ≡ fitsIn rows k x b after′
-    by true d = rw (n d)
-    by false d = rw d
+rows-after k x b after after′ n = ⊎-elim (λ d. rw (n d)) (λ d. rw d) (yes-or (isBreak b))
 
 -- a clear break is not last
 pub clear-followed : (x : List ℕ) (b : ℕ) (after : List ℕ) → Clear x b after → isBreak b ≡ true → none after ≡ false

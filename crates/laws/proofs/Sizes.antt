@@ -2,19 +2,20 @@
 -- Assumes nothing.
 use Prim.Native.Nat.{ℕ, suc, _+_, _*_, _≤_}
 use mathlib.Core.Path.{_≡_, refl, ap}
-use mathlib.Core.Bool.{Bool, true, false, cond, _&&_, _||_}
+use mathlib.Core.Bool.{Bool, true, false, _&&_, _||_}
+use mathlib.Core.Logic.{⊎-elim}
 use mathlib.Core.List.{List, [], _∷_, _++_}
 use native.Mathlib.Omega.{arith}
 use lib.ListN.{length, length-append}
 use Rattle.spec.specs.Letters.{Letter, Message, last, more, read, putLetter, beginsWithMark, small, isGap, isBreak, isMark, isSign, isVowel, isConsonant, plainVowels, softeningVowels}
 use Rattle.spec.specs.Elision.{elides, elideFrom, elide}
-use Rattle.spec.specs.Syllables.{Facts, factsOf, syllableOf, nameOf, incomplete, namesFrom}
+use Rattle.spec.specs.Syllables.{Facts, factsOf, syllableOf, incomplete, namesFrom}
 use Rattle.spec.specs.Vowels.{Phone, glides, vowelPhones, phonesOf, phonesFrom, endsHard}
 use Rattle.spec.specs.Voicing.{voices, voice}
 use Rattle.spec.specs.Palatalization.{palatalize}
 use Rattle.spec.specs.Tape.{wordTape, segment, tape, wordNames, namesOf, names}
 use Rattle.spec.proofs.Computed.{everything}
-use Rattle.laws.proofs.Classes.{cond-both, among-same}
+use Rattle.laws.proofs.Classes.{cond-both, yes-or, among-same}
 
 -- the letters and breaks of a message
 abbrev pub sizeOf : Message → ℕ
@@ -102,12 +103,9 @@ incomplete-one p = cond-both (λ (v : List ℕ). length v ≤ 1) (isConsonant p 
 names-from-size : (facts : Facts) (p : ℕ) (w : List Letter) → length (namesFrom facts p w) ≤ length w + length (incomplete p)
 unfolding namesFrom
 names-from-size facts p [] = omega arith
-names-from-size facts p (l ∷ w) = by (isVowel (l .byte)) refl (names-from-size facts (l .byte) w)
-  where
-    by : (v : Bool) → isVowel (l .byte) ≡ v → length (namesFrom facts (l .byte) w) ≤ length w + length (incomplete (l .byte))
-        → length (cond v (nameOf (syllableOf facts p l w) ∷ namesFrom facts (l .byte) w) (namesFrom facts (l .byte) w)) ≤ suc (length w) + length (incomplete p)
-    by true v h = omega (arith, ap length (vowel-complete (l .byte) v))
-    by false v h = omega (arith, incomplete-one (l .byte))
+names-from-size facts p (l ∷ w) =
+    let h = names-from-size facts (l .byte) w in
+    ⊎-elim (λ v. rw v (omega (arith, ap length (vowel-complete (l .byte) v)))) (λ v. rw v (omega (arith, incomplete-one (l .byte)))) (yes-or (isVowel (l .byte)))
 
 word-names-size : (w : List Letter) → length (wordNames w) ≤ length w
 unfolding wordNames elide

@@ -2,14 +2,14 @@
 -- Assumes nothing.
 use Prim.Native.Nat.{ℕ, zero, suc}
 use mathlib.Core.Path.{_≡_, refl, ap, _∙_}
-use mathlib.Core.Bool.{Bool, true, false, cond, _&&_}
+use mathlib.Core.Bool.{Bool, true, false, _&&_}
 use mathlib.Core.List.{List, [], _∷_, _++_, append-assoc}
 use native.Mathlib.Omega.{arith}
 use lib.Dec.{eqb}
 use lib.ListN.{length, drop, getD, length-append}
 use Rattle.spec.specs.Alphabet.{pause}
 use Rattle.spec.specs.Tables.{among}
-use Rattle.spec.specs.Letters.{Letter, Message, last, more, read, putLetter, beginsWithMark, firstWord, lastWord, isGap, isBreak, isMark}
+use Rattle.spec.specs.Letters.{Letter, Message, last, more, read, putLetter, beginsWithMark, firstWord, lastWord, isGap, isBreak}
 use Rattle.spec.specs.Codes.{markOf, isVoicing}
 use Rattle.spec.specs.Vowels.{endsHard}
 use Rattle.spec.specs.Palatalization.{firstCode}

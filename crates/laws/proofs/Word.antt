@@ -5,6 +5,7 @@ use Prim.Native.Nat.{ℕ, suc}
 use native.Mathlib.Omega.{arith}
 use mathlib.Core.Path.{_≡_, refl, sym, ap, subst, _∙_}
 use mathlib.Core.Bool.{Bool, true, false, cond, not, _&&_, _||_, true≢false, false≢true, and-true, and-false}
+use mathlib.Core.Logic.{⊎-elim}
 use mathlib.Core.List.{List, [], _∷_, _++_, append-nil, map}
 use lib.ListN.{length}
 use lib.Dec.{eqb}
@@ -24,7 +25,7 @@ use Rattle.spec.specs.declared.Cover.{Cover}
 use Rattle.spec.specs.declared.Level.{Level}
 use Rattle.spec.specs.declared.Level.the-variants.{Stressed, First, Second}
 use Rattle.spec.proofs.Computed.{everything}
-use Rattle.laws.proofs.Classes.{among-same}
+use Rattle.laws.proofs.Classes.{yes-or, among-same}
 
 -- the last code; 0 where there is none
 unfoldable pub lastCodeFrom : ℕ → List ℕ → ℕ
@@ -122,21 +123,15 @@ kept-before p b w e = simp (other «н» refl, other «с» refl, other «ц» r
 elided-ends : (p b : ℕ) (d d′ : Bool) (w : List Letter) → elides p b w ≡ true → endsInObstruentFrom d w ≡ endsInObstruentFrom d′ w
 unfolding endsInObstruentFrom firstByte among isSign
 elided-ends p b d d′ [] e = absurd (true≢false (sym e ∙ kept-before p b [] refl))
-elided-ends p b d d′ (l ∷ w) e = by (isSign (l .byte)) refl
-  where
-    by : (t : Bool) → isSign (l .byte) ≡ t → endsInObstruentFrom (cond t d (isObstruent (l .byte))) w ≡ endsInObstruentFrom (cond t d′ (isObstruent (l .byte))) w
-    by true q = absurd (true≢false (sym e ∙ kept-before p b (l ∷ w) (among-same (among (0 ∷ signs)) (λ _. true) signs (l .byte) refl q)))
-    by false q = refl
+elided-ends p b d d′ (l ∷ w) e =
+    ⊎-elim (λ q. absurd (true≢false (sym e ∙ kept-before p b (l ∷ w) (among-same (among (0 ∷ signs)) (λ _. true) signs (l .byte) refl q)))) (λ q. rw q) (yes-or (isSign (l .byte)))
 
 -- pass 1 leaves the last letter, signs passed over
 pub elide-ends : (d : Bool) (p : ℕ) (w : List Letter) → endsInObstruentFrom d (elideFrom p w) ≡ endsInObstruentFrom d w
 unfolding elideFrom endsInObstruentFrom
 elide-ends d p [] = refl
-elide-ends d p (l ∷ w) = by (elides p (l .byte) w) refl (λ x. elide-ends x (l .byte) w)
-  where
-    by : (t : Bool) → elides p (l .byte) w ≡ t → ((x : Bool) → endsInObstruentFrom x (elideFrom (l .byte) w) ≡ endsInObstruentFrom x w) → endsInObstruentFrom d (cond t (elideFrom (l .byte) w) (l ∷ elideFrom (l .byte) w)) ≡ endsInObstruentFrom (cond (isSign (l .byte)) d (isObstruent (l .byte))) w
-    by true q k = k d ∙ elided-ends p (l .byte) d _ w q
-    by false q k = k _
+elide-ends d p (l ∷ w) =
+    ⊎-elim (λ q. rw q (elide-ends d (l .byte) w ∙ elided-ends p (l .byte) d _ w q)) (λ q. rw q (elide-ends _ (l .byte) w)) (yes-or (elides p (l .byte) w))
 
 -- the last sound of a word is of its last letter, signs passed over
 pub word-toned : (h : Bool) (w : List Letter) → endsToned false (phonesFrom h (factsOf w) 0 (elide w)) ≡ endsInObstruent w
