@@ -1,4 +1,4 @@
--- A class is a list of bytes, so what holds of all its letters is one computation over that list.
+-- A test has two outcomes, so what holds in both holds; and a class is a list of bytes, so what holds of all its letters is one computation over that list.
 -- Assumes nothing.
 use Prim.Native.Nat.{ℕ, suc, _<_, _≤_}
 use mathlib.Core.Path.{_≡_, refl, sym, ap, _∙_}
