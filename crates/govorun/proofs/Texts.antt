@@ -5,18 +5,18 @@ use native.Mathlib.Omega.{arith}
 use native.Mathlib.Nat.{pow-suc}
 use native.Mathlib.Numerals.{add-one}
 use mathlib.Core.Path.{_≡_, refl, sym, ap, _∙_}
-use mathlib.Core.Bool.{Bool, true, false, cond}
+use mathlib.Core.Logic.{⊎-elim}
 use mathlib.Core.List.{List, [], _∷_, _++_, append-assoc, append-nil}
-use lib.Dec.{leb}
 use lib.ListN.{length, take, drop, set, getD, length-append, length-drop, drop-of-length-le}
 use lib.Seq.{take-suc-set, take-at, drop-cons}
-use borrow.Author.Tests.{le-leb, lt-leb, lt-ltb, le-ltb, leb-true, leb-false}
+use borrow.Author.Tests.{le-leb, lt-leb, lt-ltb, le-ltb}
 use Rattle.spec.specs.Printed.{ascii, lastDigits, decimal, printedCodes, printedAnswer}
 use Rattle.spec.specs.Tape.{tape}
 use Rattle.spec.specs.Answers.{numberOf, placeOf, lengthOf, outputAfter, tapeAnswer}
 use Rattle.spec.specs.declared.Refusal.{Refusal}
 use Rattle.spec.specs.declared.Answer.the-variants.{Written, Refused}
 use Rattle.laws.proofs.Bounds.{tape-small}
+use Rattle.laws.proofs.Classes.{below-or}
 use Rattle.govorun.specs.Putting.{Put, codeAt}
 
 -- nothing put leaves the text as it is
@@ -28,8 +28,8 @@ pub put-one : (text : List ℕ) (at byte : ℕ) → at < length text → Put (by
 put-one text at byte h = record { place = refl; bytes = rw (add-one at) (take-suc-set text at byte h) }
 
 -- bytes put after others
-pub put-over : (a b text text₁ text₂ : List ℕ) (at r s : ℕ) → Put a text text₁ at r → Put b text₁ text₂ r s → Put (a ++ b) text text₂ at s
-put-over a b text text₁ text₂ at r s p q =
+pub put-over : {a b text text₁ text₂ : List ℕ} {at r s : ℕ} → Put a text text₁ at r → Put b text₁ text₂ r s → Put (a ++ b) text text₂ at s
+put-over {a} {b} {text} {text₁} {text₂} {at} p q =
     record {
       place = omega (arith, p .place, q .place, length-append a b);
       bytes = q .bytes ∙ rw (p .bytes) (append-assoc (take at text) a b);
@@ -40,12 +40,7 @@ enough : (k j n : ℕ) → n < k → n < j → lastDigits k n ≡ lastDigits j n
 unfolding lastDigits
 enough zero j n h l = absurd (omega arith)
 enough (suc k) zero n h l = absurd (omega arith)
-enough (suc k) (suc j) n h l = by (leb n 9) refl (λ g. enough k j (n / 10) (omega arith) (omega arith))
-  where
-    by : (t : Bool) → leb n 9 ≡ t → (9 < n → lastDigits k (n / 10) ≡ lastDigits j (n / 10))
-        → cond t [] (lastDigits k (n / 10)) ++ ((48 + n % 10) ∷ []) ≡ cond t [] (lastDigits j (n / 10)) ++ ((48 + n % 10) ∷ [])
-    by true e f = refl
-    by false e f = rw (f (leb-false n 9 e))
+enough (suc k) (suc j) n h l = ⊎-elim (λ g. rw (lt-leb n 9 g, enough k j (n / 10) (omega arith) (omega arith))) (λ g. rw (le-leb n 9 g)) (below-or 9 n)
 
 -- one digit
 pub decimal-small : (n : ℕ) → n < 10 → decimal n ≡ (48 + n % 10) ∷ []
@@ -64,14 +59,9 @@ decimal-longer n h = ap length (decimal-large n h) ∙ length-append (decimal (n
 -- a number below a power of ten has at most as many digits as the power says
 pub decimal-size : (k n : ℕ) → n < 10 ^ suc k → length (decimal n) ≤ suc k
 decimal-size zero n h = omega (arith, ap length (decimal-small n h))
-decimal-size (suc k) n h = by (leb n 9) refl (decimal-size k (n / 10))
-  where
-    by : (t : Bool) → leb n 9 ≡ t → (n / 10 < 10 ^ suc k → length (decimal (n / 10)) ≤ suc k) → length (decimal n) ≤ suc (suc k)
-    by true e f = omega (arith, ap length (decimal-small n (omega (arith, leb-true n 9 e))))
-    by false e f =
-        let l = leb-false n 9 e in
-        let p = pow-suc 10 (suc k) in
-        omega (arith, decimal-longer n (omega arith), f (omega (arith, p)))
+decimal-size (suc k) n h =
+    let p = pow-suc 10 (suc k) in
+    ⊎-elim (λ g. omega (arith, decimal-longer n (omega arith), decimal-size k (n / 10) (omega arith))) (λ g. omega (arith, ap length (decimal-small n (omega arith)))) (below-or 9 n)
 
 -- codes that are bytes have at most three digits each, and a space
 pub codes-size : (codes : List ℕ) → ((i : ℕ) → getD codes i 0 < 256) → length (printedCodes codes) ≤ 4 * length codes

@@ -16,6 +16,7 @@ use Rattle.spec.specs.declared.Counts.{Counts}
 use Rattle.spec.specs.declared.Checked.{Checked}
 use Rattle.spec.specs.declared.Checked.the-variants.{Accepted, Refused}
 use Rattle.spec.proofs.Computed.{everything}
+use Rattle.laws.proofs.Classes.{cond-app, cond-same, yes-or, refuted, below-or}
 
 -- Rows with numbers above 2, no number twice.
 unfoldable pub orderly : List Row → Bool
@@ -44,34 +45,20 @@ module _ (before : List ℕ) (b : ℕ) (after : List ℕ) where
   fits-within : (rs : List Row) (k : ℕ) → fitsIn rs k before b after ≡ true → indexIn rs k < length rs
   unfolding fitsIn indexIn
   fits-within [] k e = absurd (false≢true e)
-  fits-within ((n when test) ∷ rs) k e = by (eqb n k) e (fits-within rs k)
-    where
-      by : (t : Bool) → cond t (test before b after) (fitsIn rs k before b after) ≡ true → (fitsIn rs k before b after ≡ true → indexIn rs k < length rs)
-          → cond t 0 (suc (indexIn rs k)) < suc (length rs)
-      by true h r = omega arith
-      by false h r = omega (arith, r h)
+  fits-within ((n when test) ∷ rs) k e = ⊎-elim (λ q. rw q (omega arith)) (λ q. rw q (omega (arith, fits-within rs k (rw q at e)))) (yes-or (eqb n k))
 
   -- two numbers that fit and have one index are one
   fits-same : (rs : List Row) (k n : ℕ) → indexIn rs k ≡ indexIn rs n → fitsIn rs k before b after ≡ true → fitsIn rs n before b after ≡ true → k ≡ n
   unfolding fitsIn indexIn
   fits-same [] k n i e f = absurd (false≢true e)
-  fits-same ((x when test) ∷ rs) k n i e f = by (eqb x k) (eqb x n) refl refl i e f (fits-same rs k n)
-    where
-      by : (t u : Bool) → eqb x k ≡ t → eqb x n ≡ u → cond t 0 (suc (indexIn rs k)) ≡ cond u 0 (suc (indexIn rs n))
-          → cond t (test before b after) (fitsIn rs k before b after) ≡ true → cond u (test before b after) (fitsIn rs n before b after) ≡ true
-          → (indexIn rs k ≡ indexIn rs n → fitsIn rs k before b after ≡ true → fitsIn rs n before b after ≡ true → k ≡ n) → k ≡ n
-      by true true p q i e f r = sym (eqb-true x k p) ∙ eqb-true x n q
-      by true false p q i e f r = absurd (omega arith)
-      by false true p q i e f r = absurd (omega arith)
-      by false false p q i e f r = r (omega arith) e f
+  fits-same ((x when test) ∷ rs) k n i e f = ⊎-elim
+      (λ p. ⊎-elim (λ q. sym (eqb-true x k p) ∙ eqb-true x n q) (λ q. absurd (omega (arith, rw (p, q) at i))) (yes-or (eqb x n)))
+      (λ p. ⊎-elim (λ q. absurd (omega (arith, rw (p, q) at i))) (λ q. fits-same rs k n (omega (arith, rw (p, q) at i)) (rw p at e) (rw q at f)) (yes-or (eqb x n)))
+      (yes-or (eqb x k))
 
   -- a number that fits further on is not the first row's
   not-first : (n : ℕ) (rs : List Row) → indexIn rs n ≡ length rs → (k : ℕ) → fitsIn rs k before b after ≡ true → eqb n k ≡ false
-  not-first n rs a k e = by (eqb n k) refl
-    where
-      by : (t : Bool) → eqb n k ≡ t → t ≡ false
-      by true q = absurd (omega (arith, fits-within rs k e, rw (eqb-true n k q) at a))
-      by false q = refl
+  not-first n rs a k e = refuted (eqb n k) (λ q. omega (arith, fits-within rs k e, rw (eqb-true n k q) at a))
 
   -- the first row that fits does fit
   first-fits : (rs : List Row) → orderly rs ≡ true → 0 < firstFit rs before b after → fitsIn rs (firstFit rs before b after) before b after ≡ true
@@ -79,13 +66,8 @@ module _ (before : List ℕ) (b : ℕ) (after : List ℕ) where
   first-fits [] o z = absurd (omega arith)
   first-fits ((n when test) ∷ rs) o z =
       let r = orderly-more n test rs o in
-      by (test before b after) refl z (first-fits rs (r .2)) (not-first n rs (r .1))
-    where
-      by : (t : Bool) → test before b after ≡ t → 0 < cond t n (firstFit rs before b after)
-          → (0 < firstFit rs before b after → fitsIn rs (firstFit rs before b after) before b after ≡ true) → ((k : ℕ) → fitsIn rs k before b after ≡ true → eqb n k ≡ false)
-          → cond (eqb n (cond t n (firstFit rs before b after))) (test before b after) (fitsIn rs (cond t n (firstFit rs before b after)) before b after) ≡ true
-      by true q z r f = rw (eq-eqb n n refl) q
-      by false q z r f = rw (f _ (r z)) (r z)
+      ⊎-elim (λ q. rw q (rw (eq-eqb n n refl)))
+      (λ q. let g = first-fits rs (r .2) (rw q at z) in rw q (rw (not-first n rs (r .1) _ g) g)) (yes-or (test before b after))
 
   -- no row before it does
   first-first : (rs : List Row) (k : ℕ) → orderly rs ≡ true → 0 < firstFit rs before b after → indexIn rs k < indexIn rs (firstFit rs before b after)
@@ -106,13 +88,10 @@ module _ (before : List ℕ) (b : ℕ) (after : List ℕ) where
   first-none : (rs : List Row) (k : ℕ) → orderly rs ≡ true → firstFit rs before b after ≡ 0 → fitsIn rs k before b after ≡ false
   unfolding firstFit fitsIn
   first-none [] k o z = refl
-  first-none ((n when test) ∷ rs) k o z = let r = orderly-more n test rs o in by (test before b after) (eqb n k) refl z (r .0) (first-none rs k (r .2))
-    where
-      by : (t u : Bool) → test before b after ≡ t → cond t n (firstFit rs before b after) ≡ 0 → 3 ≤ n
-          → (firstFit rs before b after ≡ 0 → fitsIn rs k before b after ≡ false) → cond u (test before b after) (fitsIn rs k before b after) ≡ false
-      by true u q z h r = absurd (omega arith)
-      by false true q z h r = q
-      by false false q z h r = r z
+  first-none ((n when test) ∷ rs) k o z =
+      let r = orderly-more n test rs o in
+      ⊎-elim (λ q. absurd (omega (arith, r .0, rw q at z)))
+      (λ q. let g = first-none rs k (r .2) (rw q at z) in ⊎-elim (λ u. rw u q) (λ u. rw u g) (yes-or (eqb n k))) (yes-or (test before b after))
 
 -- no row fits at a byte
 abbrev pub Clear : List ℕ → ℕ → List ℕ → Type 0
@@ -123,26 +102,10 @@ pub fault-clear : (before : List ℕ) (b : ℕ) (after : List ℕ) → faultAt b
 unfolding faultAt
 fault-clear before b after e k = first-none before b after rows k rows-orderly e
 
--- no row, no fault
-pub clear-fault : (before : List ℕ) (b : ℕ) (after : List ℕ) → Clear before b after → faultAt before b after ≡ 0
-unfolding faultAt
-clear-fault before b after c = by (eqb (firstFit rows before b after) 0) refl
-  where
-    by : (t : Bool) → eqb (firstFit rows before b after) 0 ≡ t → firstFit rows before b after ≡ 0
-    by true q = eqb-true _ _ q
-    by false q =
-        let z : 0 < firstFit rows before b after = omega (arith, eqb-false (firstFit rows before b after) 0 q) in
-        absurd (true≢false (sym (first-fits before b after rows rows-orderly z) ∙ c (firstFit rows before b after)))
-
 -- the order of two rows is that of their indices
 rank-lower : (k n : ℕ) → eqb k 1 ≡ false → eqb k 2 ≡ false → rank k < rank n → indexIn rows k < indexIn rows n
 unfolding rank
-rank-lower k n q r l = by (eqb n 1) (eqb n 2) (rw (q, r) at l)
-  where
-    by : (t u : Bool) → suc (suc (indexIn rows k)) < cond t 0 (cond u 1 (suc (suc (indexIn rows n)))) → indexIn rows k < indexIn rows n
-    by true u h = absurd (omega arith)
-    by false true h = absurd (omega arith)
-    by false false h = omega arith
+rank-lower k n q r l = later (eqb n 2) _ _ (later (eqb n 1) _ _ (rw (q, r, ← cond-app suc (eqb n 2) 0 (suc (indexIn rows n))) at l))
 
 -- what an accepted message's check answers
 abbrev pub countsOf : List ℕ → Counts
@@ -154,11 +117,7 @@ ClearAt m i = Clear (beforeAt m i) (getD m i 0) (drop (suc i) m)
 
 -- no row fits at the places before suc i, if none fits at those before i and at i
 clear-more : (m : List ℕ) (i : ℕ) → ((j : ℕ) → j < i → ClearAt m j) → ClearAt m i → (j : ℕ) → j < suc i → ClearAt m j
-clear-more m i c d j h = by (eqb j i) refl
-  where
-    by : (t : Bool) → eqb j i ≡ t → ClearAt m j
-    by true q = rw (eqb-true j i q) d
-    by false q = c j (omega (arith, eqb-false j i q))
+clear-more m i c d j h = ⊎-elim (λ l. c j l) (λ l. let e : j ≡ i = omega arith in rw e d) (below-or j i)
 
 -- as many bytes stand before a place as it counts
 pub before-length : (m : List ℕ) (i : ℕ) → length (beforeAt m i) ≡ i
@@ -217,22 +176,14 @@ module _ (m : List ℕ) (z : 0 < length m) (s : length m ≤ 4096) where
   -- and none past its end
   past-fits : (k p : ℕ) → length m ≤ p → fits m k p ≡ false
   unfolding fits
-  past-fits k p h = rw (ne-eqb (length m) 0 (omega arith), le-leb (length m) 4096 s, lt-leb (suc p) (length m) (omega arith), and-false) (by (eqb k 1) (eqb k 2))
-    where
-      by : (t u : Bool) → cond t false (cond u false false) ≡ false
-      by true u = refl
-      by false true = refl
-      by false false = refl
+  past-fits k p h = rw (ne-eqb (length m) 0 (omega arith), le-leb (length m) 4096 s, lt-leb (suc p) (length m) (omega arith), and-false) (simp cond-same)
 
   -- a number that stands before a row in the order does not fit where that row is the first one that does
   lower-fits : (k p : ℕ) → p < length m → let n = firstFit rows (beforeAt m p) (getD m p 0) (drop (suc p) m) in 0 < n → rank k < rank n → fits m k p ≡ false
   unfolding rows fitsIn
-  lower-fits k p h i l = by (eqb k 1) refl (eqb k 2) refl
-    where
-      by : (t : Bool) → eqb k 1 ≡ t → (u : Bool) → eqb k 2 ≡ u → fits m k p ≡ false
-      by true q u r = rw (eqb-true k 1 q) (sized-fits 1 p false h refl)
-      by false q true r = rw (eqb-true k 2 r) (sized-fits 2 p false h refl)
-      by false q false r = sized-fits k p false h (first-first (beforeAt m p) (getD m p 0) (drop (suc p) m) rows k rows-orderly i (rank-lower k _ q r l))
+  lower-fits k p h i l = ⊎-elim (λ q. rw (eqb-true k 1 q) (sized-fits 1 p false h refl))
+      (λ q. ⊎-elim (λ r. rw (eqb-true k 2 r) (sized-fits 2 p false h refl))
+      (λ r. sized-fits k p false h (first-first (beforeAt m p) (getD m p 0) (drop (suc p) m) rows k rows-orderly i (rank-lower k _ q r l))) (yes-or (eqb k 2))) (yes-or (eqb k 1))
 
   -- the first place with a fault gives its number
   fault-given : (p : ℕ) → p < length m → ((j : ℕ) → j < p → ClearAt m j)
@@ -280,11 +231,8 @@ check-finds m = by (eqb (length m) 0) refl (leb (length m) 4096) refl
 
 -- a message that passes is fitted by nothing
 pub passes-none : (m : List ℕ) → Passes m → NoneFits m
-passes-none m p k q = by (leb (suc q) (length m)) refl
-  where
-    by : (t : Bool) → leb (suc q) (length m) ≡ t → fits m k q ≡ false
-    by true d = let h = leb-true (suc q) (length m) d in sized-fits m (p .some) (p .short) k q false h (p .rows q h k)
-    by false d = past-fits m (p .some) (p .short) k q (omega (arith, leb-false (suc q) (length m) d))
+passes-none m p k q =
+    ⊎-elim (λ h. sized-fits m (p .some) (p .short) k q false h (p .rows q h k)) (λ h. past-fits m (p .some) (p .short) k q h) (below-or q (length m))
 
 -- what is given fits, so it is not given where nothing fits
 none-given : (m : List ℕ) (n p : ℕ) → NoneFits m → Given m n p → ⊥
@@ -314,7 +262,8 @@ rank-same m p n k i e f = by (eqb n 1) refl (eqb n 2) refl (eqb k 1) refl (eqb k
 
 -- At most one number is given, at one place.
 pub given-once : (m : List ℕ) (n p k q : ℕ) → Given m n p → Given m k q → (n ≡ k) × (p ≡ q)
-given-once m n p k q g h = by (leb (suc p) q) refl (leb (suc q) p) refl (leb (suc (rank n)) (rank k)) refl (leb (suc (rank k)) (rank n)) refl
+given-once m n p k q g h =
+    ⊎-elim (λ l. absurd (before (inl l))) (λ x. ⊎-elim (λ l. absurd (after (inl l))) (λ y. at-once (omega arith)) (below-or q p)) (below-or p q)
   where
     -- what comes before does not fit
     before : Earlier n p k q → ⊥
@@ -323,16 +272,9 @@ given-once m n p k q g h = by (leb (suc p) q) refl (leb (suc q) p) refl (leb (su
     after : Earlier k q n p → ⊥
     after e = true≢false (sym (h .holds) ∙ g .first k q e)
 
-    by : (a : Bool) → leb (suc p) q ≡ a → (b : Bool) → leb (suc q) p ≡ b → (c : Bool) → leb (suc (rank n)) (rank k) ≡ c → (d : Bool) → leb (suc (rank k)) (rank n) ≡ d
-        → (n ≡ k) × (p ≡ q)
-    by true x b y c z d w = absurd (before (inl (leb-true _ _ x)))
-    by false x true y c z d w = absurd (after (inl (leb-true _ _ y)))
-    by false x false y true z d w = absurd (before (inr (omega (arith, leb-false (suc p) q x, leb-false (suc q) p y), leb-true _ _ z)))
-    by false x false y false z true w = absurd (after (inr (omega (arith, leb-false (suc p) q x, leb-false (suc q) p y), leb-true _ _ w)))
-    by false x false y false z false w =
-        let e : p ≡ q = omega (arith, leb-false (suc p) q x, leb-false (suc q) p y) in
-        let r : rank n ≡ rank k = omega (arith, leb-false (suc (rank n)) (rank k) z, leb-false (suc (rank k)) (rank n) w) in
-        (rank-same m q n k r (rw e at (g .holds)) (h .holds), e)
+    at-once : p ≡ q → (n ≡ k) × (p ≡ q)
+    at-once e = ⊎-elim (λ l. absurd (before (inr (e, l)))) (λ x. ⊎-elim (λ l. absurd (after (inr (sym e, l))))
+        (λ y. (rank-same m q n k (omega arith) (rw e at (g .holds)) (h .holds), e)) (below-or (rank k) (rank n))) (below-or (rank n) (rank k))
 
 -- Accepted: nothing fits.
 pub accepted-passes : (m : List ℕ) (counts : Counts) → checkOf m ≡ Accepted counts → Passes m

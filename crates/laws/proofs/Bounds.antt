@@ -2,7 +2,8 @@
 -- Assumes nothing.
 use Prim.Native.Nat.{ℕ, suc, _+_, _-_, _≤_}
 use mathlib.Core.Path.{_≡_, refl}
-use mathlib.Core.Bool.{Bool, true, false, cond, not, _&&_, _||_, and-eq-true-iff}
+use mathlib.Core.Bool.{Bool, true, false, cond, _&&_, and-eq-true-iff}
+use mathlib.Core.Logic.{⊎-elim}
 use mathlib.Core.List.{List, [], _∷_}
 use native.Mathlib.Omega.{arith}
 use lib.Dec.{eqb, leb}
@@ -20,6 +21,7 @@ use Rattle.spec.specs.declared.Checked.the-variants.{Accepted, Refused}
 use Rattle.spec.specs.declared.Answer.the-variants as answer
 use Rattle.spec.proofs.Computed.{everything}
 use Rattle.laws.proofs.Accepted.{accepted-counts}
+use Rattle.laws.proofs.Classes.{cond-both, yes-or}
 use Rattle.laws.proofs.Cuts.{break-within, rising-of, rising-length}
 use Rattle.laws.proofs.Cutting.{equal-lengths}
 use Rattle.laws.proofs.Sizes.{tape-size, names-size}
@@ -49,11 +51,7 @@ unfolding firstFit upTo
 fault-up [] before b after u = omega arith
 fault-up ((n when test) ∷ rs) before b after u =
     let a = and-eq-true-iff (leb n 10) (upTo 10 rs) .0 u in
-    by (test before b after) (leb-true n 10 (a .0)) (fault-up rs before b after (a .1))
-  where
-    by : (t : Bool) → n ≤ 10 → firstFit rs before b after ≤ 10 → cond t n (firstFit rs before b after) ≤ 10
-    by true h l = h
-    by false h l = l
+    cond-both (λ k. k ≤ 10) (test before b after) (leb-true n 10 (a .0)) (fault-up rs before b after (a .1))
 
 rows-up : upTo 10 rows ≡ true
 unfolding everything upTo
@@ -67,11 +65,7 @@ Placed d = (checkedNumber d ≤ 10) × (checkedPlace d ≤ 4096)
 scan-placed : (a : Checked) (before m : List ℕ) → Placed a → length before + length m ≤ 4096 → Placed (scan a before m)
 unfolding scan faultAt checkedNumber checkedPlace
 scan-placed a before [] p h = p
-scan-placed a before (b ∷ m) p h = by (eqb (faultAt before b m) 0) (scan-placed a (b ∷ before) m p (omega arith))
-  where
-    by : (t : Bool) → Placed (scan a (b ∷ before) m) → Placed (cond t (scan a (b ∷ before) m) (Refused (refusal (faultAt before b m) (length before))))
-    by true r = r
-    by false r = (fault-up rows before b m rows-up, omega arith)
+scan-placed a before (b ∷ m) p h = cond-both Placed (eqb (faultAt before b m) 0) (scan-placed a (b ∷ before) m p (omega arith)) (fault-up rows before b m rows-up, omega arith)
 
 -- and the check
 check-placed : (m : List ℕ) → Placed (checkOf m)
@@ -87,23 +81,16 @@ check-placed m = by (eqb (length m) 0) (leb (length m) 4096) refl
 pub live-bound : (m cuts : List ℕ) → liveCount m cuts ≤ length cuts
 unfolding liveCount
 live-bound m [] = omega arith
-live-bound m (c ∷ cuts) = by (isLive m c) (live-bound m cuts)
-  where
-    by : (t : Bool) → liveCount m cuts ≤ length cuts → cond t (suc (liveCount m cuts)) (liveCount m cuts) ≤ suc (length cuts)
-    by true h = omega arith
-    by false h = omega arith
+live-bound m (c ∷ cuts) = let h = live-bound m cuts in cond-both (λ k. k ≤ suc (length cuts)) (isLive m c) {x = suc (liveCount m cuts)} {y = liveCount m cuts} (omega arith) (omega arith)
 
 -- each cut before the first bad one takes a place of its own
 bad-from : (m : List ℕ) (least k : ℕ) (cuts : List ℕ) → badCutFrom m least k cuts ≤ k + (length m - least)
 unfolding badCutFrom row12
 bad-from m least k [] = omega arith
-bad-from m least k (c ∷ cuts) = by (isBreak (getD m c 0)) (leb least c) refl refl (bad-from m (suc c) (suc k) cuts)
-  where
-    by : (t u : Bool) → isBreak (getD m c 0) ≡ t → leb least c ≡ u → badCutFrom m (suc c) (suc k) cuts ≤ suc k + (length m - suc c)
-        → cond (not t || not u) k (badCutFrom m (suc c) (suc k) cuts) ≤ k + (length m - least)
-    by true true p q h = omega (arith, break-within m c p, leb-true least c q)
-    by true false p q h = omega arith
-    by false u p q h = omega arith
+bad-from m least k (c ∷ cuts) =
+    let h = bad-from m (suc c) (suc k) cuts in
+    ⊎-elim (λ (p : isBreak (getD m c 0) ≡ true). ⊎-elim (λ (q : leb least c ≡ true). rw (p, q) (omega (arith, break-within m c p, leb-true least c q))) (λ (q : leb least c ≡ false). rw (p, q) (omega arith)) (yes-or (leb least c)))
+    (λ p. rw p (omega arith)) (yes-or (isBreak (getD m c 0)))
 
 -- so the first bad cut has an index no larger than the message's length
 bad-bound : (m cuts : List ℕ) → badCut m cuts ≤ length m
@@ -113,11 +100,8 @@ bad-bound m cuts = omega (arith, bad-from m 0 0 cuts)
 -- what is said of an output of n bytes is small if they are few
 within-small : (room n live : ℕ) → n ≤ 8192 → live ≤ 8192 → Small (within room n live)
 unfolding within numberOf placeOf lengthOf liveOf
-within-small room n live h l = by (leb n room)
-  where
-    by : (t : Bool) → Small (cond t (answer.Written n live) (answer.Refused (refusal 11 n)))
-    by true = record { number = omega arith; place = omega arith; length = h; live = l }
-    by false = record { number = omega arith; place = h; length = omega arith; live = omega arith }
+within-small room n live h l =
+    cond-both Small (leb n room) (record { number = omega arith; place = omega arith; length = h; live = l }) (record { number = omega arith; place = h; length = omega arith; live = omega arith })
 
 -- the check's refusal is small, and what comes after it
 after-small : (d : Checked) (a : Answer) → Placed d → ((counts : Counts) → d ≡ Accepted counts → Small a) → Small (afterCheck d a)

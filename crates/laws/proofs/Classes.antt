@@ -1,16 +1,51 @@
--- A class is a list of bytes, so what holds of all its letters is one computation over that list.
+-- A test has two outcomes, so what holds in both holds; and a class is a list of bytes, so what holds of all its letters is one computation over that list.
 -- Assumes nothing.
-use Prim.Native.Nat.{ℕ}
+use Prim.Native.Nat.{ℕ, suc, _<_, _≤_}
 use mathlib.Core.Path.{_≡_, refl, sym, ap, _∙_}
-use mathlib.Core.Bool.{Bool, true, false, _||_, false≢true}
+use mathlib.Core.Bool.{Bool, true, false, cond, _||_, true≢false, false≢true}
+use mathlib.Core.Logic.{_⊎_, inl, inr}
 use mathlib.Core.List.{List, [], _∷_, _++_, map}
-use lib.Dec.{eqb}
-use borrow.Author.Tests.{eqb-true}
+use native.Mathlib.Omega.{arith}
+use lib.Dec.{eqb, leb}
+use borrow.Author.Tests.{eqb-true, leb-true, leb-false}
 use Rattle.spec.specs.Tables.{among}
 use Rattle.spec.specs.Alphabet.{gap, pause}
 use Rattle.spec.specs.Letters.{isBreak, isMark, plainVowels, softeningVowels, isVowel, isObstruent, isPaired}
 use Rattle.spec.specs.Refusals.{vowelByte, signByte, hardSignByte, consonantByte}
 use Rattle.spec.proofs.Computed.{everything}
+
+-- what holds of both choices holds of what a test chooses
+pub cond-both : {A : Type 0} (P : A → Type 0) (t : Bool) {x y : A} → P x → P y → P (cond t x y)
+cond-both P true a b = a
+cond-both P false a b = b
+
+-- a function of what a test chooses
+pub cond-app : {A B : Type 0} (f : A → B) (t : Bool) (x y : A) → f (cond t x y) ≡ cond t (f x) (f y)
+cond-app f true x y = refl
+cond-app f false x y = refl
+
+-- a test that chooses nothing
+pub cond-same : {A : Type 0} (t : Bool) (x : A) → cond t x x ≡ x
+cond-same true x = refl
+cond-same false x = refl
+
+-- a test holds or fails
+pub yes-or : (t : Bool) → (t ≡ true) ⊎ (t ≡ false)
+yes-or true = inl refl
+yes-or false = inr refl
+
+-- a test that cannot hold fails
+pub refuted : (t : Bool) → (t ≡ true → ⊥) → t ≡ false
+refuted true f = absurd (f refl)
+refuted false f = refl
+
+-- a number is below another or not
+pub below-or : (a b : ℕ) → (a < b) ⊎ (b ≤ a)
+below-or a b = by (leb (suc a) b) refl
+  where
+    by : (t : Bool) → leb (suc a) b ≡ t → (a < b) ⊎ (b ≤ a)
+    by true q = inl (leb-true (suc a) b q)
+    by false q = inr (omega (arith, leb-false (suc a) b q))
 
 -- two functions that agree on a list agree at each of its bytes
 pub among-same : {A : Type 0} (f g : ℕ → A) (xs : List ℕ) (b : ℕ) → map f xs ≡ map g xs → among xs b ≡ true → f b ≡ g b
@@ -24,11 +59,7 @@ among-same f g (x ∷ xs) b e h = by (eqb b x) refl h (among-same f g xs b (cc))
 
 -- a byte outside a list is none of its bytes
 pub among-none : (xs : List ℕ) (b x : ℕ) → among xs b ≡ false → among xs x ≡ true → eqb b x ≡ false
-among-none xs b x n h = by (eqb b x) refl
-  where
-    by : (t : Bool) → eqb b x ≡ t → t ≡ false
-    by true d = sym h ∙ ap (among xs) (sym (eqb-true b x d)) ∙ n
-    by false d = refl
+among-none xs b x n h = refuted (eqb b x) (λ d. true≢false (sym h ∙ ap (among xs) (sym (eqb-true b x d)) ∙ n))
 
 -- a vowel is no obstruent
 pub vowel-quiet : (b : ℕ) → isVowel b ≡ true → isObstruent b ≡ false

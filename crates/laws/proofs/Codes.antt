@@ -3,7 +3,8 @@
 -- Assumes nothing.
 use Prim.Native.Nat.{ℕ, zero, suc, _+_, _-_, _<_}
 use mathlib.Core.Path.{_≡_, refl, sym, ap, _∙_}
-use mathlib.Core.Bool.{Bool, true, false, cond, not, _&&_, _||_, and-eq-true-iff, false≢true}
+use mathlib.Core.Bool.{Bool, true, false, cond, not, _&&_, _||_, and-eq-true-iff, or-false, false≢true}
+use mathlib.Core.Logic.{⊎-elim}
 use mathlib.Core.List.{List, [], _∷_, _++_, append-nil}
 use native.Mathlib.Omega.{arith}
 use lib.Dec.{eqb}
@@ -27,7 +28,7 @@ use Rattle.spec.specs.declared.Syllable.{Syllable}
 use Rattle.spec.specs.declared.Level.{Level}
 use Rattle.spec.specs.declared.Level.the-variants.{Stressed, First, Second}
 use Rattle.spec.proofs.Computed.{everything}
-use Rattle.laws.proofs.Classes.{among-same, vowel-single}
+use Rattle.laws.proofs.Classes.{cond-both, cond-app, cond-same, yes-or, refuted, among-same, vowel-single}
 use Rattle.laws.proofs.Word.{shape}
 use Rattle.laws.proofs.Accepted.{Passes, none-passes}
 
@@ -62,20 +63,45 @@ Spelled (l ∷ w) = (spells (l .byte) ≡ true) × Spelled w
 pub elide-spelled : (p : ℕ) (w : List Letter) → Spelled w → Spelled (elideFrom p w)
 unfolding elideFrom
 elide-spelled p [] s = tt
-elide-spelled p (l ∷ w) s = by (elides p (l .byte) w) (elide-spelled (l .byte) w (s .1))
+elide-spelled p (l ∷ w) s = let r = elide-spelled (l .byte) w (s .1) in cond-both Spelled (elides p (l .byte) w) r (s .0, r)
+
+-- A claim on each sound, on its letter and its code.
+abbrev pub EachPhone : (ℕ → ℕ → Bool) → List Phone → Type 0
+EachPhone f [] = Unit {0}
+EachPhone f (x ∷ xs) = (f (x .letter) (x .code) ≡ true) × EachPhone f xs
+
+-- pass 3: a letter of the alphabet is a sign, a vowel or a consonant, so what holds of a vowel's glide and sound and of a consonant's code holds of a word's sounds
+module _ (f : ℕ → ℕ → Bool) (glide : (b : ℕ) → isVowel b ≡ true → f b J ≡ true)
+    (vowel : (hard : Bool) (p : ℕ) (s : Syllable) (b : ℕ) → isVowel b ≡ true → f b (vowelSound hard p s b) ≡ true) (written : (b : ℕ) → isConsonant b ≡ true → f b (writtenCode b) ≡ true) where
+  shape-each : (s v g : Bool) (j x c : Phone) (xs : List Phone)
+      → (v ≡ true → (f (j .letter) (j .code) ≡ true) × (f (x .letter) (x .code) ≡ true)) → (s ≡ false → v ≡ false → f (c .letter) (c .code) ≡ true)
+      → EachPhone f xs → EachPhone f (shape s v g j x c ++ xs)
+  shape-each true v g j x c xs a b r = r
+  shape-each false true true j x c xs a b r = (a refl .0, (a refl .1, r))
+  shape-each false true false j x c xs a b r = (a refl .1, r)
+  shape-each false false g j x c xs a b r = (b refl refl, r)
+
+  pub phones-each : (hard : Bool) (facts : Facts) (p : ℕ) (w : List Letter) → Spelled w → EachPhone f (phonesFrom hard facts p w)
+  unfolding phonesFrom phonesOf vowelPhones spells
+  phones-each hard facts p [] s = tt
+  phones-each hard facts p (l ∷ w) s =
+      shape-each (isSign (l .byte)) (isVowel (l .byte)) (glides p (syllableOf facts p l w .cover) (l .byte)) _ _ _ _
+      (λ v. (glide (l .byte) v, vowel hard p (syllableOf facts p l w) (l .byte) v))
+      (λ n v. written (l .byte) (rw (n, v, or-false) at (s .0))) (phones-each false facts (l .byte) w (s .1))
+
+-- The code c of a letter b passes a test, and so does its palatalized one where the letter has one.
+unfoldable pub both : (ℕ → Bool) → ℕ → ℕ → Bool
+both f b c = f c && (not (isPaired b) || f (suc c))
+
+-- pass 5: only a letter that has a palatalized sound is palatalized
+pub soft-both : (f : ℕ → Bool) (x : Phone) (n c : ℕ) → both f (x .letter) c ≡ true → f (cond (isSoft x n) (suc c) c) ≡ true
+unfolding both isSoft
+soft-both f x n c h = by (isPaired (x .letter)) _ (and-eq-true-iff (f c) _ .0 h)
   where
-    by : (t : Bool) → Spelled (elideFrom (l .byte) w) → Spelled (cond t (elideFrom (l .byte) w) (l ∷ elideFrom (l .byte) w))
-    by true r = r
-    by false r = (s .0, r)
-
--- A test or a level chooses between codes: asked whether it is a sound, it chooses between the answers.
-sound-cond : (t : Bool) (c d : ℕ) → isSound (cond t c d) ≡ cond t (isSound c) (isSound d)
-sound-cond true c d = refl
-sound-cond false c d = refl
-
-same : (t : Bool) → cond t true true ≡ true
-same true = refl
-same false = refl
+    by : (p t : Bool) → (f c ≡ true) × ((not p || f (suc c)) ≡ true) → f (cond (p && t) (suc c) c) ≡ true
+    by true true e = e .1
+    by true false e = e .0
+    by false t e = e .0
 
 -- pass 3: a vowel has a sound, whatever stands around it
 vowel-sound : (hard : Bool) (p : ℕ) (s : Syllable) (b : ℕ) → isVowel b ≡ true → isSound (vowelSound hard p s b) ≡ true
@@ -86,90 +112,49 @@ vowel-sound hard p s b h = alike (s .level) ∙ among-same (λ x. isSound (vowel
     marked = record { cover = Bare; level = Stressed }
 
     alike : (level : Level) → isSound (vowelSound hard p (record { cover = s .cover; level = level }) b) ≡ isSound (vowelSound false 0 marked b)
-    alike Stressed = simp (sound-cond, same)
-    alike First = simp (sound-cond, same)
-    alike Second = simp (sound-cond, same)
+    alike Stressed = simp (cond-app isSound, cond-same)
+    alike First = simp (cond-app isSound, cond-same)
+    alike Second = simp (cond-app isSound, cond-same)
 
--- The code c of a letter b is a sound, and so is its palatalized one where the letter has one.
-unfoldable fine : ℕ → ℕ → Bool
-fine b c = isSound c && (not (isPaired b) || isSound (suc c))
-
--- sounds of this kind
-abbrev Fine : List Phone → Type 0
-Fine [] = Unit {0}
-Fine (x ∷ xs) = (fine (x .letter) (x .code) ≡ true) × Fine xs
+-- The code c of a letter b is a sound, and so is its palatalized one.
+abbrev fine : ℕ → ℕ → Bool
+fine = both isSound
 
 -- a vowel has no palatalized sound
 vowel-fine : (b c : ℕ) → isVowel b ≡ true → isSound c ≡ true → fine b c ≡ true
-unfolding fine
+unfolding both
 vowel-fine b c v s = rw (s, vowel-single b v)
 
 -- a consonant's sound as written
 written-fine : (b : ℕ) → isConsonant b ≡ true → fine b (writtenCode b) ≡ true
-unfolding everything isSound fine
+unfolding everything isSound both
 written-fine b h = among-same (λ x. fine x (writtenCode x)) (λ _. true) (hardOnly ++ paired ++ softOnly) b refl h
 
 -- pass 4: an obstruent's sound before any other
 toned-fine : (tone : Tone) (b c : ℕ) → isObstruent b ≡ true → fine b c ≡ true → fine b (toned tone b c) ≡ true
-unfolding everything isSound fine
+unfolding everything isSound both
 toned-fine voiced b c h f = among-same (λ x. fine x (voicedCode x)) (λ _. true) obstruents b refl h
 toned-fine voiceless b c h f = among-same (λ x. fine x (voicelessCode x)) (λ _. true) obstruents b refl h
 toned-fine asWritten b c h f = f
 
--- pass 3: the sounds of one letter, and those of the rest
-shape-fine : (s v g : Bool) (j x c : Phone) (xs : List Phone)
-    → (v ≡ true → (fine (j .letter) (j .code) ≡ true) × (fine (x .letter) (x .code) ≡ true)) → (s ≡ false → v ≡ false → fine (c .letter) (c .code) ≡ true)
-    → Fine xs → Fine (shape s v g j x c ++ xs)
-shape-fine true v g j x c xs a b f = f
-shape-fine false true true j x c xs a b f = (a refl .0, (a refl .1, f))
-shape-fine false true false j x c xs a b f = (a refl .1, f)
-shape-fine false false g j x c xs a b f = (b refl refl, f)
-
-letter-fine : (hard : Bool) (facts : Facts) (p : ℕ) (l : Letter) (w : List Letter) (xs : List Phone) → spells (l .byte) ≡ true → Fine xs → Fine (phonesOf hard facts p l w ++ xs)
-unfolding spells phonesOf vowelPhones isSound
-letter-fine hard facts p l w xs s f =
-    shape-fine (isSign (l .byte)) (isVowel (l .byte)) (glides p (syllableOf facts p l w .cover) (l .byte)) _ _ _ xs
-    (λ v. (vowel-fine (l .byte) J v refl, vowel-fine (l .byte) _ v (vowel-sound hard p (syllableOf facts p l w) (l .byte) v)))
-    (λ n v. written-fine (l .byte) (other (isConsonant (l .byte)) (rw (n, v) at s))) f
-  where
-    other : (t : Bool) → (t || false) ≡ true → t ≡ true
-    other true e = refl
-    other false e = e
-
-phones-fine : (hard : Bool) (facts : Facts) (p : ℕ) (w : List Letter) → Spelled w → Fine (phonesFrom hard facts p w)
-unfolding phonesFrom
-phones-fine hard facts p [] s = tt
-phones-fine hard facts p (l ∷ w) s = letter-fine hard facts p l w (phonesFrom false facts (l .byte) w) (s .0) (phones-fine false facts (l .byte) w (s .1))
-
 -- pass 4, over a word
-voice-fine : (next : Bool) (xs : List Phone) → Fine xs → Fine (voice next xs)
+voice-fine : (next : Bool) (xs : List Phone) → EachPhone fine xs → EachPhone fine (voice next xs)
 unfolding voice voiceOne
 voice-fine next [] f = tt
-voice-fine next (x ∷ xs) f = (by (isObstruent (x .letter)) refl, voice-fine next xs (f .1))
-  where
-    by : (t : Bool) → isObstruent (x .letter) ≡ t → fine (x .letter) (cond t (toned (toneOf next (codesOf (voice next xs))) (x .letter) (x .code)) (x .code)) ≡ true
-    by true q = toned-fine (toneOf next (codesOf (voice next xs))) (x .letter) (x .code) q (f .0)
-    by false q = f .0
+voice-fine next (x ∷ xs) f =
+    (⊎-elim (λ q. rw q (toned-fine (toneOf next (codesOf (voice next xs))) (x .letter) (x .code) q (f .0))) (λ q. rw q (f .0)) (yes-or (isObstruent (x .letter))), voice-fine next xs (f .1))
 
--- pass 5: only a letter that has a palatalized sound is palatalized
-soft-sound : (x : Phone) (c : ℕ) → fine (x .letter) (x .code) ≡ true → isSound (cond (isSoft x c) (suc (x .code)) (x .code)) ≡ true
-unfolding fine isSoft
-soft-sound x c f = by (isPaired (x .letter)) _ (and-eq-true-iff (isSound (x .code)) _ .0 f)
-  where
-    by : (p t : Bool) → (isSound (x .code) ≡ true) × ((not p || isSound (suc (x .code))) ≡ true) → isSound (cond (p && t) (suc (x .code)) (x .code)) ≡ true
-    by true true e = e .1
-    by true false e = e .0
-    by false t e = e .0
-
-palatalize-sounds : (xs : List Phone) → Fine xs → Each isSound (palatalize xs)
+-- pass 5, over a word
+palatalize-sounds : (xs : List Phone) → EachPhone fine xs → Each isSound (palatalize xs)
 unfolding palatalize
 palatalize-sounds [] f = tt
-palatalize-sounds (x ∷ xs) f = (soft-sound x (firstCode (palatalize xs)) (f .0), palatalize-sounds xs (f .1))
+palatalize-sounds (x ∷ xs) f = (soft-both isSound x (firstCode (palatalize xs)) (x .code) (f .0), palatalize-sounds xs (f .1))
 
 -- Every code of a word of the alphabet's letters is a sound.
 pub word-sounds : (hard next : Bool) (w : List Letter) → Spelled w → Each isSound (wordTape hard next w)
-unfolding wordTape elide
-word-sounds hard next w s = palatalize-sounds _ (voice-fine next _ (phones-fine hard (factsOf w) 0 (elideFrom 0 w) (elide-spelled 0 w s)))
+unfolding wordTape elide isSound
+word-sounds hard next w s =
+    palatalize-sounds _ (voice-fine next _ (phones-each fine (λ b v. vowel-fine b J v refl) (λ h p x b v. vowel-fine b _ v (vowel-sound h p x b v)) written-fine hard (factsOf w) 0 (elideFrom 0 w) (elide-spelled 0 w s)))
 
 -- a message of such words
 abbrev pub Spells : Message → Type 0
@@ -208,12 +193,7 @@ part-spells m p a n =
 -- a sound is no mark of a break
 sound-unmarked : (c : ℕ) → isSound c ≡ true → isMarkCode c ≡ false
 unfolding isSound isMarkCode
-sound-unmarked c s = by (eqb c 0) refl (eqb c 63) refl
-  where
-    by : (t : Bool) → eqb c 0 ≡ t → (u : Bool) → eqb c 63 ≡ u → (t || u) ≡ false
-    by true q u r = absurd (false≢true (rw (eqb-true c 0 q) at s))
-    by false q true r = absurd (false≢true (rw (eqb-true c 63 r) at s))
-    by false q false r = refl
+sound-unmarked c s = rw (refuted (eqb c 0) (λ q. false≢true (rw (eqb-true c 0 q) at s)), refuted (eqb c 63) (λ q. false≢true (rw (eqb-true c 63 q) at s)))
 
 -- so sounds add no mark
 marks-sounds : (s t : List ℕ) → Each isSound s → marksOf (s ++ t) ≡ marksOf t
@@ -224,11 +204,7 @@ marks-sounds (c ∷ s) t h = rw (sound-unmarked c (h .0)) (marks-sounds s t (h .
 -- and a break's mark is one
 pub marks-mark : (x : ℕ) (t : List ℕ) → marksOf (markOf x ∷ t) ≡ markOf x ∷ marksOf t
 unfolding marksOf markOf isMarkCode
-marks-mark x t = by (eqb x pause)
-  where
-    by : (b : Bool) → marksOf (cond b 63 0 ∷ t) ≡ cond b 63 0 ∷ marksOf t
-    by true = refl
-    by false = refl
+marks-mark x t = cond-both (λ c. marksOf (c ∷ t) ≡ c ∷ marksOf t) (eqb x pause) refl refl
 
 -- the marks of a message's breaks
 unfoldable pub marksIn : Message → List ℕ
@@ -238,18 +214,11 @@ marksIn (more w x r) = markOf x ∷ marksIn r
 pub read-marks : (m : List ℕ) → marksIn (read m) ≡ breakMarks m
 unfolding read breakMarks marksIn putLetter
 read-marks [] = refl
-read-marks (b ∷ m) = by (isBreak b) (isMark b) (read-marks m)
+read-marks (b ∷ m) = simp (cond-app marksIn, put, cond-same, read-marks m)
   where
     put : (l : Letter) (r : Message) → marksIn (putLetter l r) ≡ marksIn r
     put l (last w) = refl
     put l (more w x r) = refl
-
-    by : (s t : Bool) → marksIn (read m) ≡ breakMarks m
-        → marksIn (cond s (more [] b (read m)) (cond t (read m) (putLetter (record { byte = small b; stressed = beginsWithMark m }) (read m))))
-        ≡ cond s (markOf b ∷ breakMarks m) (breakMarks m)
-    by true t e = ap (λ (x : List ℕ). markOf b ∷ x) e
-    by false true e = e
-    by false false e = put _ (read m) ∙ e
 
 -- the marks on the tape of a stretch
 segment-marks : (h n : Bool) (r : Message) → Spells r → marksOf (segment h n r) ≡ marksIn r
@@ -268,23 +237,13 @@ bytes-marks h n p s = segment-marks h n (read p) s ∙ read-marks p
 pub marks-append : (s t : List ℕ) → marksOf (s ++ t) ≡ marksOf s ++ marksOf t
 unfolding marksOf
 marks-append [] t = refl
-marks-append (c ∷ s) t = by (isMarkCode c) (marks-append s t)
-  where
-    by : (b : Bool) → marksOf (s ++ t) ≡ marksOf s ++ marksOf t
-        → cond b (c ∷ marksOf (s ++ t)) (marksOf (s ++ t)) ≡ cond b (c ∷ marksOf s) (marksOf s) ++ marksOf t
-    by true e = ap (λ (x : List ℕ). c ∷ x) e
-    by false e = e
+marks-append (c ∷ s) t = rw (marks-append s t) (sym (cond-app (λ (x : List ℕ). x ++ marksOf t) (isMarkCode c) _ _))
 
 -- and of breaks
 pub breaks-append : (p q : List ℕ) → breakMarks (p ++ q) ≡ breakMarks p ++ breakMarks q
 unfolding breakMarks
 breaks-append [] q = refl
-breaks-append (b ∷ p) q = by (isBreak b) (breaks-append p q)
-  where
-    by : (t : Bool) → breakMarks (p ++ q) ≡ breakMarks p ++ breakMarks q
-        → cond t (markOf b ∷ breakMarks (p ++ q)) (breakMarks (p ++ q)) ≡ cond t (markOf b ∷ breakMarks p) (breakMarks p) ++ breakMarks q
-    by true e = ap (λ (x : List ℕ). markOf b ∷ x) e
-    by false e = e
+breaks-append (b ∷ p) q = rw (breaks-append p q) (sym (cond-app (λ (x : List ℕ). x ++ breakMarks q) (isBreak b) _ _))
 
 -- a stretch without a break is one word, so its codes are sounds
 pub segment-sounds : (h n : Bool) (r : Message) → Spells r → marksIn r ≡ [] → Each isSound (segment h n r)
@@ -301,11 +260,7 @@ unbroken (b ∷ p) n = rw (n 0 (omega arith)) (unbroken p (λ i l. n (suc i) (om
 -- a break's mark is one
 mark-code : (x : ℕ) → isCode (markOf x) ≡ true
 unfolding isCode isSound isMarkCode markOf
-mark-code x = by (eqb x pause)
-  where
-    by : (t : Bool) → isCode (cond t 63 0) ≡ true
-    by true = refl
-    by false = refl
+mark-code x = cond-both (λ c. isCode c ≡ true) (eqb x pause) refl refl
 
 segment-codes : (h n : Bool) (r : Message) → Spells r → Each isCode (segment h n r)
 unfolding segment isCode
@@ -342,16 +297,8 @@ name-in Bare Second = refl
 
 names-each : (facts : Facts) (p : ℕ) (w : List Letter) → Each isName (namesFrom facts p w)
 unfolding namesFrom incomplete nameOf isName
-names-each facts p [] = by (isConsonant p || isSign p)
-  where
-    by : (t : Bool) → Each isName (cond t (7 ∷ []) [])
-    by true = (refl, tt)
-    by false = tt
-names-each facts p (l ∷ w) = by (isVowel (l .byte)) (names-each facts (l .byte) w)
-  where
-    by : (t : Bool) → Each isName (namesFrom facts (l .byte) w) → Each isName (cond t (nameOf (syllableOf facts p l w) ∷ namesFrom facts (l .byte) w) (namesFrom facts (l .byte) w))
-    by true r = (name-in _ _, r)
-    by false r = r
+names-each facts p [] = cond-both (Each isName) (isConsonant p || isSign p) (refl, tt) tt
+names-each facts p (l ∷ w) = let r = names-each facts (l .byte) w in cond-both (Each isName) (isVowel (l .byte)) (name-in _ _, r) r
 
 names-of-each : (r : Message) → Each isName (namesOf r)
 unfolding namesOf wordNames

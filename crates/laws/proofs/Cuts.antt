@@ -7,22 +7,17 @@ use mathlib.Core.Logic.{inl, inr, ⊎-elim}
 use mathlib.Core.List.{List, [], _∷_}
 use native.Mathlib.Omega.{arith}
 use lib.Dec.{eqb, leb}
-use borrow.Author.Tests.{eqb-true, eqb-false, leb-true, leb-false, le-leb}
+use borrow.Author.Tests.{eqb-true, eqb-false, leb-true, le-leb}
 use lib.ListN.{length, drop, getD, length-drop, List·getD-eq-default}
 use Rattle.spec.specs.Letters.{isBreak}
 use Rattle.spec.specs.Joints.{RisingFrom, Rising, CutOf, breaksFrom, breaks, row12, badCutFrom, badCut, leastAt, FirstBadFrom, FirstBad}
 use Rattle.laws.proofs.Accepted.{rest-first}
+use Rattle.laws.proofs.Classes.{cond-app, yes-or, below-or}
 
 -- a break stands within the message
 pub break-within : (m : List ℕ) (c : ℕ) → isBreak (getD m c 0) ≡ true → c < length m
 unfolding isBreak
-break-within m c e = by (leb (suc c) (length m)) refl
-  where
-    by : (t : Bool) → leb (suc c) (length m) ≡ t → c < length m
-    by true q = leb-true (suc c) (length m) q
-    by false q =
-        let l : length m ≤ c = omega (arith, leb-false (suc c) (length m) q) in
-        absurd (false≢true (rw (List·getD-eq-default m 0 l) at e))
+break-within m c e = ⊎-elim (λ h. h) (λ l. absurd (false≢true (rw (List·getD-eq-default m 0 l) at e))) (below-or c (length m))
 
 module _ (m : List ℕ) where
   -- what number 12 says of one cut
@@ -35,18 +30,7 @@ module _ (m : List ℕ) where
       by true false p q e = absurd (true≢false e)
       by false u p q e = absurd (true≢false e)
 
-  -- no bad cut from the least place on: the list rises
-  rising-from-of : (least k : ℕ) (cuts : List ℕ) → badCutFrom m least k cuts ≡ k + length cuts → RisingFrom m least cuts
-  unfolding badCutFrom
-  rising-from-of least k [] e = tt
-  rising-from-of least k (c ∷ cuts) e = by (row12 m least c) refl e (rising-from-of (suc c) (suc k) cuts)
-    where
-      by : (t : Bool) → row12 m least c ≡ t → cond t k (badCutFrom m (suc c) (suc k) cuts) ≡ k + suc (length cuts)
-          → (badCutFrom m (suc c) (suc k) cuts ≡ suc k + length cuts → RisingFrom m (suc c) cuts) → RisingFrom m least (c ∷ cuts)
-      by true q e r = absurd (omega arith)
-      by false q e r = let p = row12-passes least c q in (p .1, p .0, r (omega arith))
-
-  -- and a rising list has no bad cut
+  -- a rising list has no bad cut
   rising-from-to : (least k : ℕ) (cuts : List ℕ) → RisingFrom m least cuts → badCutFrom m least k cuts ≡ k + length cuts
   unfolding badCutFrom row12
   rising-from-to least k [] r = omega arith
@@ -67,12 +51,7 @@ module _ (m : List ℕ) where
   cut-break c least [] r i = absurd i
   cut-break c least (d ∷ cuts) r i = ⊎-elim (λ e. rw e (r .1)) (λ j. cut-break c (suc d) cuts (r .2) j) i
 
--- A list of cuts that number 12 does not fit is a rising list of breaks.
-pub rising-of : (m cuts : List ℕ) → badCut m cuts ≡ length cuts → Rising m cuts
-unfolding badCut
-rising-of m cuts e = rising-from-of m 0 0 cuts (omega arith)
-
--- And number 12 fits no rising list of breaks.
+-- Number 12 fits no rising list of breaks.
 pub rising-to : (m cuts : List ℕ) → Rising m cuts → badCut m cuts ≡ length cuts
 unfolding badCut
 rising-to m cuts r = rising-from-to m 0 0 cuts r ∙ omega arith
@@ -93,15 +72,7 @@ module _ (m : List ℕ) where
   bad-shift : (least k : ℕ) (cuts : List ℕ) → badCutFrom m least (suc k) cuts ≡ suc (badCutFrom m least k cuts)
   unfolding badCutFrom
   bad-shift least k [] = refl
-  bad-shift least k (c ∷ cuts) = rw (bad-shift (suc c) (suc k) cuts) (by (row12 m least c))
-    where
-      by : (t : Bool) → cond t (suc k) (suc (badCutFrom m (suc c) (suc k) cuts)) ≡ suc (cond t k (badCutFrom m (suc c) (suc k) cuts))
-      by true = refl
-      by false = refl
-
-  bad-next : (least c : ℕ) (cuts : List ℕ) → row12 m least c ≡ false → badCutFrom m least 0 (c ∷ cuts) ≡ suc (badCutFrom m (suc c) 0 cuts)
-  unfolding badCutFrom
-  bad-next least c cuts q = rw q (bad-shift (suc c) 0 cuts)
+  bad-shift least k (c ∷ cuts) = rw (bad-shift (suc c) (suc k) cuts) (sym (cond-app suc (row12 m least c) _ _))
 
   -- what number 12 finds in a list: nothing, or the first bad cut
   pub data Judged (least : ℕ) (cuts : List ℕ) : ℕ → Type 0 where
@@ -132,18 +103,25 @@ module _ (m : List ℕ) where
   unfolding badCut
   judged cuts = judged-from 0 cuts
 
-  -- and no other cut is the first bad one
+  -- A list of cuts that number 12 does not fit is a rising list of breaks.
+  pub rising-of : (cuts : List ℕ) → badCut m cuts ≡ length cuts → Rising m cuts
+  rising-of cuts e = by (badCut m cuts) (judged cuts) e
+    where
+      by : (k : ℕ) → Judged 0 cuts k → k ≡ length cuts → Rising m cuts
+      by k (good r) e = r
+      by k (bad i f) e = absurd (omega (arith, f .within))
+
+  -- no other cut is the first bad one
   first-bad-from : (least : ℕ) (cuts : List ℕ) (i : ℕ) → FirstBadFrom m least cuts i → badCutFrom m least 0 cuts ≡ i
   unfolding badCutFrom leastAt
   first-bad-from least [] i f = absurd (omega (arith, f .within))
   first-bad-from least (c ∷ cuts) zero f = rw (f .bad)
   first-bad-from least (c ∷ cuts) (suc i) f =
-      bad-next least c cuts (f .first 0 (omega arith))
-      ∙ ap suc (first-bad-from (suc c) cuts i (record {
+      rw (f .first 0 (omega arith), bad-shift (suc c) 0 cuts) (ap suc (first-bad-from (suc c) cuts i (record {
         within = omega (arith, f .within);
         bad = rw (← least-next least c cuts i) (f .bad);
         first = λ j l. rw (← least-next least c cuts j) (f .first (suc j) (omega arith));
-      }))
+      })))
 
   pub first-bad : (cuts : List ℕ) (i : ℕ) → FirstBad m cuts i → badCut m cuts ≡ i
   unfolding badCut
@@ -157,11 +135,10 @@ module _ (m : List ℕ) where
   full-from : (k : ℕ) (r : List ℕ) → drop k m ≡ r → RisingFrom m k (breaksFrom k r)
   unfolding breaksFrom
   full-from k [] e = tt
-  full-from k (b ∷ r) e = let s = rest-first m k b r e in by (isBreak b) refl (s .1) (full-from (suc k) r (s .2))
-    where
-      by : (t : Bool) → isBreak b ≡ t → getD m k 0 ≡ b → RisingFrom m (suc k) (breaksFrom (suc k) r) → RisingFrom m k (cond t (k ∷ breaksFrom (suc k) r) (breaksFrom (suc k) r))
-      by true q h f = (omega arith, rw h q, f)
-      by false q h f = rising-lower k (breaksFrom (suc k) r) f
+  full-from k (b ∷ r) e =
+      let s = rest-first m k b r e in
+      let f = full-from (suc k) r (s .2) in
+      ⊎-elim (λ q. rw q (omega arith, rw (s .1) q, f)) (λ q. rw q (rising-lower k (breaksFrom (suc k) r) f)) (yes-or (isBreak b))
 
   every-from : (k : ℕ) (r : List ℕ) → drop k m ≡ r → (c : ℕ) → k ≤ c → isBreak (getD m c 0) ≡ true → CutOf c (breaksFrom k r)
   unfolding breaksFrom

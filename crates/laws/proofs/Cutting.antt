@@ -2,7 +2,7 @@
 -- Assumes nothing.
 use Prim.Native.Nat.{ℕ, suc, _-_, _<_}
 use mathlib.Core.Path.{_≡_, refl, sym, ap, _∙_}
-use mathlib.Core.Bool.{Bool, true, false, cond, _||_, and-eq-true-iff, true≢false}
+use mathlib.Core.Bool.{Bool, true, false, cond, true≢false}
 use mathlib.Core.Logic.{inl, inr, ⊎-elim, _≢_, _↔_}
 use mathlib.Core.List.{List, [], _∷_}
 use native.Mathlib.Omega.{arith}
@@ -10,11 +10,12 @@ use lib.ListN.{length, getD, take, drop}
 use Rattle.spec.specs.Letters.{isBreak, read}
 use Rattle.spec.specs.Tape.{tape, segment}
 use Rattle.spec.specs.Refusals.{NoneFits}
-use Rattle.spec.specs.Joints.{Rising, CutOf, SplitAt, DiffersAt, joined, isLive, NoneLive, liveCount, markIndex, wordBefore, endsInObstruent}
+use Rattle.spec.specs.Joints.{Rising, CutOf, SplitAt, DiffersAt, joined, isLive, NoneLive, liveCount, markIndex, wordBefore}
 use Rattle.spec.specs.Demands.{TwoTapes}
 use Rattle.laws.proofs.Accepted.{none-passes}
+use Rattle.laws.proofs.Classes.{yes-or, refuted}
 use Rattle.laws.proofs.Codes.{Spells, bytes-marks, part-spells}
-use Rattle.laws.proofs.Word.{lastCode}
+use Rattle.laws.proofs.Beside.{segment-ends}
 use Rattle.laws.proofs.Cuts.{cut-break}
 use Rattle.laws.proofs.PartsAccepted.{parts-none}
 use Rattle.laws.proofs.Parts.{onward, voicedAt, changedBefore, changedAfter, CutAt, part-first, before-mark, after-mark, tape-cut, mark-index, code-after, live-here, onward-first, first-own, joined-length, joined-dead, cut-at}
@@ -37,53 +38,47 @@ counts-none m (d ∷ cuts) =
 differ-nowhere : (s t : List ℕ) (k : ℕ) → t ≡ s → DiffersAt s t k → ⊥
 differ-nowhere s t k e = ⊎-elim (λ n. n .1 (ap (λ (x : List ℕ). getD x (k - 1) 0) (sym e))) (λ n. n (ap (λ (x : List ℕ). getD x (suc k) 0) (sym e)))
 
--- One cut of the list.
-module _ (m cuts : List ℕ) (rising : Rising m cuts) (c : ℕ) (cut : CutOf c cuts) where
+-- One cut of the list, where each letter of the message is one of the alphabet.
+module _ (m cuts : List ℕ) (spells : (p n : ℕ) → Spells (read (take n (drop p m)))) (rising : Rising m cuts) (c : ℕ) (cut : CutOf c cuts) where
   break : isBreak (getD m c 0) ≡ true
   break = cut-break m c 0 cuts rising cut
 
   -- the tape of the parts, split at its mark
   here : CutAt m 0 c (joined m cuts)
   unfolding joined
-  here = cut-at m 0 c cuts tt rising cut
+  here = cut-at m spells 0 c cuts tt rising cut
 
   -- as many codes stand before the mark as in the whole tape
   size : length (here .front) ≡ markIndex m c
   unfolding markIndex
   size = here .size ∙ rw part-first
 
-  -- each of the two tapes at the cut, where each letter of the message is one of the alphabet
-  module _ (spells : (p n : ℕ) → Spells (read (take n (drop p m)))) where
-    whole-split : SplitAt m c (tape m)
-    whole-split = record {
-      before = segment false (voicedAt m c) (read (take c m));
-      after = onward m (suc c);
-      split = tape-cut m c break;
-      index = mark-index m c break;
-      own = bytes-marks false (voicedAt m c) (take c m) (spells 0 c);
-    }
+  -- each of the two tapes at the cut
+  whole-split : SplitAt m c (tape m)
+  whole-split = record {
+    before = segment false (voicedAt m c) (read (take c m));
+    after = onward m (suc c);
+    split = tape-cut m c break;
+    index = mark-index m c break;
+    own = bytes-marks false (voicedAt m c) (take c m) (spells 0 c);
+  }
 
-    parts-split : SplitAt m c (joined m cuts)
-    parts-split = record { before = here .front; after = here .back; split = here .split; index = size; own = here .own spells ∙ rw part-first }
+  parts-split : SplitAt m c (joined m cuts)
+  parts-split = record { before = here .front; after = here .back; split = here .split; index = size; own = here .own ∙ rw part-first }
 
   -- the code before the mark was voiced from over the cut, or the code after it made by a hard boundary there
   differs : isLive m c ≡ true → DiffersAt (tape m) (joined m cuts) (markIndex m c)
-  unfolding changedBefore lastCode
-  differs l = by (changedBefore m c) refl (sym (live-here m c break) ∙ l)
+  unfolding changedBefore wordBefore
+  differs l = ⊎-elim (λ p. inl (before p)) (λ p. inr (after (rw p at (sym (live-here m c break) ∙ l)))) (yes-or (changedBefore m c))
     where
       before : changedBefore m c ≡ true → (0 < markIndex m c) × (getD (tape m) (markIndex m c - 1) 0 ≢ getD (joined m cuts) (markIndex m c - 1) 0)
       before e =
-          let o = and-eq-true-iff (voicedAt m c) (endsInObstruent (wordBefore m c)) .0 e in
           rw (tape-cut m c break, here .split)
           (before-mark (segment false (voicedAt m c) (read (take c m))) (here .front) _ _ (markIndex m c) (mark-index m c break) size
-          (rw (o .0, ← part-first m c) (here .ends false 0 0 (o .1))))
+          (λ q. true≢false (sym e ∙ sym (segment-ends false (voicedAt m c) 0 (read (take c m)) refl (spells 0 c)) ∙ rw q (here .ends 0 refl))))
 
       after : changedAfter m (suc c) ≡ true → getD (tape m) (suc (markIndex m c)) 0 ≢ getD (joined m cuts) (suc (markIndex m c)) 0
       after e = rw (code-after m c break, here .split, after-mark (here .front) _ _ (markIndex m c) size) (here .starts e)
-
-      by : (t : Bool) → changedBefore m c ≡ t → (t || changedAfter m (suc c)) ≡ true → DiffersAt (tape m) (joined m cuts) (markIndex m c)
-      by true p e = inl (before p)
-      by false p e = inr (after e)
 
 -- The two tapes are equally long, whatever the list.
 pub equal-lengths : (m cuts : List ℕ) → Rising m cuts → length (joined m cuts) ≡ length (tape m)
@@ -91,24 +86,23 @@ unfolding joined
 equal-lengths m cuts r = joined-length m 0 cuts tt r ∙ ap length (onward-first m)
 
 -- And equal just where none of the cuts is live.
-pub equal-tapes : (m cuts : List ℕ) → Rising m cuts → (joined m cuts ≡ tape m) ↔ NoneLive m cuts
+pub equal-tapes : (m cuts : List ℕ) → ((p n : ℕ) → Spells (read (take n (drop p m)))) → Rising m cuts → (joined m cuts ≡ tape m) ↔ NoneLive m cuts
 unfolding joined
-equal-tapes m cuts r =
-    (λ e c i. by c i e (isLive m c) refl, λ f. joined-dead m 0 cuts tt r (first-own m) f ∙ onward-first m)
-  where
-    by : (c : ℕ) → CutOf c cuts → joined m cuts ≡ tape m → (t : Bool) → isLive m c ≡ t → t ≡ false
-    by c i e true l = absurd (differ-nowhere (tape m) (joined m cuts) (markIndex m c) e (differs m cuts r c i l))
-    by c i e false l = refl
+equal-tapes m cuts s r = (
+  λ e c i. refuted _ (λ l. differ-nowhere (tape m) (joined m cuts) (markIndex m c) e (differs m cuts s r c i l)),
+  λ f. joined-dead m 0 cuts tt r (first-own m) f ∙ onward-first m,
+)
 
 -- Demand 3 of the two tapes of an accepted message.
 pub two-tapes : (m cuts : List ℕ) → NoneFits m → Rising m cuts → TwoTapes m cuts
 two-tapes m cuts f r =
     let p = none-passes m f in
+    let s = part-spells m p in
     record {
       parts = parts-none m p 0 cuts tt (omega arith) r;
       lengths = equal-lengths m cuts r;
-      equal = equal-tapes m cuts r;
-      whole = λ c i. whole-split m cuts r c i (part-spells m p);
-      pieces = λ c i. parts-split m cuts r c i (part-spells m p);
-      differs = differs m cuts r;
+      equal = equal-tapes m cuts s r;
+      whole = whole-split m cuts s r;
+      pieces = parts-split m cuts s r;
+      differs = differs m cuts s r;
     }

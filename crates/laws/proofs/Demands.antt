@@ -19,7 +19,7 @@ use Rattle.spec.specs.declared.Answer.{Answer}
 use Rattle.spec.specs.declared.Answer.the-variants.{Written, Refused}
 use Rattle.laws.proofs.Accepted.{Finds, nothing, fault, check-finds, passes-none, none-accepted, given-refused}
 use Rattle.laws.proofs.Cuts.{Judged, good, bad, judged, first-bad, rising-to, full-rising, full-every}
-use Rattle.laws.proofs.Cutting.{counts-none, equal-tapes, two-tapes}
+use Rattle.laws.proofs.Cutting.{counts-none, two-tapes}
 use Rattle.laws.proofs.Bounds.{check-small}
 
 -- the number 0 is none of the table's
@@ -193,7 +193,7 @@ demand3 m f = record {
   tapes = λ cuts s. two-tapes m cuts f s;
   joiner = λ cuts s out out′ r h k.
       let w = demand2 m .joiner cuts out out′ r k .gives h (f, s) in
-      let e = equal-tapes m cuts s in
+      let e = two-tapes m cuts f s .equal in
       let n = counts-none m cuts in
       record { written = w; equal = (λ q. w .live ∙ n .1 (e .0 q), λ q. e .1 (n .0 (sym (w .live) ∙ q))) };
 }

@@ -2,11 +2,11 @@
 -- Assumes nothing.
 use Prim.Native.Nat.{ℕ, _<_}
 use mathlib.Core.Path.{_≡_}
-use mathlib.Core.Bool.{Bool, true, false, _&&_}
+use mathlib.Core.Bool.{Bool, true, false, and-true}
 use mathlib.Core.List.{List, [], _∷_, _++_}
 use native.Mathlib.Omega.{arith}
 use lib.ListN.{length, length-append}
-use Rattle.spec.specs.Letters.{Letter, Message, last, more, read, putLetter, small, isBreak, isMark, isSign, isVowel}
+use Rattle.spec.specs.Letters.{Letter, Message, last, more, read, putLetter, isSign, isVowel}
 use Rattle.spec.specs.Elision.{elideFrom, elide}
 use Rattle.spec.specs.Syllables.{coverAfter, syllableOf}
 use Rattle.spec.specs.Vowels.{Phone, glides, vowelPhones, phonesOf, phonesFrom}
@@ -35,15 +35,10 @@ unfolding segment putLetter
 segment-heard h n l (last w) s = word-heard h n l w s
 segment-heard h n l (more w x r) s = simp length-append (omega arith)
 
--- what a row forbids at the first byte
-forbidden : (t : Bool) → (t && true) ≡ false → t ≡ false
-forbidden true e = e
-forbidden false e = e
-
 -- Numbers 4, 5 and 6 leave a letter that is no sign as the first byte, so an accepted message has a code.
 pub tape-heard : (m : List ℕ) → Passes m → 0 < length (tape m)
 unfolding tape read beforeAt fitsIn rows row4 row5 row6 none first signByte
 tape-heard [] p = absurd (omega (arith, p .some))
 tape-heard (b ∷ m) p =
     let c = p .rows 0 (omega arith) in
-    rw (forbidden (isBreak b) (c 4), forbidden (isMark b) (c 5)) (segment-heard false false _ (read m) (forbidden (isSign (small b)) (c 6)))
+    rw (rw and-true at (c 4), rw and-true at (c 5)) (segment-heard false false _ (read m) (rw and-true at (c 6)))

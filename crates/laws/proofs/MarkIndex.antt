@@ -3,27 +3,29 @@
 -- Assumes nothing.
 use Prim.Native.Nat.{ℕ, suc, _+_, _-_, _<_, _≤_}
 use mathlib.Core.Path.{_≡_, refl, sym, ap, _∙_}
-use mathlib.Core.Bool.{Bool, true, false, cond, not, _&&_, true≢false}
+use mathlib.Core.Bool.{Bool, true, false, not, _&&_, _||_, and-eq-true-iff, true≢false}
 use mathlib.Core.Logic.{_⊎_, ⊎-elim}
 use mathlib.Core.List.{List, [], _∷_, _++_, append-nil}
 use native.Mathlib.Omega.{arith}
 use lib.Dec.{eqb, leb}
-use lib.ListN.{length, take, drop, getD, length-append, length-drop, List·getD-eq-default}
-use lib.Seq.{take-all}
-use borrow.Author.Tests.{leb-true, leb-false, le-leb}
+use lib.ListN.{length, take, drop, getD, length-append, length-drop, List·getD-append, List·getD-eq-default}
+use lib.Seq.{take-all, getD-append-add}
+use borrow.Author.Tests.{leb-true, le-leb}
 use Rattle.spec.specs.Alphabet.{pause}
 use Rattle.spec.specs.Letters.{between, read, firstByte, isGap, isBreak}
-use Rattle.spec.specs.Codes.{А*, Щ, markOf}
+use Rattle.spec.specs.Codes.{А*, Щ, markOf, isSound}
 use Rattle.spec.specs.Tape.{segment, tape}
 use Rattle.spec.specs.Refusals.{checkOf}
 use Rattle.spec.specs.Joints.{markIndex, wordBefore, wordAfter}
 use Rattle.spec.specs.declared.Counts.{Counts}
 use Rattle.spec.specs.declared.Checked.the-variants.{Accepted}
 use Rattle.laws.proofs.Accepted.{accepted-passes}
+use Rattle.laws.proofs.Classes.{cond-both, below-or}
 use Rattle.laws.proofs.Stretch.{segment-length}
-use Rattle.laws.proofs.Codes.{part-spells}
+use Rattle.laws.proofs.PartsAccepted.{part-length, part-at}
+use Rattle.laws.proofs.Codes.{Each, part-spells, read-marks, segment-sounds, unbroken, each-at}
 use Rattle.laws.proofs.Parts.{part, Begins, hardAt, onward, voicedAt, changedAfter, changedBefore, last-at, onward-cut, part-own, tape-cut, mark-index, mark-there, code-after, onward-alone}
-use Rattle.laws.proofs.Marks.{tape-from, mark-next, mark-last, sounds-between, sound-range}
+use Rattle.laws.proofs.Marks.{tape-from, mark-next, mark-last}
 use Rattle.laws.proofs.Beside.{isVoiced, isHigh, isIOrE, segment-ends, segment-starts}
 
 -- a part may end at e: at the message's end, or at a break
@@ -38,11 +40,7 @@ pub record Last (test : ℕ → Bool) (x : List ℕ) (i r : ℕ) : Type 0 where
 
 -- it is not below another such index
 pub last-above : (test : ℕ → Bool) (x y : List ℕ) (i r s : ℕ) → ((j : ℕ) → j < i → getD x j 0 ≡ getD y j 0) → Last test x i r → s < i → test (getD y s 0) ≡ true → s ≤ r
-last-above test x y i r s same l b h = by (leb s r) refl
-  where
-    by : (t : Bool) → leb s r ≡ t → s ≤ r
-    by true q = leb-true s r q
-    by false q = absurd (true≢false (sym h ∙ ap test (sym (same s b)) ∙ l .past s (omega (arith, leb-false s r q)) b))
+last-above test x y i r s same l b h = ⊎-elim (λ g. absurd (true≢false (sym h ∙ ap test (sym (same s b)) ∙ l .past s g b))) (λ g. g) (below-or r s)
 
 -- so lists that are the same below i have one
 pub last-once : (test : ℕ → Bool) (x y : List ℕ) (i r s : ℕ) → ((j : ℕ) → j < i → getD x j 0 ≡ getD y j 0) → Last test x i r → Last test y i s → r ≡ s
@@ -56,11 +54,7 @@ isNoSound c = not (between А* Щ c)
 -- a break's mark is none
 mark-no-sound : (x : ℕ) → isNoSound (markOf x) ≡ true
 unfolding markOf
-mark-no-sound x = by (eqb x pause)
-  where
-    by : (t : Bool) → isNoSound (cond t 63 0) ≡ true
-    by true = refl
-    by false = refl
+mark-no-sound x = cond-both (λ c. isNoSound c ≡ true) (eqb x pause) refl refl
 
 -- the whole message's codes of the bytes from a up to e
 abbrev pub stretch : List ℕ → ℕ → ℕ → List ℕ
@@ -112,11 +106,44 @@ module _ (m : List ℕ) where
     own-codes q o = ⊎-elim (λ k. part-own m a e begins le k q o)
         (λ k. rw k (ap tape (take-all (length m - a) (drop a m) (omega (arith, length-drop a m))) ∙ onward-alone m a q ∙ last-stretch a)) ends
 
+-- a code within sounds that stand on a tape
+inside : (front s rest : List ℕ) (j : ℕ) → Each isSound s → length front ≤ j → j < length front + length s → isSound (getD (front ++ (s ++ rest)) j 0) ≡ true
+inside front s rest j h lo hi =
+    let k = j - length front in
+    let e : j ≡ length front + k = omega arith in
+    rw (e, getD-append-add front (s ++ rest) k 0, List·getD-append s rest 0 k (omega arith)) (each-at isSound s k h (omega arith))
+
+module _ (m : List ℕ) (counts : Counts) (accepted : checkOf m ≡ Accepted counts) (a e : ℕ) (begins : Begins m a) (le : a ≤ e)
+    (within : e ≤ length m) (ends : Ends m e) (unbroken-here : (i : ℕ) → a ≤ i → i < e → isBreak (getD m i 0) ≡ false) where
+  -- the word from a up to e has sounds only, whatever stands around it
+  word-here : (h n : Bool) → Each isSound (segment h n (read (part m a e)))
+  word-here h n =
+      segment-sounds h n (read (part m a e)) (part-spells m (accepted-passes m counts accepted) a (e - a))
+      (read-marks (part m a e) ∙ unbroken (part m a e) (λ i l.
+      let j : i < e - a = omega (arith, part-length m a e within) in
+      rw (part-at m a e i j) (unbroken-here (a + i) (omega arith) (omega arith))))
+
+  -- Between the marks around a word every code on the tape is a sound: walked back from the mark of e, the next code that is none is the mark of the break before the word.
+  pub sounds-between : (j : ℕ) → markIndex m a ≤ j → j < markIndex m e → isSound (getD (tape m) j 0) ≡ true
+  sounds-between j lo hi =
+      let s = placed m a e begins le ends in
+      rw (s .split) (inside (s .front) (stretch m a e) (s .rest) j (word-here _ _) (omega (arith, s .start)) (omega (arith, s .start, s .size)))
+
+-- a sound is one of 1 to 56
+pub sound-range : (c : ℕ) → isSound c ≡ true → (1 ≤ c) × (c ≤ 56)
+unfolding isSound
+sound-range c s = by (leb 1 c && leb c 13) refl s
+  where
+    by : (t : Bool) → (leb 1 c && leb c 13) ≡ t → (t || (leb 16 c && leb c 56)) ≡ true → (1 ≤ c) × (c ≤ 56)
+    by true q s = let a = and-eq-true-iff (leb 1 c) (leb c 13) .0 q in (leb-true 1 c (a .0), omega (arith, leb-true c 13 (a .1)))
+    by false q s = let a = and-eq-true-iff (leb 16 c) (leb c 56) .0 s in (omega (arith, leb-true 16 c (a .0)), leb-true c 56 (a .1))
+
+module _ (m : List ℕ) where
   module _ {counts : Counts} (accepted : checkOf m ≡ Accepted counts) where
     -- The last mark before that of a place is the mark of the last break before it.
     pub last-mark : (b e : ℕ) → e ≤ length m → Ends m e → Last isBreak m e b → Last isNoSound (tape m) (markIndex m e) (markIndex m b)
     last-mark b e within ends l =
-        let s = placed (suc b) e (l .here) (l .below) ends in
+        let s = placed m (suc b) e (l .here) (l .below) ends in
         let n = mark-next m b (l .here) in
         record {
           below = omega (arith, s .size, n);
@@ -137,4 +164,4 @@ module _ (m : List ℕ) where
   -- And Ы after it, where the next word begins with и or э, is too.
   pub after-told : (c : ℕ) → isBreak (getD m c 0) ≡ true → (isHigh (getD (tape m) (suc (markIndex m c)) 0) && isIOrE (firstByte (wordAfter m c))) ≡ changedAfter m (suc c)
   unfolding changedAfter wordAfter onward
-  after-told c b = rw (code-after m c b) (segment-starts (hardAt m (suc c)) false (read (drop (suc c) m)))
+  after-told c b = rw (code-after m c b) (rw append-nil at (segment-starts (hardAt m (suc c)) false (read (drop (suc c) m)) []))

@@ -2,23 +2,24 @@
 -- Assumes nothing.
 use Prim.Native.Nat.{ℕ, zero, suc, _+_, _-_, _<_, _≤_}
 use mathlib.Core.Path.{_≡_, refl, sym, ap, _∙_}
-use mathlib.Core.Bool.{Bool, true, false, _&&_, _||_, and-comm, and-eq-true-iff, true≢false}
+use mathlib.Core.Bool.{Bool, true, false, _&&_, _||_, and-comm, and-or-distrib-left, true≢false}
 use mathlib.Core.Logic.{inl, inr, ⊎-elim, _≢_}
-use mathlib.Core.List.{List, [], _∷_, _++_, append-assoc}
+use mathlib.Core.List.{List, [], _∷_, _++_, append-assoc, append-nil}
 use native.Mathlib.Omega.{arith}
 use lib.ListN.{length, take, drop, getD, length-append, take-append-drop}
-use lib.Seq.{drop-cons, drop-drop, take-add, getD-at}
-use Rattle.spec.specs.Letters.{Message, read, firstWord, lastWord, isGap, isBreak}
+use lib.Seq.{drop-cons, drop-drop, drop-append-add, take-add, getD-at}
+use Rattle.spec.specs.Letters.{Message, read, firstByte, firstWord, lastWord, isGap, isBreak}
 use Rattle.spec.specs.Codes.{markOf}
 use Rattle.spec.specs.Voicing.{voices}
 use Rattle.spec.specs.Vowels.{endsHard}
 use Rattle.spec.specs.Palatalization.{firstCode}
 use Rattle.spec.specs.Tape.{segment, tape}
 use Rattle.spec.specs.Joints.{RisingFrom, CutOf, joinedFrom, markIndex, marksOf, breakMarks, wordBefore, wordAfter, endsInObstruent, beginsWithIOrE, liveByVoice, liveByHardness, isLive, NoneLive}
-use Rattle.laws.proofs.Word.{lastCodeFrom, lastCode}
+use Rattle.laws.proofs.Word.{isHigh, isIOrE, lastCodeFrom}
+use Rattle.laws.proofs.Beside.{isVoiced, mark-unvoiced, segment-ends, segment-starts}
 use Rattle.laws.proofs.Codes.{Spells, marks-mark, bytes-marks, marks-append, breaks-append}
 use Rattle.laws.proofs.Cuts.{break-within, cut-above}
-use Rattle.laws.proofs.Stretch.{first-meet, last-meet, read-join, segment-join, segment-length, segment-quiet, segment-ends-differ, segment-firm, first-differ, segment-starts-differ, last-append}
+use Rattle.laws.proofs.Stretch.{first-meet, last-meet, read-join, segment-join, segment-length, segment-quiet, segment-firm, last-append}
 
 -- the bytes from place a up to place c
 abbrev pub part : List ℕ → ℕ → ℕ → List ℕ
@@ -59,9 +60,9 @@ last-at x (y ∷ s) u zero e = absurd (omega arith)
 last-at x (y ∷ s) u (suc n) e = last-at y s u n (omega arith)
 
 -- so two tapes whose last codes differ are told apart just before the mark k that follows them, and k is not the first index
-pub before-mark : (s t u v : List ℕ) (k : ℕ) → length s ≡ k → length t ≡ k → (lastCode s ≡ lastCode t → ⊥)
+pub before-mark : (s t u v : List ℕ) (k : ℕ) → length s ≡ k → length t ≡ k → (lastCodeFrom 0 s ≡ lastCodeFrom 0 t → ⊥)
     → (0 < k) × (getD (s ++ u) (k - 1) 0 ≢ getD (t ++ v) (k - 1) 0)
-unfolding lastCode lastCodeFrom
+unfolding lastCodeFrom
 before-mark [] [] u v k l l′ q = absurd (q refl)
 before-mark [] (y ∷ t) u v k l l′ q = absurd (omega arith)
 before-mark (x ∷ s) [] u v k l l′ q = absurd (omega arith)
@@ -75,20 +76,10 @@ after-mark [] x [] k e = refl
 after-mark [] x (c ∷ t) k e = rw (← e)
 after-mark (y ∷ s) x t k e = rw (← e) (after-mark s x t (length s) refl)
 
--- the codes after the mark k
-drop-past : (s : List ℕ) (x : ℕ) (t : List ℕ) (k : ℕ) → length s ≡ k → drop (suc k) (s ++ (x ∷ t)) ≡ t
-drop-past [] x t k e = rw (← e)
-drop-past (y ∷ s) x t k e = rw (← e) (drop-past s x t (length s) refl)
-
 -- an or that fails fails twice
 pub or-false : (s t : Bool) → (s || t) ≡ false → (s ≡ false) × (t ≡ false)
 or-false true t e = absurd (true≢false e)
 or-false false t e = (refl, e)
-
--- 'a gap, and this or that' is 'a gap and this, or a gap and that'
-and-or : (g s t : Bool) → (g && (s || t)) ≡ ((g && s) || (g && t))
-and-or true s t = refl
-and-or false s t = refl
 
 -- 'a gap, and this and that' is 'a gap and that, and this'
 and-swap : (g s t : Bool) → (g && (s && t)) ≡ (g && t && s)
@@ -180,7 +171,10 @@ module _ (m : List ℕ) where
 
     -- the sounds after the cut in the whole message's tape
     pub codes-after : drop (suc (markIndex m c)) (tape m) ≡ onward m (suc c)
-    codes-after = rw tape-cut (drop-past (segment false (voicedAt m c) (read (take c m))) (markOf (getD m c 0)) (onward m (suc c)) (markIndex m c) mark-index)
+    codes-after =
+        let s = segment false (voicedAt m c) (read (take c m)) in
+        let e : suc (markIndex m c) ≡ length s + 1 = omega (arith, mark-index) in
+        rw (tape-cut, e, drop-append-add s)
 
     -- and the first of them
     pub code-after : getD (tape m) (suc (markIndex m c)) 0 ≡ firstCode (onward m (suc c))
@@ -199,7 +193,7 @@ module _ (m : List ℕ) where
     -- a cut is live just when one of its two neighbours is changed from over the cut
     pub live-here : isLive m c ≡ (changedBefore m c || changedAfter m (suc c))
     unfolding isLive
-    live-here = rw (and-or, before-here, after-here)
+    live-here = rw (and-or-distrib-left, before-here, after-here)
 
   -- what the tape from place a on is made of
   onward-open : (a : ℕ) → onward m a ≡ segment (hardAt m a) false (read (drop a m))
@@ -239,19 +233,19 @@ module _ (m : List ℕ) where
       let o = or-false (changedBefore m c) (changedAfter m (suc c)) (sym (live-here c (r .1)) ∙ n c (inl refl)) in
       rw (onward-cut a c b (r .0) (r .1), part-own a c b (r .0) (r .1) q (o .0), joined-dead (suc c) cuts (r .1) (r .2) (o .1) (λ d i. n d (inr i)))
 
-  -- At place a the first codes differ if something changes what stands there, whatever the cuts.
+  -- The first code of the parts' tape tells no hard boundary at place a, whatever the cuts,
+  joined-low : (a : ℕ) (cuts : List ℕ) → Begins m a → RisingFrom m a cuts → (isHigh (firstCode (joinedFrom m a cuts)) && isIOrE (firstByte (firstWord (read (drop a m))))) ≡ false
+  unfolding joinedFrom tape
+  joined-low a [] b r = rw append-nil at (segment-starts false false (read (drop a m)) [])
+  joined-low a (c ∷ cuts) b r = rw (first-word a c b (r .0) (r .1)) (segment-starts false false (read (part m a c)) _)
+
+  -- so it is another than that of the whole tape, if something changes what stands there.
   joined-starts : (a : ℕ) (cuts : List ℕ) → Begins m a → RisingFrom m a cuts → changedAfter m a ≡ true
       → firstCode (onward m a) ≡ firstCode (joinedFrom m a cuts) → ⊥
-  unfolding joinedFrom tape changedAfter
-  joined-starts a [] b r q e =
-      let o = and-eq-true-iff (hardAt m a) (beginsWithIOrE (firstWord (read (drop a m)))) .0 q in
-      segment-starts-differ false false (read (drop a m)) (o .1) (rw (onward-open a, o .0) at e)
-  joined-starts a (c ∷ cuts) b r q e =
-      let p = read (part m a c) in
-      let o = and-eq-true-iff (hardAt m a) (beginsWithIOrE (firstWord (read (drop a m)))) .0 q in
-      first-differ (segment true (voicedAt m c) p) (segment false false p) _ _ (segment-length true false (voicedAt m c) false p)
-      (segment-starts-differ (voicedAt m c) false p (rw (first-word a c b (r .0) (r .1)) at (o .1)))
-      (rw (onward-cut a c b (r .0) (r .1), o .0) at e)
+  unfolding changedAfter onward
+  joined-starts a cuts b r q e =
+      let told = rw append-nil at (segment-starts (hardAt m a) false (read (drop a m)) []) in
+      true≢false (sym q ∙ sym told ∙ rw e (joined-low a cuts b r))
 
 -- A tape of the parts from place a on, at its cut c: split at the mark, with the codes on both sides made as if nothing stood over the cut.
 pub record CutAt (m : List ℕ) (a c : ℕ) (t : List ℕ) : Type 0 where
@@ -259,12 +253,12 @@ pub record CutAt (m : List ℕ) (a c : ℕ) (t : List ℕ) : Type 0 where
   pub back : List ℕ
   pub split : t ≡ front ++ (markOf (getD m c 0) ∷ back)
   pub size : length front ≡ length (tape (part m a c))
-  pub own : ((p n : ℕ) → Spells (read (take n (drop p m)))) → marksOf front ≡ breakMarks (part m a c)
-  pub ends : (h : Bool) (x y : ℕ) → endsInObstruent (wordBefore m c) ≡ true
-      → lastCodeFrom x (segment h true (read (part m a c))) ≡ lastCodeFrom y front → ⊥
+  pub own : marksOf front ≡ breakMarks (part m a c)
+  pub ends : (d : ℕ) → isVoiced d ≡ false → isVoiced (lastCodeFrom d front) ≡ false
   pub starts : changedAfter m (suc c) ≡ true → firstCode (onward m (suc c)) ≡ firstCode back → ⊥
 
-module _ (m : List ℕ) where
+-- In a message whose letters are all of the alphabet.
+module _ (m : List ℕ) (spells : (p n : ℕ) → Spells (read (take n (drop p m)))) where
   -- at the first cut
   cut-first : (a c : ℕ) (cuts : List ℕ) → Begins m a → RisingFrom m a (c ∷ cuts) → CutAt m a c (joinedFrom m a (c ∷ cuts))
   unfolding joinedFrom tape
@@ -273,8 +267,8 @@ module _ (m : List ℕ) where
     back = joinedFrom m (suc c) cuts;
     split = refl;
     size = refl;
-    own = λ s. bytes-marks false false (part m a c) (s a (c - a));
-    ends = λ h x y q. segment-ends-differ h false x y (read (part m a c)) (rw (word-before m a c b (r .0) (break-within m c (r .1))) q);
+    own = bytes-marks false false (part m a c) (spells a (c - a));
+    ends = λ x u. segment-ends false false x (read (part m a c)) u (spells a (c - a));
     starts = joined-starts m (suc c) cuts (r .1) (r .2);
   }
 
@@ -294,9 +288,8 @@ module _ (m : List ℕ) where
         rw (part-cut m false false a d c (r .0) lt (r .1))
         (simp length-append
         (omega (arith, k .size, segment-length false false false (isGap g && voices (segment hard false s)) p, segment-length hard false false false s)));
-    own = λ s.
-        rw (part-split m a d c (r .0) lt (break-within m d (r .1)), marks-append, marks-mark, bytes-marks false false (part m a d) (s a (d - a)), k .own s, breaks-append, r .1);
-    ends = λ h x y q e. k .ends _ _ _ q (simp last-append at (rw (part-cut m h true a d c (r .0) lt (r .1)) at e));
+    own = rw (part-split m a d c (r .0) lt (break-within m d (r .1)), marks-append, marks-mark, bytes-marks false false (part m a d) (spells a (d - a)), k .own, breaks-append, r .1);
+    ends = λ x u. rw last-append (k .ends (markOf (getD m d 0)) (mark-unvoiced (getD m d 0)));
     starts = k .starts;
   }
 

@@ -2,11 +2,10 @@
 -- Assumes nothing.
 use Prim.Native.Nat.{ℕ, zero, suc, _+_, _-_, _<_, _≤_}
 use mathlib.Core.Path.{_≡_, refl, sym, _∙_}
-use mathlib.Core.Bool.{Bool, true, false, cond, _||_, or-true, true≢false}
+use mathlib.Core.Bool.{Bool, true, false, _||_, or-true, true≢false}
 use mathlib.Core.List.{List, [], _∷_, _++_}
 use mathlib.Core.Logic.{_⊎_, inl, inr, ⊎-elim}
 use native.Mathlib.Omega.{arith}
-use lib.Dec.{eqb}
 use lib.ListN.{length, take, drop, getD, length-take, length-drop}
 use lib.Seq.{take-all, drop-length, getD-take, getD-drop}
 use Rattle.spec.specs.Letters.{isBreak, isMark}
@@ -15,9 +14,9 @@ use Rattle.spec.specs.Joints.{RisingFrom, EachPartFrom}
 use Rattle.spec.specs.declared.Counts.{Counts}
 use Rattle.spec.specs.declared.Checked.the-variants.{Accepted}
 use Rattle.laws.proofs.Accepted.{countsOf, Clear, Passes, accepted-passes, passes-accepted, passes-none}
-use Rattle.laws.proofs.Classes.{NoBreak, break-mark, break-vowel, break-sign, break-hard-sign}
+use Rattle.laws.proofs.Classes.{cond-app, yes-or, refuted, NoBreak, break-mark, break-vowel, break-sign, break-hard-sign}
 use Rattle.laws.proofs.Cuts.{break-within}
-use Rattle.laws.proofs.Parts.{part, Begins}
+use Rattle.laws.proofs.Parts.{part, Begins, or-false}
 
 -- the bytes before a part, nearest first: none, or a break is next
 abbrev pub Opens : List ℕ → Type 0
@@ -49,11 +48,7 @@ adjacent-over : (f : List ℕ → Bool) (t : List ℕ) → Opens t → ((x : Lis
 unfolding adjacent
 adjacent-over f [] o h [] = refl
 adjacent-over f (d ∷ t) o h [] = rw (break-mark d o) (h [])
-adjacent-over f t o h (b ∷ x) = by (isMark b)
-  where
-    by : (k : Bool) → f (cond k (x ++ t) (b ∷ (x ++ t))) ≡ f (cond k x (b ∷ x))
-    by true = h x
-    by false = h (b ∷ x)
+adjacent-over f t o h (b ∷ x) = rw (cond-app f (isMark b) (x ++ t) (b ∷ (x ++ t)), h x, h (b ∷ x)) (sym (cond-app f (isMark b) x (b ∷ x)))
 
 -- the class of the adjacent letter
 near-over : (class : ℕ → Bool) → NoBreak class → (t : List ℕ) → Opens t → (x : List ℕ) → first class (adjacent (x ++ t)) ≡ first class (adjacent x)
@@ -97,21 +92,12 @@ rows-over k x t b after o =
 -- Of the bytes after it a row asks only whether a break is last.
 pub rows-after : (k : ℕ) (x : List ℕ) (b : ℕ) (after after′ : List ℕ) → (isBreak b ≡ true → none after ≡ none after′) → fitsIn rows k x b after ≡ fitsIn rows k x b after′
 unfolding fitsIn rows row3 row4 row5 row6 row7 row8 row9 row10
-rows-after k x b after after′ n = by (isBreak b) refl
-  where
-    by : (t : Bool) → isBreak b ≡ t → fitsIn rows k x b after ≡ fitsIn rows k x b after′
-    by true d = rw (n d)
-    by false d = rw d
+rows-after k x b after after′ n = ⊎-elim (λ d. rw (n d)) (λ d. rw d) (yes-or (isBreak b))
 
 -- a clear break is not last
 pub clear-followed : (x : List ℕ) (b : ℕ) (after : List ℕ) → Clear x b after → isBreak b ≡ true → none after ≡ false
 unfolding fitsIn rows row4
-clear-followed x b after c d = by (none x) (none after) (rw d at (c 4))
-  where
-    by : (p q : Bool) → (p || (q || first isBreak x)) ≡ false → q ≡ false
-    by true q e = absurd (true≢false e)
-    by false true e = absurd (true≢false e)
-    by false false e = refl
+clear-followed x b after c d = or-false (none after) _ (or-false (none x) _ (rw d at (c 4)) .1) .0
 
 -- a byte that is clear in a message is clear in a part, where no break is last
 clear-part : (x t : List ℕ) (b : ℕ) (after after′ : List ℕ) → Opens t → (isBreak b ≡ true → none after′ ≡ false) → Clear (x ++ t) b after → Clear x b after′
@@ -157,11 +143,7 @@ module _ (m : List ℕ) (p : Passes m) (e : ℕ) (s : (isBreak (getD m e 0) ≡ 
   module _ (a : ℕ) (b : Begins m a) (h : a ≤ e) (l : e ≤ length m) where
     -- so a byte stands after each break of a part
     after-some : (i : ℕ) → i < e - a → isBreak (getD m (a + i) 0) ≡ true → none (drop (suc i) (part m a e)) ≡ false
-    after-some i k d = by (none (drop (suc i) (part m a e))) refl
-      where
-        by : (t : Bool) → none (drop (suc i) (part m a e)) ≡ t → t ≡ false
-        by true q = absurd (last-firm (a + i) (omega (arith, none-empty (drop (suc i) (part m a e)) q, length-drop (suc i) (part m a e), part-length m a e l)) d)
-        by false q = refl
+    after-some i k d = refuted _ (λ q. last-firm (a + i) (omega (arith, none-empty (drop (suc i) (part m a e)) q, length-drop (suc i) (part m a e), part-length m a e l)) d)
 
     -- nothing of the table fits a part
     part-passes : Passes (part m a e)

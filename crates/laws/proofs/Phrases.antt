@@ -1,23 +1,21 @@
 -- Two messages with a break between them: a pause splits the tape, any break the names, since nothing crosses them; and accepted messages with a break between, short enough, are an accepted one.
 -- Assumes nothing.
 use Prim.Native.Nat.{ℕ, zero, suc, _+_, _-_, _<_, _≤_}
-use mathlib.Core.Path.{_≡_, refl, sym, ap, _∙_}
-use mathlib.Core.Bool.{Bool, true, false, cond, _||_, true≢false}
+use mathlib.Core.Path.{_≡_, refl, sym, _∙_}
+use mathlib.Core.Bool.{true, false, true≢false}
+use mathlib.Core.Logic.{⊎-elim}
 use mathlib.Core.List.{List, [], _∷_, _++_, append-assoc}
 use native.Mathlib.Omega.{arith}
-use native.Mathlib.Numerals.{add-one}
-use lib.Dec.{eqb, leb}
 use lib.ListN.{length, getD, drop, length-append, List·getD-append}
 use lib.Seq.{drop-append-le, drop-append-add, drop-length, getD-append-add, getD-at}
-use borrow.Author.Tests.{leb-true, leb-false}
 use Rattle.spec.specs.Alphabet.{pause}
 use Rattle.spec.specs.Letters.{Message, last, more, read, isBreak}
 use Rattle.spec.specs.Tape.{tape, wordNames, namesOf, names}
-use Rattle.spec.specs.Refusals.{letterByte, consonantByte, signByte, vowelByte, first, none, row3, row4, row5, row6, row7, row8, row9, row10, rows, fitsIn, beforeAt, NoneFits}
+use Rattle.spec.specs.Refusals.{letterByte, first, none, row3, row4, row5, row6, row7, row8, row9, row10, rows, fitsIn, beforeAt, NoneFits}
 use Rattle.spec.proofs.Computed.{everything}
 use Rattle.laws.proofs.Accepted.{Clear, ClearAt, Passes, passes-none, none-accepted, accepted-passes}
 use Rattle.laws.proofs.Stretch.{meet, read-join, segment-join}
-use Rattle.laws.proofs.Classes.{break-mark, break-vowel, break-sign, break-consonant}
+use Rattle.laws.proofs.Classes.{cond-same, refuted, below-or, break-mark, break-vowel, break-sign, break-consonant}
 use Rattle.laws.proofs.PartsAccepted.{Opens, rows-over, rows-after, clear-followed}
 
 -- A pause splits a tape.
@@ -34,11 +32,6 @@ names-meet (more w y r) x b = rw (names-meet r x b) (sym (append-assoc (wordName
 pub names-break : (a b : List ℕ) (x : ℕ) → isBreak x ≡ true → names (a ++ (x ∷ b)) ≡ names a ++ names b
 unfolding names
 names-break a b x e = rw (read-join a b x e) (names-meet (read a) x (read b))
-
--- a choice of the same
-cond-same : (t k : Bool) → cond t k k ≡ k
-cond-same true k = refl
-cond-same false k = refl
 
 -- no row fits at a break between two bytes of which neither is a break
 break-clear : (before : List ℕ) (x : ℕ) (after : List ℕ) → isBreak x ≡ true → none before ≡ false → first isBreak before ≡ false → none after ≡ false → Clear before x after
@@ -77,11 +70,8 @@ before-some m (suc j) h = refl
 last-firm : (m : List ℕ) (n : ℕ) → Passes m → n ≡ length m → first isBreak (beforeAt m n) ≡ false
 unfolding first none beforeAt
 last-firm m zero p e = refl
-last-firm m (suc j) p e = by (isBreak (getD m j 0)) refl
-  where
-    by : (t : Bool) → isBreak (getD m j 0) ≡ t → t ≡ false
-    by true d = rw (e, drop-length m) at (clear-followed (beforeAt m j) (getD m j 0) (drop (suc j) m) (p .rows j (omega arith)) d)
-    by false d = refl
+last-firm m (suc j) p e = refuted _ (λ d.
+    true≢false (rw (e, drop-length m) at (clear-followed (beforeAt m j) (getD m j 0) (drop (suc j) m) (p .rows j (omega arith)) d)))
 
 -- what passes after a break passes behind whatever stands before it
 clear-behind : (a b : List ℕ) → Passes b → Opens (beforeAt a (length a)) → (j : ℕ) → j < length b → ClearAt (a ++ b) (length a + j)
@@ -119,17 +109,13 @@ module _ (a : List ℕ) (x : ℕ) (b : List ℕ) (p : Passes a) (q : Passes b) (
   passes-join s = record {
     some = omega (arith, length-append a (x ∷ b));
     short = s;
-    rows = λ i h. by i (leb (suc i) (length a)) refl (leb (suc (length a)) i) refl (omega (arith, length-append a (x ∷ b)));
+    rows = λ i h. at i (omega (arith, length-append a (x ∷ b)));
   }
     where
-      by : (i : ℕ) (t : Bool) → leb (suc i) (length a) ≡ t → (u : Bool) → leb (suc (length a)) i ≡ u → i < length a + suc (length b) → ClearAt (a ++ (x ∷ b)) i
-      by i true e u f h = clear-first i (leb-true _ _ e)
-      by i false e true f h =
-          let g : length a + suc (i - suc (length a)) ≡ i = omega (arith, leb-true (suc (length a)) i f) in
-          rw g at (clear-second (i - suc (length a)) (omega (arith, leb-true (suc (length a)) i f)))
-      by i false e false f h =
-          let g : i ≡ length a = omega (arith, leb-false (suc i) (length a) e, leb-false (suc (length a)) i f) in
-          rw g clear-break
+      at : (i : ℕ) → i < length a + suc (length b) → ClearAt (a ++ (x ∷ b)) i
+      at i h = ⊎-elim (λ l. clear-first i l) (λ g. ⊎-elim
+          (λ l. let e : length a + suc (i - suc (length a)) ≡ i = omega arith in rw e at (clear-second (i - suc (length a)) (omega arith)))
+          (λ l. let e : i ≡ length a = omega arith in rw e clear-break) (below-or (length a) i)) (below-or i (length a))
 
 -- Accepted messages with a break between them, short enough, are an accepted message.
 pub join-accepted : (a : List ℕ) (x : ℕ) (b : List ℕ) → NoneFits a → isBreak x ≡ true → NoneFits b → length (a ++ (x ∷ b)) ≤ 4096 → NoneFits (a ++ (x ∷ b))

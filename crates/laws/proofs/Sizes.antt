@@ -2,19 +2,20 @@
 -- Assumes nothing.
 use Prim.Native.Nat.{ℕ, suc, _+_, _*_, _≤_}
 use mathlib.Core.Path.{_≡_, refl, ap}
-use mathlib.Core.Bool.{Bool, true, false, cond, _&&_, _||_}
+use mathlib.Core.Bool.{Bool, true, false, _&&_, _||_}
+use mathlib.Core.Logic.{⊎-elim}
 use mathlib.Core.List.{List, [], _∷_, _++_}
 use native.Mathlib.Omega.{arith}
 use lib.ListN.{length, length-append}
 use Rattle.spec.specs.Letters.{Letter, Message, last, more, read, putLetter, beginsWithMark, small, isGap, isBreak, isMark, isSign, isVowel, isConsonant, plainVowels, softeningVowels}
 use Rattle.spec.specs.Elision.{elides, elideFrom, elide}
-use Rattle.spec.specs.Syllables.{Facts, factsOf, syllableOf, nameOf, incomplete, namesFrom}
+use Rattle.spec.specs.Syllables.{Facts, factsOf, syllableOf, incomplete, namesFrom}
 use Rattle.spec.specs.Vowels.{Phone, glides, vowelPhones, phonesOf, phonesFrom, endsHard}
 use Rattle.spec.specs.Voicing.{voices, voice}
 use Rattle.spec.specs.Palatalization.{palatalize}
 use Rattle.spec.specs.Tape.{wordTape, segment, tape, wordNames, namesOf, names}
 use Rattle.spec.proofs.Computed.{everything}
-use Rattle.laws.proofs.Classes.{among-same}
+use Rattle.laws.proofs.Classes.{cond-both, yes-or, among-same}
 
 -- the letters and breaks of a message
 abbrev pub sizeOf : Message → ℕ
@@ -31,34 +32,30 @@ put-size l (more w x r) = omega arith
 pub read-size : (m : List ℕ) → sizeOf (read m) ≤ length m
 unfolding read
 read-size [] = omega arith
-read-size (b ∷ m) = by (isBreak b) (isMark b) (read-size m)
+read-size (b ∷ m) =
+    let h = read-size m in
+    let l : Letter = record { byte = small b; stressed = beginsWithMark m } in
+    cond-both Short (isBreak b) (omega arith) (cond-both Short (isMark b) (omega arith) (omega (arith, put-size l (read m))))
   where
-    by : (s t : Bool) → sizeOf (read m) ≤ length m
-        → sizeOf (cond s (more [] b (read m)) (cond t (read m) (putLetter (record { byte = small b; stressed = beginsWithMark m }) (read m)))) ≤ suc (length m)
-    by true t h = omega arith
-    by false true h = omega arith
-    by false false h = omega (arith, put-size (record { byte = small b; stressed = beginsWithMark m }) (read m))
+    Short : Message → Type 0
+    Short r = sizeOf r ≤ suc (length m)
 
 -- pass 1 only takes letters away
 elide-size : (p : ℕ) (w : List Letter) → length (elideFrom p w) ≤ length w
 unfolding elideFrom
 elide-size p [] = omega arith
-elide-size p (l ∷ w) = by (elides p (l .byte) w) (elide-size (l .byte) w)
-  where
-    by : (t : Bool) → length (elideFrom (l .byte) w) ≤ length w → length (cond t (elideFrom (l .byte) w) (l ∷ elideFrom (l .byte) w)) ≤ suc (length w)
-    by true h = omega arith
-    by false h = omega arith
+elide-size p (l ∷ w) =
+    let r = elide-size (l .byte) w in
+    cond-both (λ v. length v ≤ suc (length w)) (elides p (l .byte) w) {x = elideFrom (l .byte) w} {y = l ∷ elideFrom (l .byte) w} (omega arith) (omega arith)
 
 -- a letter makes at most two sounds
 phones-one : (hard : Bool) (facts : Facts) (p : ℕ) (l : Letter) (w : List Letter) → length (phonesOf hard facts p l w) ≤ 2
 unfolding phonesOf vowelPhones
-phones-one hard facts p l w = by (isSign (l .byte)) (isVowel (l .byte)) (glides p (syllableOf facts p l w .cover) (l .byte)) _ _ _
+phones-one hard facts p l w =
+    cond-both Few (isSign (l .byte)) (omega arith) (cond-both Few (isVowel (l .byte)) (cond-both Few (glides p (syllableOf facts p l w .cover) (l .byte)) (omega arith) (omega arith)) (omega arith))
   where
-    by : (s v g : Bool) (j x c : Phone) → length (cond s [] (cond v (cond g (j ∷ x ∷ []) (x ∷ [])) (c ∷ []))) ≤ 2
-    by true v g j x c = omega arith
-    by false true true j x c = omega arith
-    by false true false j x c = omega arith
-    by false false g j x c = omega arith
+    Few : List Phone → Type 0
+    Few xs = length xs ≤ 2
 
 phones-size : (hard : Bool) (facts : Facts) (p : ℕ) (w : List Letter) → length (phonesFrom hard facts p w) ≤ 2 * length w
 unfolding phonesFrom
@@ -100,22 +97,15 @@ none-complete = refl
 -- one that does not has one
 incomplete-one : (p : ℕ) → length (incomplete p) ≤ 1
 unfolding incomplete
-incomplete-one p = by (isConsonant p || isSign p)
-  where
-    by : (t : Bool) → length {A = ℕ} (cond t (7 ∷ []) []) ≤ 1
-    by true = omega arith
-    by false = omega arith
+incomplete-one p = cond-both (λ (v : List ℕ). length v ≤ 1) (isConsonant p || isSign p) (omega arith) (omega arith)
 
 -- a word's names are no more than its letters: a letter that is no vowel names nothing but an incomplete syllable
 names-from-size : (facts : Facts) (p : ℕ) (w : List Letter) → length (namesFrom facts p w) ≤ length w + length (incomplete p)
 unfolding namesFrom
 names-from-size facts p [] = omega arith
-names-from-size facts p (l ∷ w) = by (isVowel (l .byte)) refl (names-from-size facts (l .byte) w)
-  where
-    by : (v : Bool) → isVowel (l .byte) ≡ v → length (namesFrom facts (l .byte) w) ≤ length w + length (incomplete (l .byte))
-        → length (cond v (nameOf (syllableOf facts p l w) ∷ namesFrom facts (l .byte) w) (namesFrom facts (l .byte) w)) ≤ suc (length w) + length (incomplete p)
-    by true v h = omega (arith, ap length (vowel-complete (l .byte) v))
-    by false v h = omega (arith, incomplete-one (l .byte))
+names-from-size facts p (l ∷ w) =
+    let h = names-from-size facts (l .byte) w in
+    ⊎-elim (λ v. rw v (omega (arith, ap length (vowel-complete (l .byte) v)))) (λ v. rw v (omega (arith, incomplete-one (l .byte)))) (yes-or (isVowel (l .byte)))
 
 word-names-size : (w : List Letter) → length (wordNames w) ≤ length w
 unfolding wordNames elide

@@ -2,23 +2,22 @@
 -- Assumes nothing.
 use Prim.Native.Nat.{ℕ, zero, suc}
 use mathlib.Core.Path.{_≡_, refl, ap, _∙_}
-use mathlib.Core.Bool.{Bool, true, false, cond, _&&_, _||_}
+use mathlib.Core.Bool.{Bool, true, false, _&&_}
 use mathlib.Core.List.{List, [], _∷_, _++_, append-assoc}
 use native.Mathlib.Omega.{arith}
 use lib.Dec.{eqb}
-use borrow.Author.Tests.{eqb-true}
 use lib.ListN.{length, drop, getD, length-append}
-use Rattle.spec.specs.Alphabet.{gap, pause, mark}
+use Rattle.spec.specs.Alphabet.{pause}
 use Rattle.spec.specs.Tables.{among}
-use Rattle.spec.specs.Letters.{Letter, Message, last, more, read, putLetter, beginsWithMark, firstWord, lastWord, isGap, isBreak, isMark}
+use Rattle.spec.specs.Letters.{Letter, Message, last, more, read, putLetter, beginsWithMark, firstWord, lastWord, isGap, isBreak}
 use Rattle.spec.specs.Codes.{markOf, isVoicing}
 use Rattle.spec.specs.Vowels.{endsHard}
 use Rattle.spec.specs.Palatalization.{firstCode}
 use Rattle.spec.specs.Voicing.{voices}
-use Rattle.spec.specs.Tape.{wordTape, segment}
+use Rattle.spec.specs.Tape.{segment}
 use Rattle.spec.specs.Joints.{endsInObstruent, beginsWithIOrE}
-use Rattle.laws.proofs.Classes.{break-mark}
-use Rattle.laws.proofs.Word.{lastCodeFrom, lastCode, word-length, word-quiet, word-ends-differ, word-firm, word-starts-differ}
+use Rattle.laws.proofs.Classes.{cond-both, cond-app, break-mark}
+use Rattle.laws.proofs.Word.{lastCodeFrom, word-length, word-quiet, word-firm}
 
 -- the message a, the break x, and the message b, read as one
 unfoldable pub meet : Message → ℕ → Message → Message
@@ -49,28 +48,16 @@ unfolding putLetter meet
 put-meet l (last w) x b = refl
 put-meet l (more w y r) x b = refl
 
--- one byte is read alike before two messages: t says that it is a break, u that it is a mark, and c is a with its letter
-read-one-meet : (t u : Bool) (y : ℕ) (a c : Message) (x : ℕ) (b : Message)
-    → cond t (more [] y (meet a x b)) (cond u (meet a x b) (meet c x b)) ≡ meet (cond t (more [] y a) (cond u a c)) x b
-unfolding meet
-read-one-meet true u y a c x b = refl
-read-one-meet false true y a c x b = refl
-read-one-meet false false y a c x b = refl
-
 -- reading bytes with a break in them: what stands before it, the break, what stands after it
 pub read-join : (p s : List ℕ) (x : ℕ) → isBreak x ≡ true → read (p ++ (x ∷ s)) ≡ meet (read p) x (read s)
 unfolding read meet
 read-join [] s x e = rw e
-read-join (b ∷ p) s x e = rw (read-join p s x e, mark-before-break p s x e, put-meet) (read-one-meet (isBreak b) (isMark b) b (read p) _ x (read s))
+read-join (b ∷ p) s x e = rw (read-join p s x e, mark-before-break p s x e, put-meet) (simp (cond-app (λ (z : Message). meet z x (read s))))
 
 -- a break's mark is no voicing sound, and neither is nothing, so a word is followed by the same voice with or without what stands behind the break
 pub voices-over : (t u : List ℕ) (x : ℕ) → voices (t ++ (markOf x ∷ u)) ≡ voices t
 unfolding voices markOf isVoicing among
-voices-over [] u x = by (eqb x pause)
-  where
-    by : (b : Bool) → isVoicing (cond b 63 0) ≡ false
-    by true = refl
-    by false = refl
+voices-over [] u x = cond-both (λ c. isVoicing c ≡ false) (eqb x pause) refl refl
 voices-over (c ∷ t) u x = refl
 
 -- sounds voice what their first one does; 0, for none, voices nothing
@@ -117,26 +104,11 @@ unfolding segment lastWord
 segment-quiet h n n′ (last w) e = word-quiet h n n′ w e
 segment-quiet h n n′ (more w x r) e = rw (segment-quiet (isGap x && endsHard w) n n′ r e)
 
--- two tapes of one length whose last codes differ are not empty, so they differ whatever stands before them
-last-differ : (s t : List ℕ) (c d : ℕ) → length s ≡ length t → (lastCode s ≡ lastCode t → ⊥) → lastCodeFrom c s ≡ lastCodeFrom d t → ⊥
-unfolding lastCode lastCodeFrom
-last-differ [] [] c d l q e = q refl
-last-differ [] (y ∷ t) c d l q e = omega arith
-last-differ (x ∷ s) [] c d l q e = omega arith
-last-differ (x ∷ s) (y ∷ t) c d l q e = q e
-
 -- a tape that ends as t, after a mark
 pub last-append : (c d : ℕ) (s t : List ℕ) → lastCodeFrom c (s ++ (d ∷ t)) ≡ lastCodeFrom d t
 unfolding lastCodeFrom
 last-append c d [] t = refl
 last-append c d (x ∷ s) t = last-append x d s t
-
--- and else the last code differs, whatever stands before the stretch
-pub segment-ends-differ : (h h′ : Bool) (c d : ℕ) (a : Message) → endsInObstruent (lastWord a) ≡ true
-    → lastCodeFrom c (segment h true a) ≡ lastCodeFrom d (segment h′ false a) → ⊥
-unfolding segment lastWord
-segment-ends-differ h h′ c d (last w) e q = last-differ (wordTape h true w) (wordTape h′ false w) c d (word-length h h′ true false w) (word-ends-differ h h′ w e) q
-segment-ends-differ h h′ c d (more w x r) e q = segment-ends-differ _ _ (markOf x) (markOf x) r e (simp last-append at q)
 
 -- a hard boundary before it changes nothing unless the first word begins with и or unmarked э
 pub segment-firm : (h h′ n : Bool) (a : Message) → beginsWithIOrE (firstWord a) ≡ false → segment h n a ≡ segment h′ n a
@@ -144,20 +116,3 @@ unfolding segment firstWord
 segment-firm h h′ n (last w) e = word-firm h h′ n w e
 segment-firm h h′ n (more w x r) e =
     ap (λ (t : List ℕ). t ++ (markOf x ∷ segment (isGap x && endsHard w) n r)) (word-firm h h′ (isGap x && voices (segment (isGap x && endsHard w) n r)) w e)
-
--- two tapes of one length whose first codes differ are not empty, so they differ whatever stands after them
-pub first-differ : (s t u v : List ℕ) → length s ≡ length t → (firstCode s ≡ firstCode t → ⊥) → firstCode (s ++ u) ≡ firstCode (t ++ v) → ⊥
-unfolding firstCode
-first-differ [] [] u v l q e = q refl
-first-differ [] (y ∷ t) u v l q e = omega arith
-first-differ (x ∷ s) [] u v l q e = omega arith
-first-differ (x ∷ s) (y ∷ t) u v l q e = q e
-
--- and else the first code differs, whatever follows
-pub segment-starts-differ : (n n′ : Bool) (a : Message) → beginsWithIOrE (firstWord a) ≡ true
-    → firstCode (segment true n a) ≡ firstCode (segment false n′ a) → ⊥
-unfolding segment firstWord
-segment-starts-differ n n′ (last w) e = word-starts-differ n n′ w e
-segment-starts-differ n n′ (more w x r) e =
-    let v : Bool → Bool = λ b. isGap x && voices (segment (isGap x && endsHard w) b r) in
-    first-differ (wordTape true (v n) w) (wordTape false (v n′) w) _ _ (word-length true false (v n) (v n′) w) (word-starts-differ (v n) (v n′) w e)

@@ -4,14 +4,16 @@
 use Prim.Native.Nat.{ℕ, suc}
 use native.Mathlib.Omega.{arith}
 use mathlib.Core.Path.{_≡_, refl, sym, ap, subst, _∙_}
-use mathlib.Core.Bool.{Bool, true, false, cond, not, _&&_, _||_, true≢false, false≢true, and-false, and-eq-true-iff}
-use mathlib.Core.List.{List, [], _∷_, _++_, map}
+use mathlib.Core.Bool.{Bool, true, false, cond, not, _&&_, _||_, true≢false, false≢true, and-true, and-false}
+use mathlib.Core.Logic.{⊎-elim}
+use mathlib.Core.List.{List, [], _∷_, _++_, append-nil, map}
 use lib.ListN.{length}
 use lib.Dec.{eqb}
-use borrow.Author.Tests.{eqb-true, eqb-false, not-true}
+use borrow.Author.Tests.{eqb-true, eqb-false}
 use Rattle.spec.specs.Alphabet.{«и», «н», «с», «ц», «ч», «ш», «э»}
 use Rattle.spec.specs.Tables.{among, entry}
 use Rattle.spec.specs.Letters.{Letter, firstByte, obstruents, signs, isSign, isVowel, isObstruent}
+use Rattle.spec.specs.Codes.{Ы*, Ы1}
 use Rattle.spec.specs.Elision.{elidesT, elidesD, elides, elideFrom, elide, elidesAmong}
 use Rattle.spec.specs.Syllables.{Facts, factsOf, coverAfter, hasMark, nextStressed, levelOf, syllableOf}
 use Rattle.spec.specs.Vowels.{Phone, byStress, byLevel, glides, vowelSound, vowelPhones, phonesOf, phonesFrom}
@@ -23,7 +25,7 @@ use Rattle.spec.specs.declared.Cover.{Cover}
 use Rattle.spec.specs.declared.Level.{Level}
 use Rattle.spec.specs.declared.Level.the-variants.{Stressed, First, Second}
 use Rattle.spec.proofs.Computed.{everything}
-use Rattle.laws.proofs.Classes.{among-same}
+use Rattle.laws.proofs.Classes.{yes-or, among-same}
 
 -- the last code; 0 where there is none
 unfoldable pub lastCodeFrom : ℕ → List ℕ → ℕ
@@ -121,21 +123,15 @@ kept-before p b w e = simp (other «н» refl, other «с» refl, other «ц» r
 elided-ends : (p b : ℕ) (d d′ : Bool) (w : List Letter) → elides p b w ≡ true → endsInObstruentFrom d w ≡ endsInObstruentFrom d′ w
 unfolding endsInObstruentFrom firstByte among isSign
 elided-ends p b d d′ [] e = absurd (true≢false (sym e ∙ kept-before p b [] refl))
-elided-ends p b d d′ (l ∷ w) e = by (isSign (l .byte)) refl
-  where
-    by : (t : Bool) → isSign (l .byte) ≡ t → endsInObstruentFrom (cond t d (isObstruent (l .byte))) w ≡ endsInObstruentFrom (cond t d′ (isObstruent (l .byte))) w
-    by true q = absurd (true≢false (sym e ∙ kept-before p b (l ∷ w) (among-same (among (0 ∷ signs)) (λ _. true) signs (l .byte) refl q)))
-    by false q = refl
+elided-ends p b d d′ (l ∷ w) e =
+    ⊎-elim (λ q. absurd (true≢false (sym e ∙ kept-before p b (l ∷ w) (among-same (among (0 ∷ signs)) (λ _. true) signs (l .byte) refl q)))) (λ q. rw q) (yes-or (isSign (l .byte)))
 
 -- pass 1 leaves the last letter, signs passed over
 pub elide-ends : (d : Bool) (p : ℕ) (w : List Letter) → endsInObstruentFrom d (elideFrom p w) ≡ endsInObstruentFrom d w
 unfolding elideFrom endsInObstruentFrom
 elide-ends d p [] = refl
-elide-ends d p (l ∷ w) = by (elides p (l .byte) w) refl (λ x. elide-ends x (l .byte) w)
-  where
-    by : (t : Bool) → elides p (l .byte) w ≡ t → ((x : Bool) → endsInObstruentFrom x (elideFrom (l .byte) w) ≡ endsInObstruentFrom x w) → endsInObstruentFrom d (cond t (elideFrom (l .byte) w) (l ∷ elideFrom (l .byte) w)) ≡ endsInObstruentFrom (cond (isSign (l .byte)) d (isObstruent (l .byte))) w
-    by true q k = k d ∙ elided-ends p (l .byte) d _ w q
-    by false q k = k _
+elide-ends d p (l ∷ w) =
+    ⊎-elim (λ q. rw q (elide-ends d (l .byte) w ∙ elided-ends p (l .byte) d _ w q)) (λ q. rw q (elide-ends _ (l .byte) w)) (yes-or (elides p (l .byte) w))
 
 -- the last sound of a word is of its last letter, signs passed over
 pub word-toned : (h : Bool) (w : List Letter) → endsToned false (phonesFrom h (factsOf w) 0 (elide w)) ≡ endsInObstruent w
@@ -155,18 +151,49 @@ vowel-firm h h′ true t false e c b x y q = rw x
 vowel-firm h h′ false t false true c b x y q = absurd (true≢false q)
 vowel-firm h h′ false t false false c b x y q = rw (x, y)
 
--- at the start of a word и has other sounds after a hard boundary, whatever its level
-start-И : (c : Cover) (level : Level) → vowelSound true 0 (record { cover = c; level = level }) «и» ≡ vowelSound false 0 (record { cover = c; level = level }) «и» → ⊥
-unfolding everything
-start-И c Stressed q = omega arith
-start-И c First q = omega arith
-start-И c Second q = omega arith
+-- the sounds of ы
+abbrev pub isHigh : ℕ → Bool
+isHigh c = eqb c Ы* || eqb c Ы1
 
--- and so has э where it is not stressed
-start-Э : (c : Cover) (t : Bool) → vowelSound true 0 (record { cover = c; level = cond t First Second }) «э» ≡ vowelSound false 0 (record { cover = c; level = cond t First Second }) «э» → ⊥
+-- the letters that a hard boundary changes
+abbrev pub isIOrE : ℕ → Bool
+isIOrE b = eqb b «и» || eqb b «э»
+
+-- at the start of a word и sounds Ы just behind a hard boundary
+high-И : (h : Bool) (cover : Cover) (level : Level) → (isHigh (vowelSound h 0 (record { cover = cover; level = level }) «и») && true) ≡ (h && true)
 unfolding everything
-start-Э c true q = omega arith
-start-Э c false q = omega arith
+high-И true c Stressed = refl
+high-И true c First = refl
+high-И true c Second = refl
+high-И false c Stressed = refl
+high-И false c First = refl
+high-И false c Second = refl
+
+-- and so does э where it is not stressed
+high-Э : (h s t : Bool) (cover : Cover) → (isHigh (vowelSound h 0 (record { cover = cover; level = cond s Stressed (cond t First Second) }) «э») && true) ≡ (h && not s)
+unfolding everything
+high-Э true true t c = refl
+high-Э true false true c = refl
+high-Э true false false c = refl
+high-Э false true t c = refl
+high-Э false false true c = refl
+high-Э false false false c = refl
+
+-- At the start of a word that begins with one of them Ы tells the hard boundary.
+pub word-starts : (h n : Bool) (w : List Letter) (u : List ℕ) → (isHigh (firstCode (wordTape h n w ++ u)) && isIOrE (firstByte w)) ≡ (h && beginsWithIOrE w)
+unfolding everything
+word-starts h n [] u = simp and-false
+word-starts h n (l ∷ w) u = by (eqb (l .byte) «и») refl (eqb (l .byte) «э») refl
+  where
+    Told : ℕ → Type 0
+    Told b =
+        let v : List Letter = record { byte = b; stressed = l .stressed } ∷ w in
+        (isHigh (firstCode (wordTape h n v ++ u)) && isIOrE b) ≡ (h && beginsWithIOrE v)
+
+    by : (s : Bool) → eqb (l .byte) «и» ≡ s → (t : Bool) → eqb (l .byte) «э» ≡ t → Told (l .byte)
+    by true q t r = subst Told (sym (eqb-true (l .byte) «и» q)) (high-И h (coverAfter 0) (levelOf (factsOf (l ∷ w)) l (elideFrom «и» w)))
+    by false q true r = subst Told (sym (eqb-true (l .byte) «э» r)) (high-Э h (l .stressed) (nextStressed (elideFrom «э» w) || not (hasMark (l ∷ w))) (coverAfter 0))
+    by false q false r = rw (q, r) (simp and-false)
 
 -- the length depends on neither bit
 pub word-length : (h h′ n n′ : Bool) (w : List Letter) → length (wordTape h n w) ≡ length (wordTape h′ n′ w)
@@ -193,16 +220,7 @@ word-firm h h′ n (l ∷ w) e =
 
 -- and else the first code differs, whatever follows
 pub word-starts-differ : (n n′ : Bool) (w : List Letter) → beginsWithIOrE w ≡ true → firstCode (wordTape true n w) ≡ firstCode (wordTape false n′ w) → ⊥
-unfolding everything
-word-starts-differ n n′ [] e q = false≢true e
-word-starts-differ n n′ (l ∷ w) e q = by (eqb (l .byte) «и») refl e
+word-starts-differ n n′ w e q = true≢false (sym (told true n) ∙ rw q (told false n′))
   where
-    Same : ℕ → Bool → Type 0
-    Same b s = firstCode (wordTape true n (record { byte = b; stressed = s } ∷ w)) ≡ firstCode (wordTape false n′ (record { byte = b; stressed = s } ∷ w))
-
-    by : (t : Bool) → eqb (l .byte) «и» ≡ t → (t || (eqb (l .byte) «э» && not (l .stressed))) ≡ true → ⊥
-    by true x o = start-И (coverAfter 0) (levelOf (factsOf (l ∷ w)) l (elideFrom «и» w)) (subst (λ b. Same b (l .stressed)) (eqb-true (l .byte) «и» x) q)
-    by false x o =
-        let a = and-eq-true-iff (eqb (l .byte) «э») (not (l .stressed)) .0 o in
-        let q′ = subst (λ b. Same b (l .stressed)) (eqb-true (l .byte) «э» (a .0)) q in
-        start-Э (coverAfter 0) (nextStressed (elideFrom «э» w) || not (hasMark w)) (subst (Same «э») (not-true (l .stressed) (a .1)) q′)
+    told : (h k : Bool) → (isHigh (firstCode (wordTape h k w)) && isIOrE (firstByte w)) ≡ h
+    told h k = rw append-nil at (word-starts h k w []) ∙ rw (e, and-true)

@@ -62,7 +62,7 @@ returns-2 t c =
     let p = c .before .before in
     let d = p .before .before .before .before in
     let i = d .before .before in
-    rw (decimal-large (i .before .before .args .n) (i .if1 .left)) (put-over _ _ _ _ _ _ _ _ (d .put-decimal .ensures) (p .put2 .ensures))
+    rw (decimal-large (i .before .before .args .n) (i .if1 .left)) (put-over (d .put-decimal .ensures) (p .put2 .ensures))
 
 pub +put-decimal-spec : {M : Type 1} → statement M
 +put-decimal-spec = close μ λ t. lts.spec (put.Asked, put.Learnt, below t, reads.Post)

@@ -24,7 +24,7 @@ returns : tie.Need-returns
 unfolding printed ascii
 returns c =
     let a = c .before .before .before in
-    let p = put-over _ _ _ _ _ _ _ _ (a .put-answer .ensures .0) (c .put-bytes .ensures) in
+    let p = put-over (a .put-answer .ensures .0) (c .put-bytes .ensures) in
     let h : c .put-bytes .result ≤ length (c .put-bytes .last .0) = omega (arith, a .put-answer .ensures .1, c .put-bytes .ensures .place) in
     ((h, sym (length-take-le _ _ h)), p .bytes)
 

@@ -40,7 +40,7 @@ loop-again c =
     let i = p .before .before .before in
     let l = i .before in
     let s = l .before .before .before in
-    (omega arith, omega arith, rw (add-one (l .loop .i), take-suc (s .args .bytes .now) (l .loop .i) 0 (i .loop-test .taken)) (put-over _ _ _ _ _ _ _ _ (l .loop .inv .2) (p .put .ensures)))
+    (omega arith, omega arith, rw (add-one (l .loop .i), take-suc (s .args .bytes .now) (l .loop .i) 0 (i .loop-test .taken)) (put-over (l .loop .inv .2) (p .put .ensures)))
 
 same-length : tie.Need-same-length Inv-loop μ-loop
 same-length c = omega arith

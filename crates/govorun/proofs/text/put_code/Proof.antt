@@ -37,7 +37,7 @@ returns c =
     let p = c .before .before in
     let i = p .before .before in
     let d = i .before .before .before in
-    rw (code-more _ _ (i .if1 .taken)) (put-over _ _ _ _ _ _ _ _ (d .put-decimal .ensures) (p .put .ensures))
+    rw (code-more _ _ (i .if1 .taken)) (put-over (d .put-decimal .ensures) (p .put .ensures))
 
 same-length-2 : tie.Need-same-length-2
 same-length-2 c = search needs

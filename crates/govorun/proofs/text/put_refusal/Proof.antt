@@ -53,9 +53,7 @@ returns c =
     let a = p .before .before .before .before in
     let d = a .before .before .before .before .before in
     let b = d .before .before .before .before in
-    put-over _ _ _ _ _ _ _ _ (b .put-bytes .ensures)
-    (put-over _ _ _ _ _ _ _ _ (d .put-decimal .ensures)
-    (put-over _ _ _ _ _ _ _ _ (a .put-bytes2 .ensures) (p .put-decimal2 .ensures)))
+    put-over (b .put-bytes .ensures) (put-over (d .put-decimal .ensures) (put-over (a .put-bytes2 .ensures) (p .put-decimal2 .ensures)))
 
 pub put-refusal-spec : {M : Type 1} → statement M
 put-refusal-spec =
