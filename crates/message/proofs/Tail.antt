@@ -4,10 +4,8 @@ use Prim.Native.Nat.{ℕ, suc, _<_}
 use mathlib.Core.Path.{_≡_, refl, sym, ap}
 use mathlib.Core.Bool.{Bool, true, false, cond, _&&_, _||_, or-false, or-true}
 use mathlib.Core.List.{List, [], _∷_, _++_, append-assoc, append-nil}
-use lib.Dec.{eqb}
 use lib.ListN.{length, getD, drop}
 use lib.Seq.{drop-cons, drop-length}
-use Rattle.spec.specs.Alphabet.{pause}
 use Rattle.spec.specs.Letters.{Letter, Message, last, more, putLetter, read, firstWord, isMark, isBreak, isGap, isVowel}
 use Rattle.spec.specs.Codes.{markOf, isVoicing}
 use Rattle.spec.specs.Syllables.{Facts, factsOf, hasMark, namesFrom, incomplete, nameOf, syllableOf}
@@ -22,7 +20,6 @@ use Rattle.message.specs.Fused.{toneBefore, letterCodes, fusedFrom}
 use Rattle.message.proofs.Fused.{word-fused, names-fused}
 use Rattle.message.specs.Places.{Left, leftAt, markBefore, markFrom, markedAt, factsAt, tailTape, tailNext, tailWord, tapeAt, wordAt, toneAt, soundAt, letterOf, codesAt, toneAfter, soundAfter, tailNamesOf, namesAt, Steady}
 use Rattle.message.proofs.Left.{mark-within, word-put, afterLetter, begins-at, mark-first, read-letter, read-mark, read-break, read-end, left-letter, left-mark, left-break, unmarked-after}
-use Rattle.message.proofs.Computed.{everything}
 
 -- at the start of a word its stretch is the tape of what follows
 pub start-tape : (hard : Bool) (r : Message) → segment hard false r ≡ tailTape (record { p = 0; q = 0; hard = hard }) (factsOf (firstWord r)) r

@@ -9,6 +9,7 @@ use lib.Dec.{leb}
 use borrow.Author.Tests.{le-leb, lt-leb}
 use Rattle.message.specs.Classes.{isBreakClass, isLetterClass, classAt}
 use Rattle.message.specs.Steps.{lettersAt}
+use borrow.Author.Needs.{needs}
 use Rattle.message.proofs.check.letters_at.Statement.{statement}
 use Rattle.message.proofs.check.letters_at.Tie as tie
 
@@ -41,24 +42,6 @@ Inv-loop m seen t from j₀ n₀ j n = Back m from (seen .at) j n
 abbrev μ-loop : tie.MeasureT-loop
 μ-loop m seen t from j₀ n₀ j n = j
 
-loop-holds : tie.Need-loop-holds Inv-loop μ-loop
-loop-holds c = let w = c .before .pre .1 in record { above = w .from; counted = omega arith; same = omega arith }
-
-sub-j : tie.Need-sub-j Inv-loop μ-loop
-sub-j c = omega (arith, c .loop-test .taken)
-
-shared-slice-read-class-of : tie.Need-shared-slice-read-class-of Inv-loop μ-loop
-shared-slice-read-class-of c = let l = c .before .before in omega (arith, l .loop .inv .counted, l .before .before .pre .1 .within, c .before .loop-test .taken)
-
-class-of-requires : tie.Need-class-of-requires Inv-loop μ-loop
-class-of-requires c κs = c .before .before .before .before .pre .0
-
-add-n : tie.Need-add-n Inv-loop μ-loop
-add-n c = let l = c .before .before .before .before in omega (arith, l .loop .inv .counted, l .before .before .pre .1 .within)
-
-loop-less : tie.Need-loop-less Inv-loop μ-loop
-loop-less c = omega (arith, c .before .before .before .loop-test .taken)
-
 loop-again : tie.Need-loop-again Inv-loop μ-loop
 loop-again c = let k = c .before in
     let l = k .before .before .before in
@@ -71,24 +54,12 @@ returns c = let k = c .before .before in
     let l = k .before .before .before in
     omega (arith, l .loop .inv .same, break-back (l .before .before .args .m .now) (l .loop .j) (omega (arith, k .before .before .loop-test .taken)) (omega (arith, k .class-of .ensures, c .if2 .taken)) (omega (arith, k .class-of .ensures, c .before .if1 .left)))
 
-loop-less-2 : tie.Need-loop-less-2 Inv-loop μ-loop
-loop-less-2 c = omega (arith, c .before .before .before .before .loop-test .taken)
-
 loop-again-2 : tie.Need-loop-again-2 Inv-loop μ-loop
 loop-again-2 c = let k = c .before .before in
     let l = k .before .before .before in
     let h = k .before .before .loop-test .taken in
     let e = other-back (l .before .before .args .m .now) (l .loop .j) (omega (arith, h)) (omega (arith, k .class-of .ensures, c .if2 .left)) in
     record { above = omega (arith, h); counted = omega (arith, l .loop .inv .counted, h); same = omega (arith, l .loop .inv .same, e) }
-
-add-result : tie.Need-add-result Inv-loop μ-loop
-add-result c = let s = c .before .before .before in omega (arith, s .pre .1 .from, s .pre .1 .within)
-
-sub-result : tie.Need-sub-result Inv-loop μ-loop
-sub-result c = omega (arith, c .before .before .before .before .pre .1 .limit)
-
-add-result-2 : tie.Need-add-result-2 Inv-loop μ-loop
-add-result-2 c = let l = c .before .before in let w = l .before .before .pre .1 in omega (arith, w .limit, w .from, w .within, l .loop .inv .counted)
 
 returns-2 : tie.Need-returns-2 Inv-loop μ-loop
 returns-2 c = let l = c .before .before in
@@ -102,17 +73,17 @@ letters-at-spec =
     (tie.spec
     Inv-loop
     μ-loop
-    loop-holds
-    sub-j
-    shared-slice-read-class-of
-    class-of-requires
-    add-n
-    loop-less
+    (λ c. search needs)
+    (λ c. search needs)
+    (λ c. search needs)
+    (λ c κs. search needs)
+    (λ c. search needs)
+    (λ c. search needs)
     loop-again
     returns
-    loop-less-2
+    (λ c. search needs)
     loop-again-2
-    add-result
-    sub-result
-    add-result-2
+    (λ c. search needs)
+    (λ c. search needs)
+    (λ c. search needs)
     returns-2)

@@ -5,9 +5,6 @@ use borrow.Author.Needs.{needs}
 use Rattle.message.proofs.check.next_kind.Statement.{statement}
 use Rattle.message.proofs.check.next_kind.Tie as tie
 
-add-result : tie.Need-add-result
-add-result c = search needs
-
 returns : tie.Need-returns
 unfolding nextKind
 returns c = rw (c .if1 .taken)
@@ -17,4 +14,4 @@ unfolding nextKind
 returns-2 c = rw (c .if1 .left)
 
 pub next-kind-spec : {M : Type 1} → statement M
-next-kind-spec = tie.close (tie.spec add-result returns returns-2)
+next-kind-spec = tie.close (tie.spec (λ c. search needs) returns returns-2)

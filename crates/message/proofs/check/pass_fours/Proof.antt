@@ -8,6 +8,7 @@ use Rattle.message.specs.declared.Seen.{Seen}
 use Rattle.message.specs.Steps.{Sees, fourAt, silentFour}
 use Rattle.message.proofs.Checking.{sum-small, Adds, sees-four}
 use Rattle.message.proofs.Faults.{kind-small}
+use borrow.Author.Needs.{needs}
 use Rattle.message.proofs.check.pass_fours.Statement.{statement}
 use Rattle.message.proofs.check.pass_fours.Tie as tie
 
@@ -33,14 +34,8 @@ four c =
     let h = c .before .before .loop-test .taken in
     sees-four (s .args .m .now) (bytes l) (seen l) (l .loop .inv .0) (s .pre .bytes _ h) (s .pre .room _ h) (omega (arith, c .before .sum-four .ensures, c .if1 .left))
 
-loop-holds : tie.Need-loop-holds Inv-loop μ-loop
-loop-holds c = (c .before .pre .sees, omega arith)
-
 sum-four-requires : tie.Need-sum-four-requires Inv-loop μ-loop
 sum-four-requires c κs = let l = c .before in let s = l .before .before in record { tables = s .pre .tables; kind = rw (l .loop .inv .0 .kind) (kind-small (s .args .m .now) (bytes l) (l .loop .at)); within = s .pre .bytes _ (c .loop-test .taken) }
-
-returns : tie.Need-returns Inv-loop μ-loop
-returns c = let l = c .before .before .before in (l .loop .inv .0, l .loop .inv .1)
 
 weigh-four-requires : tie.Need-weigh-four-requires Inv-loop μ-loop
 weigh-four-requires c κs = let s = c .before .before .before .before .before in
@@ -52,20 +47,8 @@ add-sum c = let l = c .before .before .before .before in
     let s = l .before .before in
     omega (arith, c .weigh-four .ensures, sum-small (s .args .m .now) (bytes l) (seen l) (l .loop .inv .0), l .loop .inv .0 .within, s .pre .short)
 
-add-class-of : tie.Need-add-class-of Inv-loop μ-loop
-add-class-of c = let l = c .before .before .before .before in omega (arith, l .loop .inv .0 .within, l .before .before .pre .short)
-
 shared-slice-read-class-of : tie.Need-shared-slice-read-class-of Inv-loop μ-loop
 shared-slice-read-class-of c = let l = c .before .before .before .before .before in omega (arith, l .before .before .pre .bytes _ (c .before .before .before .before .loop-test .taken))
-
-class-of-requires : tie.Need-class-of-requires Inv-loop μ-loop
-class-of-requires c κs = c .before .before .before .before .before .before .before .pre .tables .classes
-
-add-at : tie.Need-add-at Inv-loop μ-loop
-add-at c = let l = c .before .before .before .before .before .before in omega (arith, l .loop .inv .0 .within, l .before .before .pre .short)
-
-loop-less : tie.Need-loop-less Inv-loop μ-loop
-loop-less c = omega (arith, c .before .before .before .before .before .loop-test .taken)
 
 loop-again : tie.Need-loop-again Inv-loop μ-loop
 loop-again c = let w = c .before .before in
@@ -74,24 +57,21 @@ loop-again c = let w = c .before .before in
     let q = rw (e .before .sum-four .ensures) at (w .weigh-four .ensures) in
     (rw (c .class-of .ensures) (four e .seen _ (omega (arith, q))), omega (arith, l .loop .inv .1))
 
-returns-2 : tie.Need-returns-2 Inv-loop μ-loop
-returns-2 c = let l = c .before in (l .loop .inv .0, l .loop .inv .1)
-
 pub pass-fours-spec : {M : Type 1} → statement M
 pass-fours-spec =
     tie.close
     (tie.spec
     Inv-loop
     μ-loop
-    loop-holds
+    (λ c. search needs)
     sum-four-requires
-    returns
+    (λ c. search needs)
     weigh-four-requires
     add-sum
-    add-class-of
+    (λ c. search needs)
     shared-slice-read-class-of
-    class-of-requires
-    add-at
-    loop-less
+    (λ c κs. search needs)
+    (λ c. search needs)
+    (λ c. search needs)
     loop-again
-    returns-2)
+    (λ c. search needs))

@@ -19,15 +19,6 @@ t-or-d : (b : ℕ) → b < 256 → isTOrD b ≡ eqb (classOf b) 8
 unfolding everything
 t-or-d b h = below-same isTOrD (λ x. eqb (classOf x) 8) 256 b refl h
 
-shared-slice-read-is-t-or-d : tie.Need-shared-slice-read-is-t-or-d
-shared-slice-read-is-t-or-d c = search needs
-
-is-t-or-d-requires : tie.Need-is-t-or-d-requires
-is-t-or-d-requires c κs = search needs
-
-is-elided-requires : tie.Need-is-elided-requires
-is-elided-requires c κs = search needs
-
 returns : tie.Need-returns
 returns c = (rw (← c .before .is-elided .ensures, c .if2 .taken), omega arith)
 
@@ -43,9 +34,9 @@ pub silent-at-spec : {M : Type 1} → statement M
 silent-at-spec =
     tie.close
     (tie.spec
-    shared-slice-read-is-t-or-d
-    is-t-or-d-requires
-    is-elided-requires
+    (λ c. search needs)
+    (λ c κs. search needs)
+    (λ c κs. search needs)
     returns
     returns-2
     returns-3)

@@ -1,6 +1,6 @@
 -- The entry tells the case: a fault, or a byte that is passed unless it is a 65th letter.
 -- Assumes nothing.
-use Prim.Native.Nat.{ℕ, _*_, _-_, _%_, _<_, _≤_}
+use Prim.Native.Nat.{ℕ, _*_, _%_, _<_, _≤_}
 use mathlib.Core.Path.{sym, _∙_}
 use native.Mathlib.Numerals.{add-one}
 use native.Mathlib.Omega.{arith}
@@ -30,37 +30,16 @@ enough c = let r = c .before .before .count-on in gives (c .before .before .befo
 unstopped : (c : tie.Else1) → let k = c .before .before in let r = k .before .before .count-on .result in packed (r .kind) (classAt (k .before .before .before .before .args .m .now) (r .at)) < 2 * stopUnit
 unstopped c = omega (arith, c .before .entry-at .ensures .0, c .if1 .left)
 
-count-on-requires : tie.Need-count-on-requires
-count-on-requires c κs = search needs
-
-shared-slice-read-class-of : tie.Need-shared-slice-read-class-of
-shared-slice-read-class-of c = search needs
-
-class-of-requires : tie.Need-class-of-requires
-class-of-requires c κs = search needs
-
 entry-at-requires : tie.Need-entry-at-requires
 entry-at-requires c κs = let s = c .before .before .before .before in
     let r = c .before .before .count-on in
     record { tables = s .pre .tables; kind = rw (r .ensures .sees .kind) (kind-small (s .args .m .now) (bytes c) (r .result .at)); within = omega (arith, byte c) }
-
-mul-if1 : tie.Need-mul-if1
-mul-if1 c = search needs
-
-sub-t18 : tie.Need-sub-t18
-sub-t18 c = search needs
-
-cast-t19 : tie.Need-cast-t19
-cast-t19 c = omega (arith, c .before .entry-at .ensures .1)
 
 returns : tie.Need-returns
 returns c = let e = c .before in
     let k = e .before in
     let r = k .before .before .count-on in
     rw (← r .ensures .place, e .entry-at .ensures .0) (stop-here (k .before .before .before .before .args .m .now) (bytes k) (r .result) (r .ensures .sees) (byte k) (omega (arith, c .if1 .taken, e .entry-at .ensures .0)))
-
-is-too-many-requires : tie.Need-is-too-many-requires
-is-too-many-requires c κs = search needs
 
 returns-2 : tie.Need-returns-2
 returns-2 c = let b = c .before in
@@ -80,15 +59,9 @@ add-sum c = let k = c .before .before .before .before .before .before in
     let r = k .before .before .count-on in
     omega (arith, sum-small (s .args .m .now) (bytes k) (r .result) (r .ensures .sees), byte k, s .pre .short)
 
-silent-at-requires : tie.Need-silent-at-requires
-silent-at-requires c κs = byte (c .before .before .before .before .before .before)
-
 sub-sum : tie.Need-sub-sum
 sub-sum c = let k = c .before .before .before .before .before .before .before in
     omega (arith, c .silent-at .ensures .0, enough k, c .before .before .before .before .before .before .entry-at .ensures .0)
-
-add-t15 : tie.Need-add-t15
-add-t15 c = search needs
 
 returns-3 : tie.Need-returns-3
 returns-3 c = let n = c .before .before in
@@ -105,19 +78,19 @@ pub step-spec : {M : Type 1} → statement M
 step-spec =
     tie.close
     (tie.spec
-    count-on-requires
-    shared-slice-read-class-of
-    class-of-requires
+    (λ c κs. search needs)
+    (λ c. search needs)
+    (λ c κs. search needs)
     entry-at-requires
-    mul-if1
-    sub-t18
-    cast-t19
+    (λ c. search needs)
+    (λ c. search needs)
+    (λ c. search needs)
     returns
-    is-too-many-requires
+    (λ c κs. search needs)
     returns-2
     next-kind-requires
     add-sum
-    silent-at-requires
+    (λ c κs. search needs)
     sub-sum
-    add-t15
+    (λ c. search needs)
     returns-3)

@@ -62,24 +62,6 @@ heard p b c d e = by (eqb c «н») (eqb c «с») (eqb c «ц») (eqb c «ч»)
     by false false false false true z = absurd (false≢true (sym z))
     by false false false false false z = simp (and-false, or-false)
 
-fold-case-requires : tie.Need-fold-case-requires
-fold-case-requires c κs = search needs
-
-follows-elided-requires : tie.Need-follows-elided-requires
-follows-elided-requires c κs = search needs
-
-fold-case-requires-2 : tie.Need-fold-case-requires-2
-fold-case-requires-2 c κs = search needs
-
-fold-case-requires-3 : tie.Need-fold-case-requires-3
-fold-case-requires-3 c κs = search needs
-
-fold-case-requires-4 : tie.Need-fold-case-requires-4
-fold-case-requires-4 c κs = search needs
-
-elides-requires : tie.Need-elides-requires
-elides-requires c κs = search needs
-
 returns : tie.Need-returns
 returns c = let s = c .before .before .before .before .before .before .before in
     let a = s .args in
@@ -94,11 +76,11 @@ pub elides-byte-spec : {M : Type 1} → statement M
 elides-byte-spec =
     tie.close
     (tie.spec
-    fold-case-requires
-    follows-elided-requires
-    fold-case-requires-2
-    fold-case-requires-3
-    fold-case-requires-4
-    elides-requires
+    (λ c κs. search needs)
+    (λ c κs. search needs)
+    (λ c κs. search needs)
+    (λ c κs. search needs)
+    (λ c κs. search needs)
+    (λ c κs. search needs)
     returns
     returns-2)

@@ -10,14 +10,8 @@ returns : tie.Need-returns
 unfolding letterBefore
 returns c = rw (c .if1 .taken)
 
-sub-letter-at : tie.Need-sub-letter-at
-sub-letter-at c = search needs
-
-letter-at-requires : tie.Need-letter-at-requires
-letter-at-requires c κs = search needs
-
 returns-2 : tie.Need-returns-2
 returns-2 c = rw (← before-at _ _ (c .before .if1 .left)) (c .letter-at .ensures)
 
 pub letter-before-spec : {M : Type 1} → statement M
-letter-before-spec = tie.close (tie.spec returns sub-letter-at letter-at-requires returns-2)
+letter-before-spec = tie.close (tie.spec returns (λ c. search needs) (λ c κs. search needs) returns-2)

@@ -7,9 +7,6 @@ use Rattle.spec.specs.Letters.{small}
 use Rattle.message.proofs.letters.small_letter.Statement.{statement}
 use Rattle.message.proofs.letters.small_letter.Tie as tie
 
-add-result : tie.Need-add-result
-add-result c = search needs
-
 returns : tie.Need-returns
 unfolding small
 returns c = rw (c .match .keys1)
@@ -28,4 +25,4 @@ returns-4 c =
     rw (le-leb _ _ (c .before .if1 .left), lt-leb _ 0xDF (c .if2 .left), ne-eqb _ _ (c .before .before .match .rest .1))
 
 pub small-letter-spec : {M : Type 1} → statement M
-small-letter-spec = tie.close (tie.spec add-result returns returns-2 returns-3 returns-4)
+small-letter-spec = tie.close (tie.spec (λ c. search needs) returns returns-2 returns-3 returns-4)
