@@ -11,12 +11,12 @@ use lib.ListN.{length, getD}
 use borrow.Author.Tests.{eqb-true, eqb-false, leb-true, leb-false, ne-eqb}
 use Rattle.spec.specs.Refusals.{refusal, checkOf}
 use Rattle.message.specs.Classes.{isBreakClass, isLetterClass, classAt, silentAt}
-use Rattle.message.specs.Steps.{nextKind, faultIn, widthIn, namesIn, askIn, tailNames, packed, kindAt, widthAt, codesTo, namesTo, lettersAt, faultHere, Sees, fourAt, silentFour, Counted, finishOf, nameUnit, askUnit, stopUnit}
+use Rattle.message.specs.Steps.{nextKind, faultIn, widthIn, namesIn, askIn, stopIn, tailNames, packed, kindAt, widthAt, codesTo, namesTo, lettersAt, faultHere, Sees, fourAt, silentFour, Counted, finishOf, nameUnit, askUnit, stopUnit}
 use Rattle.spec.specs.declared.Checked.the-variants.{Accepted, Refused}
 use Rattle.message.specs.declared.Seen.{Seen}
 use Rattle.laws.proofs.Accepted.{countsOf}
 use Rattle.message.proofs.Steadiness.{accepted-steady}
-use Rattle.message.proofs.StepTable.{Entry, unpacks, silent-asks, width-silent, no-stop, stop-fault, first-stop}
+use Rattle.message.proofs.StepTable.{Entry, unpacks, silent-asks}
 use Rattle.message.proofs.Lengths.{codes-all, names-all}
 use Rattle.message.proofs.Faults.{here-clear, clear-here, entry-at, counts-up, last-refused, all-accepted}
 
@@ -117,7 +117,7 @@ module _ (m : List ℕ) (bytes : (j : ℕ) → getD m j 0 < 256) (s : Seen) (w :
 
   -- what it adds, with what it loses, is what its entry has
   adds : widthAt m (s .at) (kindAt m (s .at)) + silentAt m (s .at) + nameUnit * namesIn (kindAt m (s .at)) (classAt m (s .at)) ≡ packed (s .kind) (classAt m (s .at)) % askUnit
-  adds = rw (w .kind) (omega (arith, width-silent m (s .at) bytes, unpacks _ _ (entry-at m bytes (s .at)) .counts))
+  adds = rw (w .kind) (omega (arith, silent-asks m (s .at) bytes .1, unpacks _ _ (entry-at m bytes (s .at)) .counts))
 
   -- it is passed where it has no fault
   pub sees-more : (sum : ℕ) → faultHere m (s .at) ≡ 0 → sum + silentAt m (s .at) ≡ s .sum + packed (s .kind) (classAt m (s .at)) % askUnit
@@ -146,14 +146,13 @@ module _ (m : List ℕ) (bytes : (j : ℕ) → getD m j 0 < 256) (s : Seen) (w :
   pub stop-here : 2 * stopUnit ≤ packed (s .kind) (classAt m (s .at)) → let n = packed (s .kind) (classAt m (s .at)) / stopUnit - 1 in (faultHere m (s .at) ≡ n) × (n ≡ 0 → ⊥)
   unfolding faultHere
   stop-here l =
-      let u = unpacks _ _ entry-here .stop in
-      let f : packed (s .kind) (classAt m (s .at)) / stopUnit ≡ suc (faultIn (s .kind) (classAt m (s .at))) = u ∙ stop-fault (s .kind) (classAt m (s .at)) (λ e. omega (arith, u, e)) in
+      let f : packed (s .kind) (classAt m (s .at)) / stopUnit ≡ suc (faultIn (s .kind) (classAt m (s .at))) = omega (arith, unpacks _ _ entry-here .stop, entry-here .fault) in
       let z : faultIn (s .kind) (classAt m (s .at)) ≡ 0 → ⊥ = λ e. omega (arith, f, e) in
       (rw (← w .kind, ne-eqb (faultIn (s .kind) (classAt m (s .at))) 0 z) (omega (arith, f)), λ e. omega (arith, f, z, e))
 
   -- before it the byte has no fault but as a 65th letter
   first-here : packed (s .kind) (classAt m (s .at)) < 2 * stopUnit → faultIn (kindAt m (s .at)) (classAt m (s .at)) ≡ 0
-  first-here l = rw (← w .kind) (first-stop (s .kind) (classAt m (s .at)) (omega (arith, unpacks _ _ entry-here .stop)))
+  first-here l = rw (← w .kind) (omega (arith, unpacks _ _ entry-here .stop, entry-here .fault))
 
   -- a letter at the limit, where that is counted, is one
   pub full-here : packed (s .kind) (classAt m (s .at)) < 2 * stopUnit → (s .limit ≤ s .at → lettersAt m (s .at) ≡ 64) → (isLetterClass (classAt m (s .at)) && leb (s .limit) (s .at)) ≡ true
@@ -177,10 +176,8 @@ module _ (m : List ℕ) (bytes : (j : ℕ) → getD m j 0 < 256) (s : Seen) (w :
       → sum + silentAt m (s .at) ≡ s .sum + packed (s .kind) (classAt m (s .at)) % askUnit
       → Sees m (record { at = j; kind = classAt m (s .at); from = s .from; limit = s .limit; sum = sum })
   sees-plain j sum d l p e =
-      let u = unpacks _ _ entry-here in
-      let n = no-stop (s .kind) (classAt m (s .at)) (omega (arith, u .stop)) in
-      let r = sees-more sum (clear-below l (n .0)) e in
-      rw (← d, add-one (s .at)) (rw (n .1) at r)
+      let n : stopIn (s .kind) (classAt m (s .at)) ≡ 0 = omega (arith, unpacks _ _ entry-here .stop) in
+      rw (← d, add-one (s .at)) (rw (entry-here .plain n) at (sees-more sum (clear-below l (omega (arith, n, entry-here .fault))) e))
 
   -- What the entry has: as many codes as the byte loses, no ask where it loses none, and not much.
   pub record Gives : Type 0 where
@@ -194,7 +191,7 @@ module _ (m : List ℕ) (bytes : (j : ℕ) → getD m j 0 < 256) (s : Seen) (w :
       let u = unpacks _ _ entry-here in
       let a = silent-asks m (s .at) bytes in
       let b : silentAt m (s .at) ≤ askIn (s .kind) (classAt m (s .at)) = rw (w .kind) (a .0) in
-      let c : silentAt m (s .at) ≤ widthIn (s .kind) (classAt m (s .at)) = rw (w .kind) (a .1) in
+      let c : silentAt m (s .at) ≤ widthIn (s .kind) (classAt m (s .at)) = rw (w .kind) (omega (arith, a .1)) in
       record { enough = omega (arith, c, u .counts); plain = λ q. omega (arith, b, u .ask q); small = omega (arith, u .counts, entry-here .width, entry-here .names) }
 
 -- remainders that are small add up
