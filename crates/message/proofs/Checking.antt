@@ -194,10 +194,6 @@ module _ (m : List ℕ) (bytes : (j : ℕ) → getD m j 0 < 256) (s : Seen) (w :
       let c : silentAt m (s .at) ≤ widthIn (s .kind) (classAt m (s .at)) = rw (w .kind) (omega (arith, a .1)) in
       record { enough = omega (arith, c, u .counts); plain = λ q. omega (arith, b, u .ask q); small = omega (arith, u .counts, entry-here .width, entry-here .names) }
 
--- remainders that are small add up
-add-rest : (x y : ℕ) → x % askUnit + y % askUnit < askUnit → (x + y) % askUnit ≡ x % askUnit + y % askUnit
-add-rest x y h = omega (arith, h)
-
 -- n bytes from place i on, the first after kind k: the sum of their entries, the codes they lose, the kind after them
 unfoldable sums : List ℕ → ℕ → ℕ → ℕ → ℕ
 sums m k i zero = 0
@@ -242,7 +238,7 @@ adds-up m bytes (suc n) l s w h u p = by (adds-up m bytes n (omega arith) next s
     by : Adds m next n (sums m (next .kind) (next .at) n) (losses m (next .at) n) (kindPast m (next .kind) (next .at) n)
         → Adds m s (suc n) (sums m (s .kind) (s .at) (suc n)) (losses m (s .at) (suc n)) (kindPast m (s .kind) (s .at) (suc n))
     by r =
-        let a = add-rest (packed (s .kind) (classAt m (s .at))) (sums m (classAt m (s .at)) (suc (s .at)) n) (omega (arith, g .small, r .small, l)) in
+        let a : (packed (s .kind) (classAt m (s .at)) + sums m (classAt m (s .at)) (suc (s .at)) n) % askUnit ≡ packed (s .kind) (classAt m (s .at)) % askUnit + sums m (classAt m (s .at)) (suc (s .at)) n % askUnit = omega (arith, g .small, r .small, l) in
         record {
           enough = omega (arith, a, g .enough, r .enough);
           plain = λ q. omega (arith, g .plain (omega (arith, q)), r .plain (omega (arith, q)));

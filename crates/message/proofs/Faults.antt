@@ -2,7 +2,7 @@
 -- Assumes nothing.
 use Prim.Native.Nat.{ℕ, zero, suc, _*_, _<_, _≤_}
 use mathlib.Core.Path.{_≡_, refl, sym, _∙_}
-use mathlib.Core.Bool.{Bool, true, false, cond, _&&_, _||_, not, and-false, false≢true}
+use mathlib.Core.Bool.{Bool, true, false, cond, _&&_, _||_, not, and-false, or-assoc, or-comm, false≢true}
 use mathlib.Core.List.{List, [], _∷_}
 use native.Mathlib.Omega.{arith}
 use lib.Dec.{eqb}
@@ -46,19 +46,14 @@ next-tests : (k c : ℕ) → k < 16 → c < 13 → byteTests k c ≡ nextTests k
 unfolding everything
 next-tests k c h l = pairs-same byteTests nextTests 16 13 k c refl h l
 
--- a mark is no vowel
-mark-vowel : (b : ℕ) → isMark b ≡ true → vowelByte b ≡ false
-unfolding everything
-mark-vowel b e = rw (eqb-true b 42 e)
-
--- so a vowel right before is the adjacent letter
+-- a vowel right before is no mark, so it is the adjacent letter
 vowel-adjacent : (before : List ℕ) → first vowelByte before ≡ true → adjacent before ≡ before
-unfolding adjacent first
+unfolding everything
 vowel-adjacent [] e = refl
 vowel-adjacent (b ∷ before) e = by (isMark b) refl
   where
     by : (t : Bool) → isMark b ≡ t → cond t before (b ∷ before) ≡ b ∷ before
-    by true d = absurd (false≢true (sym (mark-vowel b d) ∙ e))
+    by true d = absurd (false≢true (rw (eqb-true b 42 d) at e))
     by false d = refl
 
 -- what a kind says of a vowel and of signs
@@ -136,18 +131,12 @@ fault-same true false k c h l = pairs-same (faultBy true false) (faultOf true fa
 fault-same false true k c h l = pairs-same (faultBy false true) (faultOf false true) 16 13 k c refl h l
 fault-same false false k c h l = pairs-same (faultBy false false) (faultOf false false) 16 13 k c refl h l
 
--- alternatives in another order
-or-swap : (x y z : Bool) → (x || (y || z)) ≡ (y || (x || z))
-or-swap true true z = refl
-or-swap true false z = refl
-or-swap false y z = refl
-
 -- the fault at a byte, by the kind before it and its class
 pub fault-told : (before : List ℕ) (k b : ℕ) (after : List ℕ) → k < 16 → ByClass b → Told before k
     → faultAt before b after ≡ faultOf (none after) (eqb (lettersBefore before) 64) k (classOf b)
 unfolding faultAt firstFit rows row3 row4 row5 row6 row7 row8 row9 row10
 fault-told before k b after h c t =
-    rw (or-swap (none before) (none after) (first isBreak before), t .start, t .vowel, t .sign, t .hardSign, t .vowelSigned, c .letter, c .mark, c .break, c .sign, c .consonant, c .vowel)
+    rw (or-comm (none after) (first isBreak before), ← or-assoc (none before) (first isBreak before) (none after), t .start, or-comm (isBreakClass k) (none after), t .vowel, t .sign, t .hardSign, t .vowelSigned, c .letter, c .mark, c .break, c .sign, c .consonant, c .vowel)
     (fault-same (none after) (eqb (lettersBefore before) 64) k (classOf b) h (c .class))
 
 -- a byte without a fault here has no number of the table of steps, and is no 65th letter

@@ -16,16 +16,16 @@ use Rattle.spec.specs.Syllables.{Facts, coverAfter, syllableOf, incomplete}
 use Rattle.spec.specs.Vowels.{bare, glides}
 use Rattle.spec.specs.Voicing.{Tone}
 use Rattle.spec.specs.Tape.{tape, names}
-use Rattle.spec.specs.Refusals.{vowelByte}
+use Rattle.spec.specs.Refusals.{vowelByte, consonantByte}
 use Rattle.message.specs.Classes.{classOf, isBreakClass, isConsonantClass, isLetterClass, letterAt, letterBefore, elidedAt}
 use Rattle.message.specs.Steps.{isSignKind, kindAt, widthIn, widthAt, codesTo, namesIn, namesTo, tailNames}
 use Rattle.spec.specs.declared.Cover.the-variants.{Bare, Covered}
-use Rattle.message.proofs.Bytes.{below, below-same, by-class, break-consonant, mark-consonant, letter-class}
-use Rattle.laws.proofs.Classes.{among-same}
+use Rattle.message.proofs.Bytes.{below, below-same, by-class, mark-consonant, letter-class}
+use Rattle.laws.proofs.Classes.{among-same, break-consonant}
 use Rattle.message.specs.Fused.{vowelCodes, letterCodes}
 use Rattle.message.specs.Places.{leftAt, factsAt, toneAt, soundAt, tapeAt, wordAt, letterOf, codesAt, namesAt, Steady}
 use Rattle.message.proofs.Tail.{tape-start, tape-end, tape-letter, tape-mark, tape-break, names-start, names-end, names-vowel, names-other, names-break}
-use Rattle.message.proofs.Before.{kind-consonant, kind-sign}
+use Rattle.message.proofs.Before.{kind-at}
 use Rattle.message.proofs.Silent.{plain-stays, elided-at}
 use Rattle.message.proofs.Computed.{everything}
 
@@ -81,8 +81,8 @@ module _ (m : List ℕ) (steady : Steady m) where
 
   -- a break is counted one code
   width-break : (i k : ℕ) → isBreak (getD m i 0) ≡ true → widthAt m i k ≡ 1
-  unfolding widthIn
-  width-break i k b = rw (width-kept i k (break-consonant _ (steady .bytes i) b), ← by-class (getD m i 0) (steady .bytes i) .break, b)
+  unfolding widthIn consonantByte
+  width-break i k b = rw (width-kept i k (break-consonant _ b), ← by-class (getD m i 0) (steady .bytes i) .break, b)
 
   -- a mark none
   width-mark : (i k : ℕ) → isMark (getD m i 0) ≡ true → widthAt m i k ≡ 0
@@ -99,7 +99,8 @@ module _ (m : List ℕ) (steady : Steady m) where
       let t = steady .bytes i in
       let l = letter-length (leftAt m i .hard) (factsAt m i) p (letterOf m i) (wordAt m (suc i)) (toneAt m (suc i)) (soundAt m (suc i)) in
       let n = heard-counted (isConsonant p) (isSign p) (getD m i 0) (consonant-firm p) t (letter-class (getD m i 0) t b k (steady .named i h)) in
-      l ∙ rw (elided-at m steady i h b k, n, kind-consonant m steady i (omega arith), kind-sign m steady i (omega arith))
+      let a = kind-at m steady i (omega arith) in
+      l ∙ rw (elided-at m steady i h b k, n, a .consonant, a .sign)
 
   -- each byte is counted as many codes as it puts before the rest's
   pub codes-step : (i : ℕ) → i < length m → length (tapeAt m i) ≡ widthAt m i (kindAt m i) + length (tapeAt m (suc i))
@@ -123,7 +124,7 @@ module _ (m : List ℕ) (steady : Steady m) where
   -- an incomplete syllable is counted where it is named
   pub names-tail : (i : ℕ) → i ≤ length m → length (incomplete (leftAt m i .p)) ≡ tailNames (kindAt m i)
   unfolding incomplete tailNames
-  names-tail i h = rw (kind-consonant m steady i h, kind-sign m steady i h) (one (isConsonantClass (kindAt m i) || isSignKind (kindAt m i)))
+  names-tail i h = rw (kind-at m steady i h .consonant, kind-at m steady i h .sign) (one (isConsonantClass (kindAt m i) || isSignKind (kindAt m i)))
     where
       one : (t : Bool) → length {A = ℕ} (cond t (7 ∷ []) []) ≡ cond t 1 0
       one true = refl

@@ -13,9 +13,10 @@ use Rattle.spec.specs.Alphabet.{«д», «з», «к», «н», «р», «с»,
 use Rattle.spec.specs.Tables.{among}
 use Rattle.spec.specs.Letters.{Letter, read, firstWord, firstByte, small, hardOnly, paired, softOnly, plainVowels, softeningVowels, isMark, isBreak, isVowel, isConsonant}
 use Rattle.spec.specs.Elision.{secondByte, elides, elidesT, elidesD, elidesAmong}
+use Rattle.spec.specs.Refusals.{consonantByte}
 use Rattle.message.specs.Classes.{letterAt, letterBefore, elidedAt}
-use Rattle.message.proofs.Bytes.{break-consonant, mark-consonant, consonant-vowel}
-use Rattle.laws.proofs.Classes.{among-same, among-none}
+use Rattle.message.proofs.Bytes.{mark-consonant, consonant-vowel}
+use Rattle.laws.proofs.Classes.{among-same, among-none, break-consonant}
 use Rattle.message.specs.Places.{leftAt, wordAt, letterOf, Steady}
 use Rattle.message.proofs.Left.{left-letter, left-mark, left-break, unmarked-after}
 use Rattle.message.proofs.Tail.{word-letter, word-break}
@@ -67,7 +68,7 @@ vowel-plain p h = among-same isConsonant (λ _. false) (plainVowels ++ softening
 module _ (m : List ℕ) (steady : Steady m) where
   -- the letter before a letter, and the byte before it
   pub alike-before : (i : ℕ) → i ≤ length m → Alike (leftAt m i .p) (letterBefore m i)
-  unfolding leftAt letterBefore letterAt letterOf
+  unfolding leftAt letterBefore letterAt letterOf consonantByte
   alike-before zero h = λ x c. refl
   alike-before (suc i) h = by (isBreak b) refl (isMark b) refl
     where
@@ -78,7 +79,7 @@ module _ (m : List ℕ) (steady : Steady m) where
       t = steady .bytes i
 
       by : (s : Bool) → isBreak b ≡ s → (k : Bool) → isMark b ≡ k → Alike (leftAt m (suc i) .p) (small b)
-      by true s k e = rw (left-break m i h s) (alike-none 0 (small b) none-plain (break-consonant b t s))
+      by true s k e = rw (left-break m i h s) (alike-none 0 (small b) none-plain (break-consonant b s))
       by false s true e = rw (left-mark m i h e) (alike-none (leftAt m i .p) (small b) (vowel-plain (leftAt m i .p) (vowel-before m steady i h e)) (mark-consonant b t e))
       by false s false e = rw (left-letter m i h s e) (λ x c. refl)
 
@@ -103,11 +104,11 @@ module _ (m : List ℕ) (steady : Steady m) where
 
   -- the first letter from a place on, and the byte there
   pub alike-at : (j : ℕ) → isMark (getD m j 0) ≡ false → Alike (firstByte (wordAt m j)) (letterAt m j)
-  unfolding letterAt letterOf firstByte
+  unfolding letterAt letterOf firstByte consonantByte
   alike-at j k =
       place (Alike (firstByte (wordAt m j)) (letterAt m j)) j
       (λ o. rw (word-past j o, letter-past j o) (λ x c. refl))
-      (λ h s. rw (word-break m steady j h s) (alike-none 0 (small (getD m j 0)) none-plain (break-consonant (getD m j 0) (steady .bytes j) s)))
+      (λ h s. rw (word-break m steady j h s) (alike-none 0 (small (getD m j 0)) none-plain (break-consonant (getD m j 0) s)))
       (λ h s. rw (word-letter m steady j h s k) (λ x c. refl))
 
   -- the second letter from a place on, and the byte after it, where the first is a consonant
