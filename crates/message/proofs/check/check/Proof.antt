@@ -18,8 +18,13 @@ returns-2 c =
     let n = length (c .before .before .before .args .m .now) in
     check-promised _ _ (rw (ne-eqb n 0 (c .before .if1 .left), lt-leb n 4096 (c .if2 .taken)))
 
-returns-3 : tie.Need-returns-3
-returns-3 c = check-promised _ _ (c .walk .ensures)
-
 pub check-spec : {M : Type 1} → statement M
-check-spec = tie.close (tie.spec returns returns-2 (λ c κs. search needs) (λ c κs. search needs) (λ c κs. search needs) returns-3)
+check-spec =
+    tie.close
+    (tie.spec
+    returns
+    returns-2
+    (λ c κs. search needs)
+    (λ c κs. search needs)
+    (λ c κs. search needs)
+    (λ c. check-promised _ _ (c .walk .ensures)))

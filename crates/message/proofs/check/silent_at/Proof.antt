@@ -19,12 +19,6 @@ t-or-d : (b : ℕ) → b < 256 → isTOrD b ≡ eqb (classOf b) 8
 unfolding everything
 t-or-d b h = below-same isTOrD (λ x. eqb (classOf x) 8) 256 b refl h
 
-returns : tie.Need-returns
-returns c = (rw (← c .before .is-elided .ensures, c .if2 .taken), omega arith)
-
-returns-2 : tie.Need-returns-2
-returns-2 c = (rw (← c .before .is-elided .ensures, c .if2 .left), omega arith)
-
 returns-3 : tie.Need-returns-3
 returns-3 c = let s = c .before .before .before .before in
     let h : getD (s .args .m .now) (s .args .i) 0 < 256 = omega (arith, c .before .before .before .shared-slice-known .given (s .args .i)) in
@@ -37,6 +31,6 @@ silent-at-spec =
     (λ c. search needs)
     (λ c κs. search needs)
     (λ c κs. search needs)
-    returns
-    returns-2
+    (λ c. (rw (← c .before .is-elided .ensures, c .if2 .taken), omega arith))
+    (λ c. (rw (← c .before .is-elided .ensures, c .if2 .left), omega arith))
     returns-3)

@@ -21,9 +21,6 @@ abbrev μ-loop : tie.MeasureT-loop
 bytes : (l : tie.At-loop Inv-loop μ-loop) (j : ℕ) → getD (l .before .before .args .m .now) j 0 < 256
 bytes l j = omega (arith, l .before .shared-slice-known .given j)
 
-loop-holds : tie.Need-loop-holds Inv-loop μ-loop
-loop-holds c = sees-none (c .before .args .m .now)
-
 pass-fours-requires : tie.Need-pass-fours-requires Inv-loop μ-loop
 pass-fours-requires c κs = let l = c .before .before .before .before in
     let s = l .before .before in
@@ -64,7 +61,7 @@ walk-spec =
     (tie.spec
     Inv-loop
     μ-loop
-    loop-holds
+    (λ c. sees-none (c .before .args .m .now))
     (λ c κs. search needs)
     (λ c κs. search needs)
     pass-fours-requires

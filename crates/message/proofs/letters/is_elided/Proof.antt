@@ -12,14 +12,6 @@ use borrow.Author.Needs.{needs}
 use Rattle.message.proofs.letters.is_elided.Statement.{statement}
 use Rattle.message.proofs.letters.is_elided.Tie as tie
 
-returns : tie.Need-returns
-unfolding elidedAt elidesAmong elidesT elidesD letterBefore
-returns c = rw (c .if1 .taken) (simp and-false)
-
-returns-2 : tie.Need-returns-2
-unfolding elidedAt elidesAmong elidesT elidesD letterAt small
-returns-2 c = rw (List·getD-eq-default {A = ℕ} _ 0 (c .if2 .taken)) (simp and-false)
-
 returns-3 : tie.Need-returns-3
 unfolding elidedAt letterAt
 returns-3 c =
@@ -33,12 +25,13 @@ unfolding elidedAt letterAt
 returns-4 c = rw (← before-at _ _ (c .before .before .before .before .before .before .before .if1 .left)) (c .elides-byte2 .ensures)
 
 pub is-elided-spec : {M : Type 1} → statement M
+unfolding elidedAt elidesAmong elidesT elidesD letterBefore letterAt small
 is-elided-spec =
     tie.close
     (tie.spec
-    returns
+    (λ c. rw (c .if1 .taken) (simp and-false))
     (λ c. search needs)
-    returns-2
+    (λ c. rw (List·getD-eq-default {A = ℕ} _ 0 (c .if2 .taken)) (simp and-false))
     (λ c. search needs)
     (λ c. search needs)
     (λ c. search needs)

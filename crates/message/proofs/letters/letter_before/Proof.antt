@@ -6,12 +6,12 @@ use Rattle.message.proofs.StepTable.{before-at}
 use Rattle.message.proofs.letters.letter_before.Statement.{statement}
 use Rattle.message.proofs.letters.letter_before.Tie as tie
 
-returns : tie.Need-returns
-unfolding letterBefore
-returns c = rw (c .if1 .taken)
-
-returns-2 : tie.Need-returns-2
-returns-2 c = rw (← before-at _ _ (c .before .if1 .left)) (c .letter-at .ensures)
-
 pub letter-before-spec : {M : Type 1} → statement M
-letter-before-spec = tie.close (tie.spec returns (λ c. search needs) (λ c κs. search needs) returns-2)
+unfolding letterBefore
+letter-before-spec =
+    tie.close
+    (tie.spec
+    (λ c. rw (c .if1 .taken))
+    (λ c. search needs)
+    (λ c κs. search needs)
+    (λ c. rw (← before-at _ _ (c .before .if1 .left)) (c .letter-at .ensures)))
