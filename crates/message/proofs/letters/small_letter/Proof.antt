@@ -7,10 +7,6 @@ use Rattle.spec.specs.Letters.{small}
 use Rattle.message.proofs.letters.small_letter.Statement.{statement}
 use Rattle.message.proofs.letters.small_letter.Tie as tie
 
-returns-2 : tie.Need-returns-2
-unfolding small
-returns-2 c = rw (le-leb _ _ (c .before .if1 .left), le-leb (c .before .before .before .args .b) 0xDF (omega arith))
-
 returns-4 : tie.Need-returns-4
 unfolding small
 returns-4 c =
@@ -23,6 +19,6 @@ small-letter-spec =
     (tie.spec
     (λ c. search needs)
     (λ c. rw (c .match .keys1))
-    returns-2
+    (λ c. rw (le-leb _ _ (c .before .if1 .left), le-leb (c .before .before .before .args .b) 0xDF (omega arith)))
     (λ c. rw (lt-leb _ _ (c .if1 .taken), ne-eqb _ _ (c .before .match .rest .1)))
     returns-4)
