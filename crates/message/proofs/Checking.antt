@@ -4,7 +4,6 @@ use Prim.Native.Nat.{ℕ, zero, suc, _+_, _-_, _*_, _/_, _%_, _<_, _≤_}
 use mathlib.Core.Path.{_≡_, refl, sym, _∙_}
 use mathlib.Core.Bool.{Bool, true, false, cond, _&&_, and-false, and-eq-true-iff, false≢true}
 use mathlib.Core.List.{List}
-use native.Mathlib.Numerals.{add-one}
 use native.Mathlib.Omega.{arith}
 use lib.Dec.{eqb, leb}
 use lib.ListN.{length, getD}
@@ -21,8 +20,8 @@ use Rattle.message.proofs.Lengths.{codes-all, names-all}
 use Rattle.message.proofs.Faults.{here-clear, clear-here, entry-at, counts-up, last-refused, all-accepted}
 
 -- the end of the walk is the check's answer
-pub seen-all : (m : List ℕ) (s : Seen) → ((j : ℕ) → getD m j 0 < 256) → 0 < length m → length m ≤ 4096 → Sees m s → s .at ≡ length m → finishOf (length m) s ≡ checkOf m
-seen-all m s bytes z l w e = rw (rw e at (w .kind), codes, names) (by (isBreakClass (kindAt m (length m))) refl)
+pub seen-all : (m : List ℕ) (s : Seen) → 0 < length m → length m ≤ 4096 → Sees m s → s .at ≡ length m → finishOf (length m) s ≡ checkOf m
+seen-all m s z l w e = rw (rw e at (w .kind), codes, names) (by (isBreakClass (kindAt m (length m))) refl)
   where
     n : ℕ
     n = length m
@@ -31,7 +30,7 @@ seen-all m s bytes z l w e = rw (rw e at (w .kind), codes, names) (by (isBreakCl
     size = omega (arith, z)
 
     up : (codesTo m n ≤ 2 * n) × (namesTo m n ≤ n)
-    up = counts-up m bytes n
+    up = counts-up m (w .bytes) n
 
     sum : s .sum ≡ codesTo m n + nameUnit * namesTo m n
     sum = rw e at (w .sum)
@@ -44,10 +43,10 @@ seen-all m s bytes z l w e = rw (rw e at (w .kind), codes, names) (by (isBreakCl
 
     by : (t : Bool) → isBreakClass (kindAt m n) ≡ t
         → cond t (Refused (refusal 4 (n - 1))) (Accepted (record { codes = codesTo m n; names = namesTo m n + tailNames (kindAt m n) })) ≡ checkOf m
-    by true d = sym (last-refused m bytes (n - 1) size l (rw e at (w .clear)) d)
+    by true d = sym (last-refused m (w .bytes) (n - 1) size l (rw e at (w .clear)) d)
     by false d =
-        let q = all-accepted m bytes (n - 1) size l (rw e at (w .clear)) d in
-        let y = accepted-steady m (countsOf m) q bytes in
+        let q = all-accepted m (w .bytes) (n - 1) size l (rw e at (w .clear)) d in
+        let y = accepted-steady m (countsOf m) q (w .bytes) in
         sym (q ∙ rw (codes-all m y, names-all m y))
 
 -- a byte more is one letter more at most
@@ -82,13 +81,13 @@ letters-most m (suc i) c = by (isBreakClass (classAt m i)) (isLetterClass (class
     by false false e h = h
 
 -- at the start nothing is seen
-pub sees-none : (m : List ℕ) → Sees m (record { at = 0; kind = 2; from = 0; limit = 64; sum = 0 })
+pub sees-none : (m : List ℕ) → ((j : ℕ) → getD m j 0 < 256) → Sees m (record { at = 0; kind = 2; from = 0; limit = 64; sum = 0 })
 unfolding kindAt codesTo namesTo lettersAt
-sees-none m = record { within = omega arith; clear = λ j h. absurd (omega arith); kind = refl; sum = refl; from = omega arith; limit = refl }
+sees-none m bytes = record { bytes = bytes; within = omega arith; clear = λ j h. absurd (omega arith); kind = refl; sum = refl; from = omega arith; limit = refl }
 
 -- a sum is small
-pub sum-small : (m : List ℕ) → ((j : ℕ) → getD m j 0 < 256) → (s : Seen) → Sees m s → s .sum ≤ (nameUnit + 2) * s .at
-sum-small m bytes s w = let u = counts-up m bytes (s .at) in omega (arith, w .sum, u .0, u .1)
+pub sum-small : (m : List ℕ) (s : Seen) → Sees m s → s .sum ≤ (nameUnit + 2) * s .at
+sum-small m s w = let u = counts-up m (w .bytes) (s .at) in omega (arith, w .sum, u .0, u .1)
 
 -- before the limit a word has room for a letter
 pub below-limit : (m : List ℕ) (s : Seen) → Sees m s → s .at < s .limit → lettersAt m (s .at) < 64
@@ -104,26 +103,27 @@ pub sees-counted : (m : List ℕ) (s : Seen) (n : ℕ) → Sees m s → n ≡ le
 sees-counted m s n w e =
     let h = letters-most m (s .at) (w .clear) in
     record {
-      sees = record { within = w .within; clear = w .clear; kind = w .kind; sum = w .sum; from = omega arith; limit = omega (arith, e, h) };
+      sees = record { bytes = w .bytes; within = w .within; clear = w .clear; kind = w .kind; sum = w .sum; from = omega arith; limit = omega (arith, e, h) };
       place = refl;
       full = λ l. omega (arith, l, e, h);
     }
 
 -- The check sees all up to a byte.
-module _ (m : List ℕ) (bytes : (j : ℕ) → getD m j 0 < 256) (s : Seen) (w : Sees m s) (h : s .at < length m) where
+module _ (m : List ℕ) (s : Seen) (w : Sees m s) (h : s .at < length m) where
   -- its entry
   pub entry-here : Entry (s .kind) (classAt m (s .at))
-  entry-here = rw (w .kind) (entry-at m bytes (s .at))
+  entry-here = rw (w .kind) (entry-at m (w .bytes) (s .at))
 
   -- what it adds, with what it loses, is what its entry has
   adds : widthAt m (s .at) (kindAt m (s .at)) + silentAt m (s .at) + nameUnit * namesIn (kindAt m (s .at)) (classAt m (s .at)) ≡ packed (s .kind) (classAt m (s .at)) % askUnit
-  adds = rw (w .kind) (omega (arith, silent-asks m (s .at) bytes .1, unpacks _ _ (entry-at m bytes (s .at)) .counts))
+  adds = rw (w .kind) (omega (arith, silent-asks m (s .at) (w .bytes) .1, unpacks _ _ (entry-at m (w .bytes) (s .at)) .counts))
 
   -- it is passed where it has no fault
   pub sees-more : (sum : ℕ) → faultHere m (s .at) ≡ 0 → sum + silentAt m (s .at) ≡ s .sum + packed (s .kind) (classAt m (s .at)) % askUnit
       → Sees m (record { at = suc (s .at); kind = nextKind (s .kind) (classAt m (s .at)); from = s .from; limit = s .limit; sum = sum })
   unfolding kindAt codesTo namesTo
   sees-more sum f e = record {
+    bytes = w .bytes;
     within = h;
     clear = λ j b. by j (eqb j (s .at)) refl b;
     kind = rw (w .kind);
@@ -171,13 +171,13 @@ module _ (m : List ℕ) (bytes : (j : ℕ) → getD m j 0 < 256) (s : Seen) (w :
       by true false d z = ne-eqb (lettersAt m (s .at)) 64 (λ e. omega (arith, below-limit m s w (omega (arith, leb-false (s .limit) (s .at) d)), e))
       by false u d z = refl
 
-  -- where it is enough to add, its class is the next kind; j is the next place
-  pub sees-plain : (j sum : ℕ) → s .at + 1 ≡ j → s .at < s .limit → packed (s .kind) (classAt m (s .at)) < stopUnit
+  -- where it is enough to add, its class is the next kind
+  pub sees-plain : (sum : ℕ) → s .at < s .limit → packed (s .kind) (classAt m (s .at)) < stopUnit
       → sum + silentAt m (s .at) ≡ s .sum + packed (s .kind) (classAt m (s .at)) % askUnit
-      → Sees m (record { at = j; kind = classAt m (s .at); from = s .from; limit = s .limit; sum = sum })
-  sees-plain j sum d l p e =
+      → Sees m (record { at = suc (s .at); kind = classAt m (s .at); from = s .from; limit = s .limit; sum = sum })
+  sees-plain sum l p e =
       let n : stopIn (s .kind) (classAt m (s .at)) ≡ 0 = omega (arith, unpacks _ _ entry-here .stop) in
-      rw (← d, add-one (s .at)) (rw (entry-here .plain n) at (sees-more sum (clear-below l (omega (arith, n, entry-here .fault))) e))
+      rw (entry-here .plain n) at (sees-more sum (clear-below l (omega (arith, n, entry-here .fault))) e)
 
   -- What the entry has: as many codes as the byte loses, no ask where it loses none, and not much.
   pub record Gives : Type 0 where
@@ -189,7 +189,7 @@ module _ (m : List ℕ) (bytes : (j : ℕ) → getD m j 0 < 256) (s : Seen) (w :
   pub gives : Gives
   gives =
       let u = unpacks _ _ entry-here in
-      let a = silent-asks m (s .at) bytes in
+      let a = silent-asks m (s .at) (w .bytes) in
       let b : silentAt m (s .at) ≤ askIn (s .kind) (classAt m (s .at)) = rw (w .kind) (a .0) in
       let c : silentAt m (s .at) ≤ widthIn (s .kind) (classAt m (s .at)) = rw (w .kind) (omega (arith, a .1)) in
       record { enough = omega (arith, c, u .counts); plain = λ q. omega (arith, b, u .ask q); small = omega (arith, u .counts, entry-here .width, entry-here .names) }
@@ -215,25 +215,25 @@ pub record Adds (m : List ℕ) (s : Seen) (n x lost k : ℕ) : Type 0 where
   pub seen : (sum : ℕ) → sum + lost ≡ s .sum + x % askUnit → Sees m (record { at = s .at + n; kind = k; from = s .from; limit = s .limit; sum = sum })
 
 -- one after the other
-adds-up : (m : List ℕ) → ((j : ℕ) → getD m j 0 < 256) → (n : ℕ) → n ≤ 7 → (s : Seen) → Sees m s → s .at + n ≤ length m → s .at + n ≤ s .limit → sums m (s .kind) (s .at) n < stopUnit
+adds-up : (m : List ℕ) (n : ℕ) → n ≤ 7 → (s : Seen) → Sees m s → s .at + n ≤ length m → s .at + n ≤ s .limit → sums m (s .kind) (s .at) n < stopUnit
     → Adds m s n (sums m (s .kind) (s .at) n) (losses m (s .at) n) (kindPast m (s .kind) (s .at) n)
 unfolding sums losses kindPast
-adds-up m bytes zero l s w h u p = record {
+adds-up m zero l s w h u p = record {
   enough = omega arith;
   plain = λ q. refl;
   small = omega arith;
   seen = λ sum e. let z : s .at + 0 ≡ s .at = omega arith in let d : sum ≡ s .sum = omega (arith, e) in rw (z, d) w;
 }
-adds-up m bytes (suc n) l s w h u p = by (adds-up m bytes n (omega arith) next seen (omega (arith, h)) (omega (arith, u)) (omega (arith, p)))
+adds-up m (suc n) l s w h u p = by (adds-up m n (omega arith) next seen (omega (arith, h)) (omega (arith, u)) (omega (arith, p)))
   where
-    g : Gives m bytes s w (omega (arith, h))
-    g = gives m bytes s w (omega (arith, h))
+    g : Gives m s w (omega (arith, h))
+    g = gives m s w (omega (arith, h))
 
     next : Seen
     next = record { at = suc (s .at); kind = classAt m (s .at); from = s .from; limit = s .limit; sum = s .sum + packed (s .kind) (classAt m (s .at)) % askUnit - silentAt m (s .at) }
 
     seen : Sees m next
-    seen = sees-plain m bytes s w (omega (arith, h)) (suc (s .at)) _ (omega arith) (omega (arith, u)) (omega (arith, p)) (omega (arith, g .enough))
+    seen = sees-plain m s w (omega (arith, h)) _ (omega (arith, u)) (omega (arith, p)) (omega (arith, g .enough))
 
     by : Adds m next n (sums m (next .kind) (next .at) n) (losses m (next .at) n) (kindPast m (next .kind) (next .at) n)
         → Adds m s (suc n) (sums m (s .kind) (s .at) (suc n)) (losses m (s .at) (suc n)) (kindPast m (s .kind) (s .at) (suc n))
@@ -256,8 +256,8 @@ fours m k i =
     rw (a, b, c) (omega arith, omega arith, refl)
 
 -- four need only be added where their sum has no stop
-pub sees-four : (m : List ℕ) → ((j : ℕ) → getD m j 0 < 256) → (s : Seen) → Sees m s → s .at + 4 ≤ length m → s .at + 4 ≤ s .limit → fourAt m (s .at) (s .kind) < stopUnit
+pub sees-four : (m : List ℕ) (s : Seen) → Sees m s → s .at + 4 ≤ length m → s .at + 4 ≤ s .limit → fourAt m (s .at) (s .kind) < stopUnit
     → Adds m s 4 (fourAt m (s .at) (s .kind)) (silentFour m (s .at)) (classAt m (s .at + 3))
-sees-four m bytes s w h l p =
+sees-four m s w h l p =
     let f = fours m (s .kind) (s .at) in
-    rw (f .0, f .1, f .2) (adds-up m bytes 4 (omega arith) s w h l (rw (f .0) at p))
+    rw (f .0, f .1, f .2) (adds-up m 4 (omega arith) s w h l (rw (f .0) at p))

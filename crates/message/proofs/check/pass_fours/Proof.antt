@@ -1,8 +1,7 @@
 -- Four bytes without a stop are seen one after the other; at the first stop, or at the end, what is seen stays true.
 -- Assumes nothing.
-use Prim.Native.Nat.{ℕ, _+_, _-_, _<_, _≤_}
+use Prim.Native.Nat.{_+_, _-_, _≤_}
 use native.Mathlib.Omega.{arith}
-use lib.ListN.{getD}
 use Rattle.message.specs.Classes.{classAt}
 use Rattle.message.specs.declared.Seen.{Seen}
 use Rattle.message.specs.Steps.{Sees, fourAt, silentFour}
@@ -18,10 +17,6 @@ Inv-loop m to t s from limit at₀ kind₀ sum₀ at kind sum = Sees m (record {
 abbrev μ-loop : tie.MeasureT-loop
 μ-loop m to t s from limit at₀ kind₀ sum₀ at kind sum = to - at
 
--- every byte is one
-bytes : (l : tie.At-loop Inv-loop μ-loop) (j : ℕ) → getD (l .before .before .args .m .now) j 0 < 256
-bytes l j = omega (arith, l .before .shared-slice-known .given j)
-
 -- what is seen at the loop's head
 abbrev seen : tie.At-loop Inv-loop μ-loop → Seen
 seen l = record { at = l .loop .at; kind = l .loop .kind; from = l .before .before .args .seen .from; limit = l .before .before .args .seen .limit; sum = l .loop .sum }
@@ -32,10 +27,10 @@ four c =
     let l = c .before .before .before in
     let s = l .before .before in
     let h = c .before .before .loop-test .taken in
-    sees-four (s .args .m .now) (bytes l) (seen l) (l .loop .inv .0) (s .pre .bytes _ h) (s .pre .room _ h) (omega (arith, c .before .sum-four .ensures, c .if1 .left))
+    sees-four (s .args .m .now) (seen l) (l .loop .inv .0) (s .pre .bytes _ h) (s .pre .room _ h) (omega (arith, c .before .sum-four .ensures, c .if1 .left))
 
 sum-four-requires : tie.Need-sum-four-requires Inv-loop μ-loop
-sum-four-requires c κs = let l = c .before in let s = l .before .before in record { tables = s .pre .tables; kind = rw (l .loop .inv .0 .kind) (kind-small (s .args .m .now) (bytes l) (l .loop .at)); within = s .pre .bytes _ (c .loop-test .taken) }
+sum-four-requires c κs = let l = c .before in let s = l .before .before in record { tables = s .pre .tables; kind = rw (l .loop .inv .0 .kind) (kind-small (s .args .m .now) (l .loop .inv .0 .bytes) (l .loop .at)); within = s .pre .bytes _ (c .loop-test .taken) }
 
 weigh-four-requires : tie.Need-weigh-four-requires Inv-loop μ-loop
 weigh-four-requires c κs = let s = c .before .before .before .before .before in
@@ -45,7 +40,7 @@ weigh-four-requires c κs = let s = c .before .before .before .before .before in
 add-sum : tie.Need-add-sum Inv-loop μ-loop
 add-sum c = let l = c .before .before .before .before in
     let s = l .before .before in
-    omega (arith, c .weigh-four .ensures, sum-small (s .args .m .now) (bytes l) (seen l) (l .loop .inv .0), l .loop .inv .0 .within, s .pre .short)
+    omega (arith, c .weigh-four .ensures, sum-small (s .args .m .now) (seen l) (l .loop .inv .0), l .loop .inv .0 .within, s .pre .short)
 
 shared-slice-read-class-of : tie.Need-shared-slice-read-class-of Inv-loop μ-loop
 shared-slice-read-class-of c = let l = c .before .before .before .before .before in omega (arith, l .before .before .pre .bytes _ (c .before .before .before .before .loop-test .taken))

@@ -1,9 +1,9 @@
 -- Each turn passes bytes that have no fault or finds the first that has one; the measure is what is left of the message.
 -- Assumes nothing.
-use Prim.Native.Nat.{ℕ, _-_, _<_}
+use Prim.Native.Nat.{_-_}
 use mathlib.Core.Path.{_∙_}
 use native.Mathlib.Omega.{arith}
-use lib.ListN.{length, getD}
+use lib.ListN.{length}
 use borrow.Author.Needs.{needs}
 use Rattle.message.specs.Steps.{Sees}
 use Rattle.message.proofs.Checking.{sees-none, seen-all}
@@ -16,10 +16,6 @@ Inv-loop m t s seen₀ seen = Sees m seen
 
 abbrev μ-loop : tie.MeasureT-loop
 μ-loop m t s seen₀ seen = length m - seen .at
-
--- every byte is one
-bytes : (l : tie.At-loop Inv-loop μ-loop) (j : ℕ) → getD (l .before .before .args .m .now) j 0 < 256
-bytes l j = omega (arith, l .before .shared-slice-known .given j)
 
 pass-fours-requires : tie.Need-pass-fours-requires Inv-loop μ-loop
 pass-fours-requires c κs = let l = c .before .before .before .before in
@@ -34,7 +30,8 @@ returns c = let n = c .before in
     let l = p .before .before .before .before .before in
     let s = l .before .before in
     let q = rw (n .number .given .1) at (t .step .ensures) in
-    seen-fault (s .args .m .now) (bytes l) _ _ (t .before .if2 .taken) (s .pre .short) (p .pass-fours .ensures .0 .clear) (q .0) (q .1)
+    let w = p .pass-fours .ensures .0 in
+    seen-fault (s .args .m .now) (w .bytes) _ _ (t .before .if2 .taken) (s .pre .short) (w .clear) (q .0) (q .1)
 
 loop-less : tie.Need-loop-less Inv-loop μ-loop
 loop-less c = let n = c .before in
@@ -53,7 +50,7 @@ returns-2 c = let e = c .before in
     let l = e .before .before in
     let s = l .before .before in
     let w = l .loop .inv in
-    c .finish .ensures ∙ seen-all (s .args .m .now) (l .loop .seen) (bytes l) (s .pre .some) (s .pre .short) w (omega (arith, w .within, e .if1 .left))
+    c .finish .ensures ∙ seen-all (s .args .m .now) (l .loop .seen) (s .pre .some) (s .pre .short) w (omega (arith, w .within, e .if1 .left))
 
 pub walk-spec : {M : Type 1} → statement M
 walk-spec =
@@ -61,7 +58,7 @@ walk-spec =
     (tie.spec
     Inv-loop
     μ-loop
-    (λ c. sees-none (c .before .args .m .now))
+    (λ c. sees-none _ (λ j. omega (arith, c .shared-slice-known .given j)))
     (λ c κs. search needs)
     (λ c κs. search needs)
     pass-fours-requires
