@@ -17,7 +17,7 @@ use Rattle.laws.proofs.Accepted.{countsOf}
 use Rattle.message.proofs.Steadiness.{accepted-steady}
 use Rattle.message.proofs.StepTable.{Entry, unpacks, silent-asks}
 use Rattle.message.proofs.Lengths.{codes-all, names-all}
-use Rattle.message.proofs.Faults.{here-clear, clear-here, entry-at, counts-up, last-refused, all-accepted}
+use Rattle.message.proofs.Faults.{here-clear, clear-here, kind-small, entry-at, counts-up, last-refused, all-accepted}
 
 -- the end of the walk is the check's answer
 pub seen-all : (m : List ℕ) (s : Seen) → 0 < length m → length m ≤ 4096 → Sees m s → s .at ≡ length m → finishOf (length m) s ≡ checkOf m
@@ -85,9 +85,9 @@ pub sees-none : (m : List ℕ) → ((j : ℕ) → getD m j 0 < 256) → Sees m (
 unfolding kindAt codesTo namesTo lettersAt
 sees-none m bytes = record { bytes = bytes; within = omega arith; clear = λ j h. absurd (omega arith); kind = refl; sum = refl; from = omega arith; limit = refl }
 
--- a sum is small
-pub sum-small : (m : List ℕ) (s : Seen) → Sees m s → s .sum ≤ (nameUnit + 2) * s .at
-sum-small m s w = let u = counts-up m (w .bytes) (s .at) in omega (arith, w .sum, u .0, u .1)
+-- a kind has its row in the table, and a sum is small
+pub sees-small : {m : List ℕ} {s : Seen} → Sees m s → (s .kind < 16) × (s .sum ≤ (nameUnit + 2) * s .at)
+sees-small {m} {s} w = let u = counts-up m (w .bytes) (s .at) in (rw (w .kind) (kind-small m (w .bytes) (s .at)), omega (arith, w .sum, u .0, u .1))
 
 -- before the limit a word has room for a letter
 pub below-limit : (m : List ℕ) (s : Seen) → Sees m s → s .at < s .limit → lettersAt m (s .at) < 64
@@ -109,7 +109,7 @@ sees-counted m s n w e =
     }
 
 -- The check sees all up to a byte.
-module _ (m : List ℕ) (s : Seen) (w : Sees m s) (h : s .at < length m) where
+module _ {m : List ℕ} {s : Seen} (w : Sees m s) (h : s .at < length m) where
   -- its entry
   pub entry-here : Entry (s .kind) (classAt m (s .at))
   entry-here = rw (w .kind) (entry-at m (w .bytes) (s .at))
@@ -226,14 +226,14 @@ adds-up m zero l s w h u p = record {
 }
 adds-up m (suc n) l s w h u p = by (adds-up m n (omega arith) next seen (omega (arith, h)) (omega (arith, u)) (omega (arith, p)))
   where
-    g : Gives m s w (omega (arith, h))
-    g = gives m s w (omega (arith, h))
+    g : Gives w (omega (arith, h))
+    g = gives w (omega (arith, h))
 
     next : Seen
     next = record { at = suc (s .at); kind = classAt m (s .at); from = s .from; limit = s .limit; sum = s .sum + packed (s .kind) (classAt m (s .at)) % askUnit - silentAt m (s .at) }
 
     seen : Sees m next
-    seen = sees-plain m s w (omega (arith, h)) _ (omega (arith, u)) (omega (arith, p)) (omega (arith, g .enough))
+    seen = sees-plain w (omega (arith, h)) _ (omega (arith, u)) (omega (arith, p)) (omega (arith, g .enough))
 
     by : Adds m next n (sums m (next .kind) (next .at) n) (losses m (next .at) n) (kindPast m (next .kind) (next .at) n)
         → Adds m s (suc n) (sums m (s .kind) (s .at) (suc n)) (losses m (s .at) (suc n)) (kindPast m (s .kind) (s .at) (suc n))

@@ -5,8 +5,7 @@ use native.Mathlib.Omega.{arith}
 use Rattle.message.specs.Classes.{classAt}
 use Rattle.message.specs.declared.Seen.{Seen}
 use Rattle.message.specs.Steps.{Sees, fourAt, silentFour}
-use Rattle.message.proofs.Checking.{sum-small, Adds, sees-four}
-use Rattle.message.proofs.Faults.{kind-small}
+use Rattle.message.proofs.Checking.{sees-small, Adds, sees-four}
 use borrow.Author.Needs.{needs}
 use Rattle.message.proofs.check.pass_fours.Statement.{statement}
 use Rattle.message.proofs.check.pass_fours.Tie as tie
@@ -29,21 +28,10 @@ four c =
     let h = c .before .before .loop-test .taken in
     sees-four (s .args .m .now) (seen l) (l .loop .inv .0) (s .pre .bytes _ h) (s .pre .room _ h) (omega (arith, c .before .sum-four .ensures, c .if1 .left))
 
-sum-four-requires : tie.Need-sum-four-requires Inv-loop μ-loop
-sum-four-requires c κs = let l = c .before in let s = l .before .before in record { tables = s .pre .tables; kind = rw (l .loop .inv .0 .kind) (kind-small (s .args .m .now) (l .loop .inv .0 .bytes) (l .loop .at)); within = s .pre .bytes _ (c .loop-test .taken) }
-
 weigh-four-requires : tie.Need-weigh-four-requires Inv-loop μ-loop
 weigh-four-requires c κs = let s = c .before .before .before .before .before in
     let f = four c in
     record { within = s .pre .bytes _ (c .before .before .loop-test .taken); enough = rw (c .before .sum-four .ensures) (f .enough); plain = rw (c .before .sum-four .ensures) (f .plain) }
-
-add-sum : tie.Need-add-sum Inv-loop μ-loop
-add-sum c = let l = c .before .before .before .before in
-    let s = l .before .before in
-    omega (arith, c .weigh-four .ensures, sum-small (s .args .m .now) (seen l) (l .loop .inv .0), l .loop .inv .0 .within, s .pre .short)
-
-shared-slice-read-class-of : tie.Need-shared-slice-read-class-of Inv-loop μ-loop
-shared-slice-read-class-of c = let l = c .before .before .before .before .before in omega (arith, l .before .before .pre .bytes _ (c .before .before .before .before .loop-test .taken))
 
 loop-again : tie.Need-loop-again Inv-loop μ-loop
 loop-again c = let w = c .before .before in
@@ -59,12 +47,12 @@ pass-fours-spec =
     Inv-loop
     μ-loop
     (λ c. search needs)
-    sum-four-requires
+    (λ c κs. let b = sees-small (c .before .loop .inv .0) in let h = c .before .before .before .pre .bytes _ (c .loop-test .taken) in search needs)
     (λ c. search needs)
     weigh-four-requires
-    add-sum
+    (λ c. let b = sees-small (c .before .before .before .before .loop .inv .0) in search needs)
     (λ c. search needs)
-    shared-slice-read-class-of
+    (λ c. let l = c .before .before .before .before in let h = l .before .before .before .pre .bytes _ (l .loop-test .taken) in search needs)
     (λ c κs. search needs)
     (λ c. search needs)
     (λ c. search needs)
