@@ -33,18 +33,6 @@ returns c = let n = c .before in
     let w = p .pass-fours .ensures .0 in
     seen-fault (s .args .m .now) (w .bytes) _ _ (t .before .if2 .taken) (s .pre .short) (w .clear) (q .0) (q .1)
 
-loop-less : tie.Need-loop-less Inv-loop μ-loop
-loop-less c = let n = c .before in
-    let t = n .before .before in
-    let p = t .before .before .before in
-    let q = rw (n .next .given .1) at (t .step .ensures) in
-    omega (arith, q .1, p .pass-fours .ensures .1, t .before .if2 .taken)
-
-loop-again : tie.Need-loop-again Inv-loop μ-loop
-loop-again c = let n = c .before in
-    let q = rw (n .next .given .1) at (n .before .before .step .ensures) in
-    q .0
-
 returns-2 : tie.Need-returns-2 Inv-loop μ-loop
 returns-2 c = let e = c .before in
     let l = e .before .before in
@@ -66,8 +54,8 @@ walk-spec =
     (λ c. search needs)
     returns
     (λ c. search needs)
-    loop-less
-    loop-again
+    (λ c. let q = rw (c .before .next .given .1) at (c .before .before .before .step .ensures) in search needs)
+    (λ c. let q = rw (c .before .next .given .1) at (c .before .before .before .step .ensures) in search needs)
     (λ c. search needs)
     (λ c. search needs)
     (λ c κs. search needs)

@@ -1,12 +1,14 @@
 -- Where the sum does not ask nothing is lost, and else what is lost is there to be taken off.
 -- Assumes nothing.
-use native.Mathlib.Omega.{arith}
 use borrow.Author.Needs.{needs}
 use Rattle.message.proofs.check.weigh_four.Statement.{statement}
 use Rattle.message.proofs.check.weigh_four.Tie as tie
 
-returns : tie.Need-returns
-returns c = let p = c .before .before .pre in omega (arith, p .plain (c .if1 .taken), c .if1 .taken)
-
 pub weigh-four-spec : {M : Type 1} → statement M
-weigh-four-spec = tie.close (tie.spec returns (λ c κs. search needs) (λ c. search needs) (λ c. search needs))
+weigh-four-spec =
+    tie.close
+    (tie.spec
+    (λ c. let p = c .before .before .pre .plain (c .if1 .taken) in search needs)
+    (λ c κs. search needs)
+    (λ c. search needs)
+    (λ c. search needs))

@@ -20,10 +20,6 @@ returns-3 c =
     let e : length (s .args .m .now) ≤ s .args .i + 2 = omega (arith, t .if3 .taken) in
     rw (← before-at _ _ (t .before .before .if1 .left), List·getD-eq-default {A = ℕ} _ 0 e) (c .elides-byte .ensures)
 
-returns-4 : tie.Need-returns-4
-unfolding elidedAt letterAt
-returns-4 c = rw (← before-at _ _ (c .before .before .before .before .before .before .before .if1 .left)) (c .elides-byte2 .ensures)
-
 pub is-elided-spec : {M : Type 1} → statement M
 unfolding elidedAt elidesAmong elidesT elidesD letterBefore letterAt small
 is-elided-spec =
@@ -48,4 +44,4 @@ is-elided-spec =
     (λ c. search needs)
     (λ c. search needs)
     (λ c κs. search needs)
-    returns-4)
+    (λ c. rw (← before-at _ _ (c .before .before .before .before .before .before .before .if1 .left)) (c .elides-byte2 .ensures)))

@@ -7,11 +7,6 @@ use Rattle.spec.specs.Letters.{small}
 use Rattle.message.proofs.letters.small_letter.Statement.{statement}
 use Rattle.message.proofs.letters.small_letter.Tie as tie
 
-returns-4 : tie.Need-returns-4
-unfolding small
-returns-4 c =
-    rw (le-leb _ _ (c .before .if1 .left), lt-leb _ 0xDF (c .if2 .left), ne-eqb _ _ (c .before .before .match .rest .1))
-
 pub small-letter-spec : {M : Type 1} → statement M
 unfolding small
 small-letter-spec =
@@ -21,4 +16,4 @@ small-letter-spec =
     (λ c. rw (c .match .keys1))
     (λ c. rw (le-leb _ _ (c .before .if1 .left), le-leb (c .before .before .before .args .b) 0xDF (omega arith)))
     (λ c. rw (lt-leb _ _ (c .if1 .taken), ne-eqb _ _ (c .before .match .rest .1)))
-    returns-4)
+    (λ c. rw (le-leb _ _ (c .before .if1 .left), lt-leb _ 0xDF (c .if2 .left), ne-eqb _ _ (c .before .before .match .rest .1))))
