@@ -57,11 +57,6 @@ unfolding among elidedAt letterBefore letterAt
 before-spoken m zero h n = after-spoken 0 _ _ _ refl
 before-spoken m (suc i) h n = after-spoken (small (getD m i 0)) _ _ _ (class-before (getD m i 0) (h i) (rw (ne-eqb (classOf (getD m i 0)) 7 (n i refl))))
 
--- nor after another kind
-pub kind-spoken : (m : List ℕ) (i : ℕ) → ((j : ℕ) → getD m j 0 < 256) → (kindAt m i ≡ 7 → ⊥) → elidedAt m i ≡ false
-unfolding kindAt nextKind
-kind-spoken m i h n = before-spoken m i h (λ j e k. n (rw (e, k)))
-
 -- a table has at each place what it says
 tabulate-at : (f : ℕ → ℕ) (i n j : ℕ) → j < n → getD (tabulate f i n) j 0 ≡ f (i + j)
 unfolding tabulate
@@ -131,12 +126,12 @@ unpacks k c e = record {
 -- Only a letter that may be elided is, and it makes one code: so a byte asks where it loses a code, and the codes it makes and the one it loses are those of its class.
 pub silent-asks : (m : List ℕ) (i : ℕ) → ((j : ℕ) → getD m j 0 < 256)
     → (silentAt m i ≤ askIn (kindAt m i) (classAt m i)) × (widthAt m i (kindAt m i) + silentAt m i ≡ widthIn (kindAt m i) (classAt m i))
-unfolding askIn widthIn widthAt
+unfolding askIn widthIn widthAt kindAt nextKind
 silent-asks m i bytes = by (elidedAt m i) refl (eqb (kindAt m i) 7) refl (eqb (classAt m i) 8) refl
   where
     by : (e : Bool) → elidedAt m i ≡ e → (t : Bool) → eqb (kindAt m i) 7 ≡ t → (u : Bool) → eqb (classAt m i) 8 ≡ u
         → (cond e 1 0 ≤ askIn (kindAt m i) (classAt m i)) × (cond e 0 (widthIn (kindAt m i) (classAt m i)) + cond e 1 0 ≡ widthIn (kindAt m i) (classAt m i))
     by true e true d true q = rw (eqb-true (kindAt m i) 7 d, eqb-true (classAt m i) 8 q) (omega arith, omega arith)
     by true e true d false q = absurd (false≢true (sym (class-spoken m i (bytes i) (eqb-false (classAt m i) 8 q)) ∙ e))
-    by true e false d u q = absurd (false≢true (sym (kind-spoken m i bytes (eqb-false (kindAt m i) 7 d)) ∙ e))
+    by true e false d u z = absurd (false≢true (sym (before-spoken m i bytes (λ j q k. eqb-false (kindAt m i) 7 d (rw (q, k)))) ∙ e))
     by false e t d u q = (omega arith, omega arith)
