@@ -21,31 +21,19 @@ use Rattle.message.proofs.Faults.{here-clear, clear-here, kind-small, e
 
 -- the end of the walk is the check's answer
 pub seen-all : (m : List ℕ) (s : Seen) → 0 < length m → length m ≤ 4096 → Sees m s → s .at ≡ length m → finishOf (length m) s ≡ checkOf m
-seen-all m s z l w e = rw (rw e at (w .kind), codes, names) (by (isBreakClass (kindAt m (length m))) refl)
+seen-all m s z l w e =
+    let n = length m in
+    let up = counts-up m (w .bytes) n in
+    let sum : s .sum ≡ codesTo m n + nameUnit * namesTo m n = rw e at (w .sum) in
+    let codes : s .sum % nameUnit ≡ codesTo m n = omega (arith, sum, up .0) in
+    let names : s .sum / nameUnit ≡ namesTo m n = omega (arith, sum, up .0) in
+    rw (rw e at (w .kind), codes, names) (by (isBreakClass (kindAt m n)) refl)
   where
-    n : ℕ
-    n = length m
-
-    size : length m ≡ suc (n - 1)
-    size = omega (arith, z)
-
-    up : (codesTo m n ≤ 2 * n) × (namesTo m n ≤ n)
-    up = counts-up m (w .bytes) n
-
-    sum : s .sum ≡ codesTo m n + nameUnit * namesTo m n
-    sum = rw e at (w .sum)
-
-    codes : s .sum % nameUnit ≡ codesTo m n
-    codes = omega (arith, sum, up .0)
-
-    names : s .sum / nameUnit ≡ namesTo m n
-    names = omega (arith, sum, up .0)
-
-    by : (t : Bool) → isBreakClass (kindAt m n) ≡ t
-        → cond t (Refused (refusal 4 (n - 1))) (Accepted (record { codes = codesTo m n; names = namesTo m n + tailNames (kindAt m n) })) ≡ checkOf m
-    by true d = sym (last-refused m (w .bytes) (n - 1) size l (rw e at (w .clear)) d)
+    by : (t : Bool) → isBreakClass (kindAt m (length m)) ≡ t
+        → cond t (Refused (refusal 4 (length m - 1))) (Accepted (record { codes = codesTo m (length m); names = namesTo m (length m) + tailNames (kindAt m (length m)) })) ≡ checkOf m
+    by true d = sym (last-refused m (w .bytes) (length m - 1) (omega (arith, z)) l (rw e at (w .clear)) d)
     by false d =
-        let q = all-accepted m (w .bytes) (n - 1) size l (rw e at (w .clear)) d in
+        let q = all-accepted m (w .bytes) (length m - 1) (omega (arith, z)) l (rw e at (w .clear)) d in
         let y = accepted-steady m (countsOf m) q (w .bytes) in
         sym (q ∙ rw (codes-all m y, names-all m y))
 

@@ -75,12 +75,9 @@ module _ (m : List ℕ) (steady : Steady m) where
       b : ℕ
       b = getD m i 0
 
-      t : b < 256
-      t = steady .bytes i
-
       by : (s : Bool) → isBreak b ≡ s → (k : Bool) → isMark b ≡ k → Alike (leftAt m (suc i) .p) (small b)
       by true s k e = rw (left-break m i h s) (alike-none 0 (small b) none-plain (break-consonant b s))
-      by false s true e = rw (left-mark m i h e) (alike-none (leftAt m i .p) (small b) (vowel-plain (leftAt m i .p) (vowel-before m steady i h e)) (mark-consonant b t e))
+      by false s true e = rw (left-mark m i h e) (alike-none (leftAt m i .p) (small b) (vowel-plain (leftAt m i .p) (vowel-before m steady i h e)) (mark-consonant b (steady .bytes i) e))
       by false s false e = rw (left-letter m i h s e) (λ x c. refl)
 
   -- a place is past the end, at a break, or within a word
@@ -128,15 +125,10 @@ module _ (m : List ℕ) (steady : Steady m) where
       x : ℕ
       x = small (getD m i 0)
 
-      w : List Letter
-      w = wordAt m (suc i)
-
-      two : i + 2 ≡ suc (suc i)
-      two = omega arith
-
-      by : (t : Bool) → isConsonant x ≡ t → elides (leftAt m i .p) x w ≡ elidedAt m i
+      by : (t : Bool) → isConsonant x ≡ t → elides (leftAt m i .p) x (wordAt m (suc i)) ≡ elidedAt m i
       by true c =
           let u = unmarked-after m steady i (consonant-vowel (getD m i 0) (steady .bytes i) c) in
+          let two : i + 2 ≡ suc (suc i) = omega arith in
           rw (elides-beside, add-one i, two)
           (alike-elides _ _ x _ _ _ _ (alike-before i (omega arith)) (alike-at (suc i) u) (alike-second (suc i) u))
-      by false c = rw (elides-beside) (plain-stays (leftAt m i .p) x (firstByte w) (secondByte w) c ∙ sym (plain-stays (letterBefore m i) x (letterAt m (i + 1)) (letterAt m (i + 2)) c))
+      by false c = rw (elides-beside) (plain-stays (leftAt m i .p) x _ _ c ∙ sym (plain-stays (letterBefore m i) x (letterAt m (i + 1)) (letterAt m (i + 2)) c))
