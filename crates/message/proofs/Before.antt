@@ -101,11 +101,3 @@ module _ (m : List ℕ) (steady : Steady m) where
       by true s k e = rw (left-break m i h s) (kind-break v b (steady .bytes i) s)
       by false s true e = rw (left-mark m i h e) (kind-mark v b (steady .bytes i) e (leftAt m i .p) (vowel-before i h e))
       by false s false e = rw (left-letter m i h s e) (kind-letter v b (steady .bytes i) (letter-class b (steady .bytes i) s e (steady .named i h)))
-
-  -- is it a consonant?
-  pub kind-consonant : (i : ℕ) → i ≤ length m → isConsonant (leftAt m i .p) ≡ isConsonantClass (kindAt m i)
-  kind-consonant i h = kind-at i h .consonant
-
-  -- is it a sign?
-  pub kind-sign : (i : ℕ) → i ≤ length m → isSign (leftAt m i .p) ≡ isSignKind (kindAt m i)
-  kind-sign i h = kind-at i h .sign

@@ -68,11 +68,6 @@ by-class b h =
 pub not-both : (f g : ℕ → Bool) (b : ℕ) → map (λ x. f x && g x) (below 256) ≡ map (λ _. false) (below 256) → b < 256 → f b ≡ true → g b ≡ false
 not-both f g b t h e = rw e at (below-same (λ x. f x && g x) (λ _. false) 256 b t h)
 
--- a break is no vowel
-pub break-vowel : (b : ℕ) → b < 256 → isBreak b ≡ true → vowelByte b ≡ false
-unfolding everything
-break-vowel b = not-both isBreak vowelByte b refl
-
 -- a vowel is no break
 pub vowel-break : (b : ℕ) → b < 256 → vowelByte b ≡ true → isBreak b ≡ false
 unfolding everything
@@ -82,11 +77,6 @@ vowel-break b = not-both vowelByte isBreak b refl
 pub vowel-mark : (b : ℕ) → b < 256 → vowelByte b ≡ true → isMark b ≡ false
 unfolding everything
 vowel-mark b = not-both vowelByte isMark b refl
-
--- a break is no consonant
-pub break-consonant : (b : ℕ) → b < 256 → isBreak b ≡ true → isConsonant (small b) ≡ false
-unfolding everything
-break-consonant b = not-both isBreak consonantByte b refl
 
 -- a mark is no consonant
 pub mark-consonant : (b : ℕ) → b < 256 → isMark b ≡ true → isConsonant (small b) ≡ false

@@ -4,50 +4,37 @@ use Prim.Native.Nat.{ℕ, zero, suc, _+_, _-_, _*_, _/_, _%_, _<_, _≤_}
 use mathlib.Core.Path.{_≡_, refl, sym, _∙_}
 use mathlib.Core.Bool.{Bool, true, false, cond, _&&_, and-false, and-eq-true-iff, false≢true}
 use mathlib.Core.List.{List}
-use native.Mathlib.Numerals.{add-one}
 use native.Mathlib.Omega.{arith}
 use lib.Dec.{eqb, leb}
 use lib.ListN.{length, getD}
 use borrow.Author.Tests.{eqb-true, eqb-false, leb-true, leb-false, ne-eqb}
 use Rattle.spec.specs.Refusals.{refusal, checkOf}
 use Rattle.message.specs.Classes.{isBreakClass, isLetterClass, classAt, silentAt}
-use Rattle.message.specs.Steps.{nextKind, faultIn, widthIn, namesIn, askIn, tailNames, packed, kindAt, widthAt, codesTo, namesTo, lettersAt, faultHere, Sees, fourAt, silentFour, Counted, finishOf, nameUnit, askUnit, stopUnit}
+use Rattle.message.specs.Steps.{nextKind, faultIn, widthIn, namesIn, askIn, stopIn, tailNames, packed, kindAt, widthAt, codesTo, namesTo, lettersAt, faultHere, Sees, fourAt, silentFour, Counted, finishOf, nameUnit, askUnit, stopUnit}
 use Rattle.spec.specs.declared.Checked.the-variants.{Accepted, Refused}
 use Rattle.message.specs.declared.Seen.{Seen}
 use Rattle.laws.proofs.Accepted.{countsOf}
 use Rattle.message.proofs.Steadiness.{accepted-steady}
-use Rattle.message.proofs.StepTable.{Entry, unpacks, silent-asks, width-silent, no-stop, stop-fault, first-stop}
+use Rattle.message.proofs.StepTable.{Entry, unpacks, silent-asks}
 use Rattle.message.proofs.Lengths.{codes-all, names-all}
-use Rattle.message.proofs.Faults.{here-clear, clear-here, entry-at, counts-up, last-refused, all-accepted}
+use Rattle.message.proofs.Faults.{here-clear, clear-here, kind-small, entry-at, counts-up, last-refused, all-accepted}
 
 -- the end of the walk is the check's answer
-pub seen-all : (m : List ℕ) (s : Seen) → ((j : ℕ) → getD m j 0 < 256) → 0 < length m → length m ≤ 4096 → Sees m s → s .at ≡ length m → finishOf (length m) s ≡ checkOf m
-seen-all m s bytes z l w e = rw (rw e at (w .kind), codes, names) (by (isBreakClass (kindAt m (length m))) refl)
+pub seen-all : (m : List ℕ) (s : Seen) → 0 < length m → length m ≤ 4096 → Sees m s → s .at ≡ length m → finishOf (length m) s ≡ checkOf m
+seen-all m s z l w e =
+    let n = length m in
+    let up = counts-up m (w .bytes) n in
+    let sum : s .sum ≡ codesTo m n + nameUnit * namesTo m n = rw e at (w .sum) in
+    let codes : s .sum % nameUnit ≡ codesTo m n = omega (arith, sum, up .0) in
+    let names : s .sum / nameUnit ≡ namesTo m n = omega (arith, sum, up .0) in
+    rw (rw e at (w .kind), codes, names) (by (isBreakClass (kindAt m n)) refl)
   where
-    n : ℕ
-    n = length m
-
-    size : length m ≡ suc (n - 1)
-    size = omega (arith, z)
-
-    up : (codesTo m n ≤ 2 * n) × (namesTo m n ≤ n)
-    up = counts-up m bytes n
-
-    sum : s .sum ≡ codesTo m n + nameUnit * namesTo m n
-    sum = rw e at (w .sum)
-
-    codes : s .sum % nameUnit ≡ codesTo m n
-    codes = omega (arith, sum, up .0)
-
-    names : s .sum / nameUnit ≡ namesTo m n
-    names = omega (arith, sum, up .0)
-
-    by : (t : Bool) → isBreakClass (kindAt m n) ≡ t
-        → cond t (Refused (refusal 4 (n - 1))) (Accepted (record { codes = codesTo m n; names = namesTo m n + tailNames (kindAt m n) })) ≡ checkOf m
-    by true d = sym (last-refused m bytes (n - 1) size l (rw e at (w .clear)) d)
+    by : (t : Bool) → isBreakClass (kindAt m (length m)) ≡ t
+        → cond t (Refused (refusal 4 (length m - 1))) (Accepted (record { codes = codesTo m (length m); names = namesTo m (length m) + tailNames (kindAt m (length m)) })) ≡ checkOf m
+    by true d = sym (last-refused m (w .bytes) (length m - 1) (omega (arith, z)) l (rw e at (w .clear)) d)
     by false d =
-        let q = all-accepted m bytes (n - 1) size l (rw e at (w .clear)) d in
-        let y = accepted-steady m (countsOf m) q bytes in
+        let q = all-accepted m (w .bytes) (length m - 1) (omega (arith, z)) l (rw e at (w .clear)) d in
+        let y = accepted-steady m (countsOf m) q (w .bytes) in
         sym (q ∙ rw (codes-all m y, names-all m y))
 
 -- a byte more is one letter more at most
@@ -82,13 +69,13 @@ letters-most m (suc i) c = by (isBreakClass (classAt m i)) (isLetterClass (class
     by false false e h = h
 
 -- at the start nothing is seen
-pub sees-none : (m : List ℕ) → Sees m (record { at = 0; kind = 2; from = 0; limit = 64; sum = 0 })
+pub sees-none : (m : List ℕ) → ((j : ℕ) → getD m j 0 < 256) → Sees m (record { at = 0; kind = 2; from = 0; limit = 64; sum = 0 })
 unfolding kindAt codesTo namesTo lettersAt
-sees-none m = record { within = omega arith; clear = λ j h. absurd (omega arith); kind = refl; sum = refl; from = omega arith; limit = refl }
+sees-none m bytes = record { bytes = bytes; within = omega arith; clear = λ j h. absurd (omega arith); kind = refl; sum = refl; from = omega arith; limit = refl }
 
--- a sum is small
-pub sum-small : (m : List ℕ) → ((j : ℕ) → getD m j 0 < 256) → (s : Seen) → Sees m s → s .sum ≤ (nameUnit + 2) * s .at
-sum-small m bytes s w = let u = counts-up m bytes (s .at) in omega (arith, w .sum, u .0, u .1)
+-- a kind has its row in the table, and a sum is small
+pub sees-small : {m : List ℕ} {s : Seen} → Sees m s → (s .kind < 16) × (s .sum ≤ (nameUnit + 2) * s .at)
+sees-small {m} {s} w = let u = counts-up m (w .bytes) (s .at) in (rw (w .kind) (kind-small m (w .bytes) (s .at)), omega (arith, w .sum, u .0, u .1))
 
 -- before the limit a word has room for a letter
 pub below-limit : (m : List ℕ) (s : Seen) → Sees m s → s .at < s .limit → lettersAt m (s .at) < 64
@@ -104,26 +91,27 @@ pub sees-counted : (m : List ℕ) (s : Seen) (n : ℕ) → Sees m s → n ≡ le
 sees-counted m s n w e =
     let h = letters-most m (s .at) (w .clear) in
     record {
-      sees = record { within = w .within; clear = w .clear; kind = w .kind; sum = w .sum; from = omega arith; limit = omega (arith, e, h) };
+      sees = record { bytes = w .bytes; within = w .within; clear = w .clear; kind = w .kind; sum = w .sum; from = omega arith; limit = omega (arith, e, h) };
       place = refl;
       full = λ l. omega (arith, l, e, h);
     }
 
 -- The check sees all up to a byte.
-module _ (m : List ℕ) (bytes : (j : ℕ) → getD m j 0 < 256) (s : Seen) (w : Sees m s) (h : s .at < length m) where
+module _ {m : List ℕ} {s : Seen} (w : Sees m s) (h : s .at < length m) where
   -- its entry
   pub entry-here : Entry (s .kind) (classAt m (s .at))
-  entry-here = rw (w .kind) (entry-at m bytes (s .at))
+  entry-here = rw (w .kind) (entry-at m (w .bytes) (s .at))
 
   -- what it adds, with what it loses, is what its entry has
   adds : widthAt m (s .at) (kindAt m (s .at)) + silentAt m (s .at) + nameUnit * namesIn (kindAt m (s .at)) (classAt m (s .at)) ≡ packed (s .kind) (classAt m (s .at)) % askUnit
-  adds = rw (w .kind) (omega (arith, width-silent m (s .at) bytes, unpacks _ _ (entry-at m bytes (s .at)) .counts))
+  adds = rw (w .kind) (omega (arith, silent-asks m (s .at) (w .bytes) .1, unpacks _ _ (entry-at m (w .bytes) (s .at)) .counts))
 
   -- it is passed where it has no fault
   pub sees-more : (sum : ℕ) → faultHere m (s .at) ≡ 0 → sum + silentAt m (s .at) ≡ s .sum + packed (s .kind) (classAt m (s .at)) % askUnit
       → Sees m (record { at = suc (s .at); kind = nextKind (s .kind) (classAt m (s .at)); from = s .from; limit = s .limit; sum = sum })
   unfolding kindAt codesTo namesTo
   sees-more sum f e = record {
+    bytes = w .bytes;
     within = h;
     clear = λ j b. by j (eqb j (s .at)) refl b;
     kind = rw (w .kind);
@@ -146,14 +134,13 @@ module _ (m : List ℕ) (bytes : (j : ℕ) → getD m j 0 < 256) (s : Seen) (w :
   pub stop-here : 2 * stopUnit ≤ packed (s .kind) (classAt m (s .at)) → let n = packed (s .kind) (classAt m (s .at)) / stopUnit - 1 in (faultHere m (s .at) ≡ n) × (n ≡ 0 → ⊥)
   unfolding faultHere
   stop-here l =
-      let u = unpacks _ _ entry-here .stop in
-      let f : packed (s .kind) (classAt m (s .at)) / stopUnit ≡ suc (faultIn (s .kind) (classAt m (s .at))) = u ∙ stop-fault (s .kind) (classAt m (s .at)) (λ e. omega (arith, u, e)) in
+      let f : packed (s .kind) (classAt m (s .at)) / stopUnit ≡ suc (faultIn (s .kind) (classAt m (s .at))) = omega (arith, unpacks _ _ entry-here .stop, entry-here .fault) in
       let z : faultIn (s .kind) (classAt m (s .at)) ≡ 0 → ⊥ = λ e. omega (arith, f, e) in
       (rw (← w .kind, ne-eqb (faultIn (s .kind) (classAt m (s .at))) 0 z) (omega (arith, f)), λ e. omega (arith, f, z, e))
 
   -- before it the byte has no fault but as a 65th letter
   first-here : packed (s .kind) (classAt m (s .at)) < 2 * stopUnit → faultIn (kindAt m (s .at)) (classAt m (s .at)) ≡ 0
-  first-here l = rw (← w .kind) (first-stop (s .kind) (classAt m (s .at)) (omega (arith, unpacks _ _ entry-here .stop)))
+  first-here l = rw (← w .kind) (omega (arith, unpacks _ _ entry-here .stop, entry-here .fault))
 
   -- a letter at the limit, where that is counted, is one
   pub full-here : packed (s .kind) (classAt m (s .at)) < 2 * stopUnit → (s .limit ≤ s .at → lettersAt m (s .at) ≡ 64) → (isLetterClass (classAt m (s .at)) && leb (s .limit) (s .at)) ≡ true
@@ -172,15 +159,13 @@ module _ (m : List ℕ) (bytes : (j : ℕ) → getD m j 0 < 256) (s : Seen) (w :
       by true false d z = ne-eqb (lettersAt m (s .at)) 64 (λ e. omega (arith, below-limit m s w (omega (arith, leb-false (s .limit) (s .at) d)), e))
       by false u d z = refl
 
-  -- where it is enough to add, its class is the next kind; j is the next place
-  pub sees-plain : (j sum : ℕ) → s .at + 1 ≡ j → s .at < s .limit → packed (s .kind) (classAt m (s .at)) < stopUnit
+  -- where it is enough to add, its class is the next kind
+  pub sees-plain : (sum : ℕ) → s .at < s .limit → packed (s .kind) (classAt m (s .at)) < stopUnit
       → sum + silentAt m (s .at) ≡ s .sum + packed (s .kind) (classAt m (s .at)) % askUnit
-      → Sees m (record { at = j; kind = classAt m (s .at); from = s .from; limit = s .limit; sum = sum })
-  sees-plain j sum d l p e =
-      let u = unpacks _ _ entry-here in
-      let n = no-stop (s .kind) (classAt m (s .at)) (omega (arith, u .stop)) in
-      let r = sees-more sum (clear-below l (n .0)) e in
-      rw (← d, add-one (s .at)) (rw (n .1) at r)
+      → Sees m (record { at = suc (s .at); kind = classAt m (s .at); from = s .from; limit = s .limit; sum = sum })
+  sees-plain sum l p e =
+      let n : stopIn (s .kind) (classAt m (s .at)) ≡ 0 = omega (arith, unpacks _ _ entry-here .stop) in
+      rw (entry-here .plain n) at (sees-more sum (clear-below l (omega (arith, n, entry-here .fault))) e)
 
   -- What the entry has: as many codes as the byte loses, no ask where it loses none, and not much.
   pub record Gives : Type 0 where
@@ -192,14 +177,10 @@ module _ (m : List ℕ) (bytes : (j : ℕ) → getD m j 0 < 256) (s : Seen) (w :
   pub gives : Gives
   gives =
       let u = unpacks _ _ entry-here in
-      let a = silent-asks m (s .at) bytes in
+      let a = silent-asks m (s .at) (w .bytes) in
       let b : silentAt m (s .at) ≤ askIn (s .kind) (classAt m (s .at)) = rw (w .kind) (a .0) in
-      let c : silentAt m (s .at) ≤ widthIn (s .kind) (classAt m (s .at)) = rw (w .kind) (a .1) in
+      let c : silentAt m (s .at) ≤ widthIn (s .kind) (classAt m (s .at)) = rw (w .kind) (omega (arith, a .1)) in
       record { enough = omega (arith, c, u .counts); plain = λ q. omega (arith, b, u .ask q); small = omega (arith, u .counts, entry-here .width, entry-here .names) }
-
--- remainders that are small add up
-add-rest : (x y : ℕ) → x % askUnit + y % askUnit < askUnit → (x + y) % askUnit ≡ x % askUnit + y % askUnit
-add-rest x y h = omega (arith, h)
 
 -- n bytes from place i on, the first after kind k: the sum of their entries, the codes they lose, the kind after them
 unfoldable sums : List ℕ → ℕ → ℕ → ℕ → ℕ
@@ -222,30 +203,30 @@ pub record Adds (m : List ℕ) (s : Seen) (n x lost k : ℕ) : Type 0 where
   pub seen : (sum : ℕ) → sum + lost ≡ s .sum + x % askUnit → Sees m (record { at = s .at + n; kind = k; from = s .from; limit = s .limit; sum = sum })
 
 -- one after the other
-adds-up : (m : List ℕ) → ((j : ℕ) → getD m j 0 < 256) → (n : ℕ) → n ≤ 7 → (s : Seen) → Sees m s → s .at + n ≤ length m → s .at + n ≤ s .limit → sums m (s .kind) (s .at) n < stopUnit
+adds-up : (m : List ℕ) (n : ℕ) → n ≤ 7 → (s : Seen) → Sees m s → s .at + n ≤ length m → s .at + n ≤ s .limit → sums m (s .kind) (s .at) n < stopUnit
     → Adds m s n (sums m (s .kind) (s .at) n) (losses m (s .at) n) (kindPast m (s .kind) (s .at) n)
 unfolding sums losses kindPast
-adds-up m bytes zero l s w h u p = record {
+adds-up m zero l s w h u p = record {
   enough = omega arith;
   plain = λ q. refl;
   small = omega arith;
   seen = λ sum e. let z : s .at + 0 ≡ s .at = omega arith in let d : sum ≡ s .sum = omega (arith, e) in rw (z, d) w;
 }
-adds-up m bytes (suc n) l s w h u p = by (adds-up m bytes n (omega arith) next seen (omega (arith, h)) (omega (arith, u)) (omega (arith, p)))
+adds-up m (suc n) l s w h u p = by (adds-up m n (omega arith) next seen (omega (arith, h)) (omega (arith, u)) (omega (arith, p)))
   where
-    g : Gives m bytes s w (omega (arith, h))
-    g = gives m bytes s w (omega (arith, h))
+    g : Gives w (omega (arith, h))
+    g = gives w (omega (arith, h))
 
     next : Seen
     next = record { at = suc (s .at); kind = classAt m (s .at); from = s .from; limit = s .limit; sum = s .sum + packed (s .kind) (classAt m (s .at)) % askUnit - silentAt m (s .at) }
 
     seen : Sees m next
-    seen = sees-plain m bytes s w (omega (arith, h)) (suc (s .at)) _ (omega arith) (omega (arith, u)) (omega (arith, p)) (omega (arith, g .enough))
+    seen = sees-plain w (omega (arith, h)) _ (omega (arith, u)) (omega (arith, p)) (omega (arith, g .enough))
 
     by : Adds m next n (sums m (next .kind) (next .at) n) (losses m (next .at) n) (kindPast m (next .kind) (next .at) n)
         → Adds m s (suc n) (sums m (s .kind) (s .at) (suc n)) (losses m (s .at) (suc n)) (kindPast m (s .kind) (s .at) (suc n))
     by r =
-        let a = add-rest (packed (s .kind) (classAt m (s .at))) (sums m (classAt m (s .at)) (suc (s .at)) n) (omega (arith, g .small, r .small, l)) in
+        let a : (packed (s .kind) (classAt m (s .at)) + sums m (classAt m (s .at)) (suc (s .at)) n) % askUnit ≡ packed (s .kind) (classAt m (s .at)) % askUnit + sums m (classAt m (s .at)) (suc (s .at)) n % askUnit = omega (arith, g .small, r .small, l) in
         record {
           enough = omega (arith, a, g .enough, r .enough);
           plain = λ q. omega (arith, g .plain (omega (arith, q)), r .plain (omega (arith, q)));
@@ -263,8 +244,8 @@ fours m k i =
     rw (a, b, c) (omega arith, omega arith, refl)
 
 -- four need only be added where their sum has no stop
-pub sees-four : (m : List ℕ) → ((j : ℕ) → getD m j 0 < 256) → (s : Seen) → Sees m s → s .at + 4 ≤ length m → s .at + 4 ≤ s .limit → fourAt m (s .at) (s .kind) < stopUnit
+pub sees-four : (m : List ℕ) (s : Seen) → Sees m s → s .at + 4 ≤ length m → s .at + 4 ≤ s .limit → fourAt m (s .at) (s .kind) < stopUnit
     → Adds m s 4 (fourAt m (s .at) (s .kind)) (silentFour m (s .at)) (classAt m (s .at + 3))
-sees-four m bytes s w h l p =
+sees-four m s w h l p =
     let f = fours m (s .kind) (s .at) in
-    rw (f .0, f .1, f .2) (adds-up m bytes 4 (omega arith) s w h l (rw (f .0) at p))
+    rw (f .0, f .1, f .2) (adds-up m 4 (omega arith) s w h l (rw (f .0) at p))

@@ -33,16 +33,21 @@ elided-silent p b w h = by (eqb b «т») (eqb b «д») (elidesT p (firstByte w
     by false false x y e = e
 
 -- no letter is elided but before с н ч ц ш
+pub before-other : (p b c d : ℕ) → among afterSilent c ≡ false → elidesAmong p b c d ≡ false
+unfolding elidesAmong elidesT elidesD among
+before-other p b c d e = simp (no «с» refl, no «н» refl, no «ч» refl, no «ц» refl, no «ш» refl, and-false)
+  where
+    no : (x : ℕ) → among afterSilent x ≡ true → eqb c x ≡ false
+    no x i = among-none afterSilent c x e i
+
+-- so one of them stands after an elided one
 pub elided-next : (p b : ℕ) (w : List Letter) → elides p b w ≡ true → among afterSilent (firstByte w) ≡ true
-unfolding elides elidesAmong elidesT elidesD among
+unfolding elides
 elided-next p b w h = by (among afterSilent (firstByte w)) refl
   where
-    no : among afterSilent (firstByte w) ≡ false → (x : ℕ) → among afterSilent x ≡ true → eqb (firstByte w) x ≡ false
-    no e x i = among-none afterSilent (firstByte w) x e i
-
     by : (t : Bool) → among afterSilent (firstByte w) ≡ t → t ≡ true
     by true e = refl
-    by false e = simp (no e «с» refl, no e «н» refl, no e «ч» refl, no e «ц» refl, no e «ш» refl, and-false) at h
+    by false e = sym (before-other p b (firstByte w) (secondByte w) e) ∙ h
 
 -- and those letters stay
 pub next-stays : (p : ℕ) (w : List Letter) → among afterSilent (firstByte w) ≡ true → firstByte (elideFrom p w) ≡ firstByte w

@@ -1,8 +1,8 @@
 -- The walk of the message check finds the paper's faults: a kind tells all that the rows ask of the bytes before, so a fault goes by kind and class.
 -- Assumes nothing.
-use Prim.Native.Nat.{ℕ, zero, suc, _-_, _*_, _<_, _≤_}
+use Prim.Native.Nat.{ℕ, zero, suc, _*_, _<_, _≤_}
 use mathlib.Core.Path.{_≡_, refl, sym, _∙_}
-use mathlib.Core.Bool.{Bool, true, false, cond, _&&_, _||_, not, and-false, false≢true}
+use mathlib.Core.Bool.{Bool, true, false, cond, _&&_, _||_, not, and-false, or-assoc, or-comm, false≢true}
 use mathlib.Core.List.{List, [], _∷_}
 use native.Mathlib.Omega.{arith}
 use lib.Dec.{eqb}
@@ -16,7 +16,7 @@ use Rattle.message.specs.Steps.{isVowelKind, isHardSignKind, isVowelSign
 use Rattle.spec.specs.declared.Checked.the-variants.{Accepted, Refused}
 use Rattle.laws.proofs.Accepted.{countsOf, ClearAt, fault-clear, first-refused, passes-accepted}
 use Rattle.message.proofs.Bytes.{below-same, pairs-same, ByClass, by-class}
-use Rattle.message.proofs.StepTable.{Entry, entry-holds, width-up}
+use Rattle.message.proofs.StepTable.{Entry, entry-holds, silent-asks}
 use Rattle.message.proofs.Computed.{everything}
 
 -- the kind k tells what the rows ask of the bytes before
@@ -46,38 +46,24 @@ next-tests : (k c : ℕ) → k < 16 → c < 13 → byteTests k c ≡ nextTests k
 unfolding everything
 next-tests k c h l = pairs-same byteTests nextTests 16 13 k c refl h l
 
--- a mark is no vowel
-mark-vowel : (b : ℕ) → isMark b ≡ true → vowelByte b ≡ false
-unfolding everything
-mark-vowel b e = rw (eqb-true b 42 e)
-
--- so a vowel right before is the adjacent letter
+-- a vowel right before is no mark, so it is the adjacent letter
 vowel-adjacent : (before : List ℕ) → first vowelByte before ≡ true → adjacent before ≡ before
-unfolding adjacent first
+unfolding everything
 vowel-adjacent [] e = refl
 vowel-adjacent (b ∷ before) e = by (isMark b) refl
   where
     by : (t : Bool) → isMark b ≡ t → cond t before (b ∷ before) ≡ b ∷ before
-    by true d = absurd (false≢true (sym (mark-vowel b d) ∙ e))
+    by true d = absurd (false≢true (rw (eqb-true b 42 d) at e))
     by false d = refl
 
--- a mark without a fault stands after a vowel's kind
-mark-kind : (k : ℕ) → faultIn k 1 ≡ 0 → isVowelClass k ≡ true
-unfolding faultIn
-mark-kind k e = by (isVowelClass k) e
-  where
-    by : (t : Bool) → _≡_ {A = ℕ} (cond t 0 5) 0 → t ≡ true
-    by true h = refl
-    by false h = absurd (omega arith)
+-- what a kind says of a vowel and of signs
+abbrev markTests : ℕ → List Bool
+markTests k = isVowelClass k ∷ isSignKind k ∷ isHardSignKind k ∷ isVowelSignKind k ∷ []
 
--- what a kind says of signs
-abbrev signTests : ℕ → List Bool
-signTests k = isSignKind k ∷ isHardSignKind k ∷ isVowelSignKind k ∷ []
-
--- a vowel's kind is no sign's
-mark-tests : (k : ℕ) → k < 16 → cond (isVowelClass k) (signTests k) [] ≡ cond (isVowelClass k) (false ∷ false ∷ false ∷ []) []
+-- a mark without a fault stands after a vowel's kind, which is no sign's
+mark-tests : (k : ℕ) → k < 16 → faultIn k 1 ≡ 0 → markTests k ≡ (true ∷ false ∷ false ∷ false ∷ [])
 unfolding everything
-mark-tests k h = below-same (λ x. cond (isVowelClass x) (signTests x) []) (λ x. cond (isVowelClass x) (false ∷ false ∷ false ∷ []) []) 16 k refl h
+mark-tests k h e = rw e at (below-same (λ x. cond (eqb (faultIn x 1) 0) (markTests x) []) (λ x. cond (eqb (faultIn x 1) 0) (true ∷ false ∷ false ∷ false ∷ []) []) 16 k refl h)
 
 module _ (before : List ℕ) (k b : ℕ) (h : k < 16) (c : ByClass b) (t : Told before k) where
   -- the kind after a mark
@@ -85,8 +71,8 @@ module _ (before : List ℕ) (k b : ℕ) (h : k < 16) (c : ByClass b) (t : Told 
   unfolding none first adjacent vowelSign nextKind
   told-mark d f =
       let e : classOf b ≡ 1 = eqb-true (classOf b) 1 (sym (c .mark) ∙ d) in
-      let v : isVowelClass k ≡ true = mark-kind k (rw e at f) in
-      let g : signTests k ≡ (false ∷ false ∷ false ∷ []) = rw v at (mark-tests k h) in
+      let g = mark-tests k h (rw e at f) in
+      let v : isVowelClass k ≡ true = cc in
       let a = vowel-adjacent before (t .vowel ∙ v) in
       record {
         start = c .break ∙ rw e;
@@ -145,32 +131,24 @@ fault-same true false k c h l = pairs-same (faultBy true false) (faultOf true fa
 fault-same false true k c h l = pairs-same (faultBy false true) (faultOf false true) 16 13 k c refl h l
 fault-same false false k c h l = pairs-same (faultBy false false) (faultOf false false) 16 13 k c refl h l
 
--- alternatives in another order
-or-swap : (x y z : Bool) → (x || (y || z)) ≡ (y || (x || z))
-or-swap true true z = refl
-or-swap true false z = refl
-or-swap false y z = refl
-
 -- the fault at a byte, by the kind before it and its class
 pub fault-told : (before : List ℕ) (k b : ℕ) (after : List ℕ) → k < 16 → ByClass b → Told before k
     → faultAt before b after ≡ faultOf (none after) (eqb (lettersBefore before) 64) k (classOf b)
 unfolding faultAt firstFit rows row3 row4 row5 row6 row7 row8 row9 row10
 fault-told before k b after h c t =
-    rw (or-swap (none before) (none after) (first isBreak before), t .start, t .vowel, t .sign, t .hardSign, t .vowelSigned, c .letter, c .mark, c .break, c .sign, c .consonant, c .vowel)
+    rw (or-comm (none after) (first isBreak before), ← or-assoc (none before) (first isBreak before) (none after), t .start, or-comm (isBreakClass k) (none after), t .vowel, t .sign, t .hardSign, t .vowelSigned, c .letter, c .mark, c .break, c .sign, c .consonant, c .vowel)
     (fault-same (none after) (eqb (lettersBefore before) 64) k (classOf b) h (c .class))
 
 -- a byte without a fault here has no number of the table of steps, and is no 65th letter
 pub here-clear : (m : List ℕ) (i : ℕ) → faultHere m i ≡ 0
     → (faultIn (kindAt m i) (classOf (getD m i 0)) ≡ 0) × ((isLetterClass (classOf (getD m i 0)) && eqb (lettersAt m i) 64) ≡ false)
 unfolding faultHere
-here-clear m i e = by (eqb (faultIn (kindAt m i) (classOf (getD m i 0))) 0) refl (isLetterClass (classOf (getD m i 0)) && eqb (lettersAt m i) 64) refl e
+here-clear m i e = by (faultIn (kindAt m i) (classOf (getD m i 0))) (isLetterClass (classOf (getD m i 0)) && eqb (lettersAt m i) 64) e
   where
-    by : (t : Bool) → eqb (faultIn (kindAt m i) (classOf (getD m i 0))) 0 ≡ t → (u : Bool) → (isLetterClass (classOf (getD m i 0)) && eqb (lettersAt m i) 64) ≡ u
-        → cond t (cond u 10 0) (faultIn (kindAt m i) (classOf (getD m i 0))) ≡ 0
-        → (faultIn (kindAt m i) (classOf (getD m i 0)) ≡ 0) × ((isLetterClass (classOf (getD m i 0)) && eqb (lettersAt m i) 64) ≡ false)
-    by true d true q z = absurd (omega arith)
-    by true d false q z = (eqb-true _ _ d, q)
-    by false d u q z = absurd (eqb-false _ _ d z)
+    by : (f : ℕ) (u : Bool) → cond (eqb f 0) (cond u 10 0) f ≡ 0 → (f ≡ 0) × (u ≡ false)
+    by zero true z = absurd (omega arith)
+    by zero false z = (refl, refl)
+    by (suc f) u z = absurd (omega (arith, rw (ne-eqb (suc f) 0 (λ q. omega arith)) at z))
 
 -- and the other way round
 pub clear-here : (m : List ℕ) (i : ℕ) → faultIn (kindAt m i) (classOf (getD m i 0)) ≡ 0 → (isLetterClass (classOf (getD m i 0)) && eqb (lettersAt m i) 64) ≡ false → faultHere m i ≡ 0
@@ -194,7 +172,7 @@ module _ (m : List ℕ) (bytes : (j : ℕ) → getD m j 0 < 256) where
   counts-up zero = (omega arith, omega arith)
   counts-up (suc i) =
       let c = counts-up i in
-      (omega (arith, c .0, width-up m i (kindAt m i) (entry-at i)), omega (arith, c .1, entry-at i .names))
+      (omega (arith, c .0, silent-asks m i bytes .1, entry-at i .width), omega (arith, c .1, entry-at i .names))
 
   -- the letters before a place are those that the rows count
   letters-at : (i : ℕ) → lettersAt m i ≡ lettersBefore (beforeAt m i)
@@ -215,12 +193,12 @@ module _ (m : List ℕ) (bytes : (j : ℕ) → getD m j 0 < 256) where
   unfolding faultHere
   fault-paper i c =
       fault-told (beforeAt m i) (kindAt m i) (getD m i 0) (drop (suc i) m) (kind-small i) (by-class (getD m i 0) (bytes i)) (told-at i c)
-      ∙ rw (← letters-at i) (by (faultIn (kindAt m i) (classAt m i)) (eqb (faultIn (kindAt m i) (classAt m i)) 0) refl (isLetterClass (classAt m i) && eqb (lettersAt m i) 64) _)
+      ∙ rw (← letters-at i) (by (faultIn (kindAt m i) (classAt m i)) (isLetterClass (classAt m i) && eqb (lettersAt m i) 64) _)
     where
-      by : (f : ℕ) (t : Bool) → eqb f 0 ≡ t → (u : Bool) (x : ℕ) → cond t (cond u 10 x) f ≡ cond (eqb (cond t (cond u 10 0) f) 0) x (cond t (cond u 10 0) f)
-      by f true d true x = refl
-      by f true d false x = refl
-      by f false d u x = rw d
+      by : (f : ℕ) (u : Bool) (x : ℕ) → cond (eqb f 0) (cond u 10 x) f ≡ cond (eqb (cond (eqb f 0) (cond u 10 0) f) 0) x (cond (eqb f 0) (cond u 10 0) f)
+      by zero true x = refl
+      by zero false x = refl
+      by (suc f) u x = simp (ne-eqb (suc f) 0 (λ q. omega arith))
 
   -- so a byte that is passed is clear, but for a break last
   passed : (i : ℕ) → ((j : ℕ) → j < suc i → faultHere m j ≡ 0) → (isBreakClass (classAt m i) && none (drop (suc i) m)) ≡ false → ClearAt m i

@@ -17,16 +17,17 @@ use Rattle.spec.specs.Vowels.{bare, glides}
 use Rattle.spec.specs.Voicing.{Tone}
 use Rattle.spec.specs.Tape.{tape, names}
 use Rattle.spec.specs.Refusals.{vowelByte}
-use Rattle.message.specs.Classes.{classOf, isBreakClass, isConsonantClass, isLetterClass, letterAt, letterBefore, elidedAt}
+use Rattle.message.specs.Classes.{classOf, isBreakClass, isConsonantClass, isLetterClass}
 use Rattle.message.specs.Steps.{isSignKind, kindAt, widthIn, widthAt, codesTo, namesIn, namesTo, tailNames}
 use Rattle.spec.specs.declared.Cover.the-variants.{Bare, Covered}
-use Rattle.message.proofs.Bytes.{below, below-same, by-class, break-consonant, mark-consonant, letter-class}
+use Rattle.message.proofs.Bytes.{below, below-same, by-class, letter-class}
 use Rattle.laws.proofs.Classes.{among-same}
 use Rattle.message.specs.Fused.{vowelCodes, letterCodes}
 use Rattle.message.specs.Places.{leftAt, factsAt, toneAt, soundAt, tapeAt, wordAt, letterOf, codesAt, namesAt, Steady}
 use Rattle.message.proofs.Tail.{tape-start, tape-end, tape-letter, tape-mark, tape-break, names-start, names-end, names-vowel, names-other, names-break}
-use Rattle.message.proofs.Before.{kind-consonant, kind-sign}
-use Rattle.message.proofs.Silent.{plain-stays, elided-at}
+use Rattle.message.proofs.Before.{kind-at}
+use Rattle.message.proofs.Silent.{elided-at}
+use Rattle.message.proofs.StepTable.{class-spoken}
 use Rattle.message.proofs.Computed.{everything}
 
 -- how many codes a letter s makes, elision apart, by whether a consonant or a sign stands before it, as the passes have it
@@ -74,22 +75,19 @@ letter-length hard facts p l w tone c = by (elides p (l .byte) w) (isSign (l .by
     by false false false g x y z = refl
 
 module _ (m : List ℕ) (steady : Steady m) where
-  -- a byte that is no consonant is never silent
-  width-kept : (i k : ℕ) → isConsonant (small (getD m i 0)) ≡ false → widthAt m i k ≡ widthIn k (classOf (getD m i 0))
-  unfolding widthAt elidedAt letterAt
-  width-kept i k n = rw (plain-stays (letterBefore m i) (small (getD m i 0)) (letterAt m (i + 1)) (letterAt m (i + 2)) n)
-
   -- a break is counted one code
   width-break : (i k : ℕ) → isBreak (getD m i 0) ≡ true → widthAt m i k ≡ 1
-  unfolding widthIn
-  width-break i k b = rw (width-kept i k (break-consonant _ (steady .bytes i) b), ← by-class (getD m i 0) (steady .bytes i) .break, b)
+  unfolding widthAt widthIn
+  width-break i k b =
+      let c : isBreakClass (classOf (getD m i 0)) ≡ true = sym (by-class (getD m i 0) (steady .bytes i) .break) ∙ b in
+      rw (class-spoken m i (steady .bytes i) (λ e. true≢false (sym c ∙ rw e)), c)
 
   -- a mark none
   width-mark : (i k : ℕ) → isMark (getD m i 0) ≡ true → widthAt m i k ≡ 0
-  unfolding widthIn
+  unfolding widthAt widthIn
   width-mark i k e =
       let c : classOf (getD m i 0) ≡ 1 = eqb-true _ _ (sym (by-class (getD m i 0) (steady .bytes i) .mark) ∙ e) in
-      rw (width-kept i k (mark-consonant _ (steady .bytes i) e), c)
+      rw (class-spoken m i (steady .bytes i) (λ q. omega (arith, c, q)), c)
 
   -- a letter as many as it makes
   width-letter : (i : ℕ) → i < length m → isBreak (getD m i 0) ≡ false → isMark (getD m i 0) ≡ false → length (codesAt m i) ≡ widthAt m i (kindAt m i)
@@ -99,7 +97,8 @@ module _ (m : List ℕ) (steady : Steady m) where
       let t = steady .bytes i in
       let l = letter-length (leftAt m i .hard) (factsAt m i) p (letterOf m i) (wordAt m (suc i)) (toneAt m (suc i)) (soundAt m (suc i)) in
       let n = heard-counted (isConsonant p) (isSign p) (getD m i 0) (consonant-firm p) t (letter-class (getD m i 0) t b k (steady .named i h)) in
-      l ∙ rw (elided-at m steady i h b k, n, kind-consonant m steady i (omega arith), kind-sign m steady i (omega arith))
+      let a = kind-at m steady i (omega arith) in
+      l ∙ rw (elided-at m steady i h b k, n, a .consonant, a .sign)
 
   -- each byte is counted as many codes as it puts before the rest's
   pub codes-step : (i : ℕ) → i < length m → length (tapeAt m i) ≡ widthAt m i (kindAt m i) + length (tapeAt m (suc i))
@@ -123,7 +122,7 @@ module _ (m : List ℕ) (steady : Steady m) where
   -- an incomplete syllable is counted where it is named
   pub names-tail : (i : ℕ) → i ≤ length m → length (incomplete (leftAt m i .p)) ≡ tailNames (kindAt m i)
   unfolding incomplete tailNames
-  names-tail i h = rw (kind-consonant m steady i h, kind-sign m steady i h) (one (isConsonantClass (kindAt m i) || isSignKind (kindAt m i)))
+  names-tail i h = rw (kind-at m steady i h .consonant, kind-at m steady i h .sign) (one (isConsonantClass (kindAt m i) || isSignKind (kindAt m i)))
     where
       one : (t : Bool) → length {A = ℕ} (cond t (7 ∷ []) []) ≡ cond t 1 0
       one true = refl

@@ -13,9 +13,10 @@ use Rattle.spec.specs.Alphabet.{«д», «з», «к», «н», «р», «с»,
 use Rattle.spec.specs.Tables.{among}
 use Rattle.spec.specs.Letters.{Letter, read, firstWord, firstByte, small, hardOnly, paired, softOnly, plainVowels, softeningVowels, isMark, isBreak, isVowel, isConsonant}
 use Rattle.spec.specs.Elision.{secondByte, elides, elidesT, elidesD, elidesAmong}
+use Rattle.spec.specs.Refusals.{consonantByte}
 use Rattle.message.specs.Classes.{letterAt, letterBefore, elidedAt}
-use Rattle.message.proofs.Bytes.{break-consonant, mark-consonant, consonant-vowel}
-use Rattle.laws.proofs.Classes.{among-same, among-none}
+use Rattle.message.proofs.Bytes.{mark-consonant, consonant-vowel}
+use Rattle.laws.proofs.Classes.{among-same, among-none, break-consonant}
 use Rattle.message.specs.Places.{leftAt, wordAt, letterOf, Steady}
 use Rattle.message.proofs.Left.{left-letter, left-mark, left-break, unmarked-after}
 use Rattle.message.proofs.Tail.{word-letter, word-break}
@@ -67,19 +68,16 @@ vowel-plain p h = among-same isConsonant (λ _. false) (plainVowels ++ softening
 module _ (m : List ℕ) (steady : Steady m) where
   -- the letter before a letter, and the byte before it
   pub alike-before : (i : ℕ) → i ≤ length m → Alike (leftAt m i .p) (letterBefore m i)
-  unfolding leftAt letterBefore letterAt letterOf
+  unfolding leftAt letterBefore letterAt letterOf consonantByte
   alike-before zero h = λ x c. refl
   alike-before (suc i) h = by (isBreak b) refl (isMark b) refl
     where
       b : ℕ
       b = getD m i 0
 
-      t : b < 256
-      t = steady .bytes i
-
       by : (s : Bool) → isBreak b ≡ s → (k : Bool) → isMark b ≡ k → Alike (leftAt m (suc i) .p) (small b)
-      by true s k e = rw (left-break m i h s) (alike-none 0 (small b) none-plain (break-consonant b t s))
-      by false s true e = rw (left-mark m i h e) (alike-none (leftAt m i .p) (small b) (vowel-plain (leftAt m i .p) (vowel-before m steady i h e)) (mark-consonant b t e))
+      by true s k e = rw (left-break m i h s) (alike-none 0 (small b) none-plain (break-consonant b s))
+      by false s true e = rw (left-mark m i h e) (alike-none (leftAt m i .p) (small b) (vowel-plain (leftAt m i .p) (vowel-before m steady i h e)) (mark-consonant b (steady .bytes i) e))
       by false s false e = rw (left-letter m i h s e) (λ x c. refl)
 
   -- a place is past the end, at a break, or within a word
@@ -103,11 +101,11 @@ module _ (m : List ℕ) (steady : Steady m) where
 
   -- the first letter from a place on, and the byte there
   pub alike-at : (j : ℕ) → isMark (getD m j 0) ≡ false → Alike (firstByte (wordAt m j)) (letterAt m j)
-  unfolding letterAt letterOf firstByte
+  unfolding letterAt letterOf firstByte consonantByte
   alike-at j k =
       place (Alike (firstByte (wordAt m j)) (letterAt m j)) j
       (λ o. rw (word-past j o, letter-past j o) (λ x c. refl))
-      (λ h s. rw (word-break m steady j h s) (alike-none 0 (small (getD m j 0)) none-plain (break-consonant (getD m j 0) (steady .bytes j) s)))
+      (λ h s. rw (word-break m steady j h s) (alike-none 0 (small (getD m j 0)) none-plain (break-consonant (getD m j 0) s)))
       (λ h s. rw (word-letter m steady j h s k) (λ x c. refl))
 
   -- the second letter from a place on, and the byte after it, where the first is a consonant
@@ -127,15 +125,10 @@ module _ (m : List ℕ) (steady : Steady m) where
       x : ℕ
       x = small (getD m i 0)
 
-      w : List Letter
-      w = wordAt m (suc i)
-
-      two : i + 2 ≡ suc (suc i)
-      two = omega arith
-
-      by : (t : Bool) → isConsonant x ≡ t → elides (leftAt m i .p) x w ≡ elidedAt m i
+      by : (t : Bool) → isConsonant x ≡ t → elides (leftAt m i .p) x (wordAt m (suc i)) ≡ elidedAt m i
       by true c =
           let u = unmarked-after m steady i (consonant-vowel (getD m i 0) (steady .bytes i) c) in
+          let two : i + 2 ≡ suc (suc i) = omega arith in
           rw (elides-beside, add-one i, two)
           (alike-elides _ _ x _ _ _ _ (alike-before i (omega arith)) (alike-at (suc i) u) (alike-second (suc i) u))
-      by false c = rw (elides-beside) (plain-stays (leftAt m i .p) x (firstByte w) (secondByte w) c ∙ sym (plain-stays (letterBefore m i) x (letterAt m (i + 1)) (letterAt m (i + 2)) c))
+      by false c = rw (elides-beside) (plain-stays (leftAt m i .p) x _ _ c ∙ sym (plain-stays (letterBefore m i) x (letterAt m (i + 1)) (letterAt m (i + 2)) c))

@@ -57,11 +57,6 @@ unfolding among elidedAt letterBefore letterAt
 before-spoken m zero h n = after-spoken 0 _ _ _ refl
 before-spoken m (suc i) h n = after-spoken (small (getD m i 0)) _ _ _ (class-before (getD m i 0) (h i) (rw (ne-eqb (classOf (getD m i 0)) 7 (n i refl))))
 
--- nor after another kind
-pub kind-spoken : (m : List ℕ) (i : ℕ) → ((j : ℕ) → getD m j 0 < 256) → (kindAt m i ≡ 7 → ⊥) → elidedAt m i ≡ false
-unfolding kindAt nextKind
-kind-spoken m i h n = before-spoken m i h (λ j e k. n (rw (e, k)))
-
 -- a table has at each place what it says
 tabulate-at : (f : ℕ → ℕ) (i n j : ℕ) → j < n → getD (tabulate f i n) j 0 ≡ f (i + j)
 unfolding tabulate
@@ -85,18 +80,28 @@ pairs-read t k c e h l =
     let r : (0 + (16 * k + c)) % 16 ≡ c = omega arith in
     rw (e, tabulate-at f 0 256 (16 * k + c) (omega arith), q, r)
 
--- how large the parts of an entry are
+-- How large the parts of an entry are. A stop is 1 and the fault, and where there is none the class is the next kind.
 pub record Entry (k c : ℕ) : Type 0 where
   pub width : widthIn k c ≤ 2
   pub names : namesIn k c ≤ 1
   pub ask : askIn k c ≤ 1
   pub stop : stopIn k c ≤ 31
   pub next : nextKind k c < 16
+  pub fault : faultIn k c ≡ stopIn k c - 1
+  pub plain : stopIn k c ≡ 0 → nextKind k c ≡ c
 
 -- every entry that is read is so, by one computation each
 pub entry-holds : (k c : ℕ) → k < 16 → c < 13 → Entry k c
 unfolding everything
-entry-holds k c h l = record { width = most widthIn 2 refl; names = most namesIn 1 refl; ask = most askIn 1 refl; stop = most stopIn 31 refl; next = omega (arith, most nextKind 15 refl) }
+entry-holds k c h l = record {
+  width = most widthIn 2 refl;
+  names = most namesIn 1 refl;
+  ask = most askIn 1 refl;
+  stop = most stopIn 31 refl;
+  next = omega (arith, most nextKind 15 refl);
+  fault = pairs-same faultIn (λ x y. stopIn x y - 1) 16 13 k c refl h l;
+  plain = λ e. rw e at (pairs-same (λ x y. cond (eqb (stopIn x y) 0) (nextKind x y) y) (λ x y. y) 16 13 k c refl h l);
+}
   where
     most : (f : ℕ → ℕ → ℕ) (n : ℕ) → map (λ x. map (λ y. leb (f x y) n) (below 13)) (below 16) ≡ map (λ x. map (λ y. true) (below 13)) (below 16) → f k c ≤ n
     most f n e = leb-true (f k c) n (pairs-same (λ x y. leb (f x y) n) (λ x y. true) 16 13 k c e h l)
@@ -118,72 +123,15 @@ unpacks k c e = record {
   small = omega (arith, e .width, e .names, e .ask, e .stop);
 }
 
--- where there is no stop there is no fault, and the class is the next kind
-pub no-stop : (k c : ℕ) → stopIn k c ≡ 0 → (faultIn k c ≡ 0) × (nextKind k c ≡ c)
-unfolding stopIn
-no-stop k c e = by (eqb (faultIn k c) 0) refl (eqb (nextKind k c) c) refl e
+-- Only a letter that may be elided is, and it makes one code: so a byte asks where it loses a code, and the codes it makes and the one it loses are those of its class.
+pub silent-asks : (m : List ℕ) (i : ℕ) → ((j : ℕ) → getD m j 0 < 256)
+    → (silentAt m i ≤ askIn (kindAt m i) (classAt m i)) × (widthAt m i (kindAt m i) + silentAt m i ≡ widthIn (kindAt m i) (classAt m i))
+unfolding askIn widthIn widthAt kindAt nextKind
+silent-asks m i bytes = by (elidedAt m i) refl (eqb (kindAt m i) 7) refl (eqb (classAt m i) 8) refl
   where
-    by : (t : Bool) → eqb (faultIn k c) 0 ≡ t → (u : Bool) → eqb (nextKind k c) c ≡ u → cond (t && u) 0 (suc (faultIn k c)) ≡ 0 → (faultIn k c ≡ 0) × (nextKind k c ≡ c)
-    by true d true q z = (eqb-true _ _ d, eqb-true _ _ q)
-    by true d false q z = absurd (omega arith)
-    by false d u q z = absurd (omega arith)
-
--- any other is 1 and the fault
-pub stop-fault : (k c : ℕ) → (stopIn k c ≡ 0 → ⊥) → stopIn k c ≡ suc (faultIn k c)
-unfolding stopIn
-stop-fault k c n = by (eqb (faultIn k c) 0 && eqb (nextKind k c) c) n
-  where
-    by : (t : Bool) → (cond t 0 (suc (faultIn k c)) ≡ 0 → ⊥) → cond t 0 (suc (faultIn k c)) ≡ suc (faultIn k c)
-    by true z = absurd (z refl)
-    by false z = refl
-
--- so a first stop is no fault
-pub first-stop : (k c : ℕ) → stopIn k c < 2 → faultIn k c ≡ 0
-first-stop k c h = by (eqb (stopIn k c) 0) refl
-  where
-    by : (t : Bool) → eqb (stopIn k c) 0 ≡ t → faultIn k c ≡ 0
-    by true d = no-stop k c (eqb-true _ _ d) .0
-    by false d = let e = stop-fault k c (eqb-false _ _ d) in omega arith
-
--- a letter that may be elided makes one code
-ask-width : (k c : ℕ) → k ≡ 7 → c ≡ 8 → (askIn k c ≡ 1) × (widthIn k c ≡ 1)
-unfolding everything
-ask-width k c e f = rw (e, f) (refl, refl)
-
-module _ (m : List ℕ) (i : ℕ) (bytes : (j : ℕ) → getD m j 0 < 256) where
-  -- only such a letter is elided
-  elided-asks : elidedAt m i ≡ true → (askIn (kindAt m i) (classAt m i) ≡ 1) × (widthIn (kindAt m i) (classAt m i) ≡ 1)
-  elided-asks e = by (eqb (kindAt m i) 7) refl (eqb (classAt m i) 8) refl
-    where
-      by : (t : Bool) → eqb (kindAt m i) 7 ≡ t → (u : Bool) → eqb (classAt m i) 8 ≡ u → (askIn (kindAt m i) (classAt m i) ≡ 1) × (widthIn (kindAt m i) (classAt m i) ≡ 1)
-      by true d true q = ask-width _ _ (eqb-true (kindAt m i) 7 d) (eqb-true (classAt m i) 8 q)
-      by true d false q = absurd (false≢true (sym (class-spoken m i (bytes i) (eqb-false (classAt m i) 8 q)) ∙ e))
-      by false d u q = absurd (false≢true (sym (kind-spoken m i bytes (eqb-false (kindAt m i) 7 d)) ∙ e))
-
-  -- so a byte asks where it loses a code, and has that code
-  pub silent-asks : (silentAt m i ≤ askIn (kindAt m i) (classAt m i)) × (silentAt m i ≤ widthIn (kindAt m i) (classAt m i))
-  silent-asks = by (elidedAt m i) elided-asks
-    where
-      by : (t : Bool) → (t ≡ true → (askIn (kindAt m i) (classAt m i) ≡ 1) × (widthIn (kindAt m i) (classAt m i) ≡ 1))
-          → (cond t 1 0 ≤ askIn (kindAt m i) (classAt m i)) × (cond t 1 0 ≤ widthIn (kindAt m i) (classAt m i))
-      by true a = let o = a refl in (omega (arith, o .0), omega (arith, o .1))
-      by false a = (omega arith, omega arith)
-
-  -- the codes it makes and the one it loses are those of its class
-  pub width-silent : widthAt m i (kindAt m i) + silentAt m i ≡ widthIn (kindAt m i) (classAt m i)
-  unfolding widthAt
-  width-silent = by (elidedAt m i) elided-asks
-    where
-      by : (t : Bool) → (t ≡ true → (askIn (kindAt m i) (classAt m i) ≡ 1) × (widthIn (kindAt m i) (classAt m i) ≡ 1))
-          → cond t 0 (widthIn (kindAt m i) (classAt m i)) + cond t 1 0 ≡ widthIn (kindAt m i) (classAt m i)
-      by true a = let o = a refl in omega (arith, o .1)
-      by false a = omega arith
-
--- a byte makes at most two codes
-pub width-up : (m : List ℕ) (i k : ℕ) → Entry k (classOf (getD m i 0)) → widthAt m i k ≤ 2
-unfolding widthAt
-width-up m i k e = by (elidedAt m i)
-  where
-    by : (t : Bool) → cond t 0 (widthIn k (classOf (getD m i 0))) ≤ 2
-    by true = omega arith
-    by false = e .width
+    by : (e : Bool) → elidedAt m i ≡ e → (t : Bool) → eqb (kindAt m i) 7 ≡ t → (u : Bool) → eqb (classAt m i) 8 ≡ u
+        → (cond e 1 0 ≤ askIn (kindAt m i) (classAt m i)) × (cond e 0 (widthIn (kindAt m i) (classAt m i)) + cond e 1 0 ≡ widthIn (kindAt m i) (classAt m i))
+    by true e true d true q = rw (eqb-true (kindAt m i) 7 d, eqb-true (classAt m i) 8 q) (omega arith, omega arith)
+    by true e true d false q = absurd (false≢true (sym (class-spoken m i (bytes i) (eqb-false (classAt m i) 8 q)) ∙ e))
+    by true e false d u z = absurd (false≢true (sym (before-spoken m i bytes (λ j q k. eqb-false (kindAt m i) 7 d (rw (q, k)))) ∙ e))
+    by false e t d u q = (omega arith, omega arith)

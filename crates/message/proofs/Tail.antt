@@ -2,12 +2,10 @@
 -- Assumes nothing.
 use Prim.Native.Nat.{ℕ, suc, _<_}
 use mathlib.Core.Path.{_≡_, refl, sym, ap}
-use mathlib.Core.Bool.{Bool, true, false, cond, _&&_, _||_, or-false, or-true}
+use mathlib.Core.Bool.{Bool, true, false, cond, _&&_, or-assoc, or-comm, or-false}
 use mathlib.Core.List.{List, [], _∷_, _++_, append-assoc, append-nil}
-use lib.Dec.{eqb}
 use lib.ListN.{length, getD, drop}
 use lib.Seq.{drop-cons, drop-length}
-use Rattle.spec.specs.Alphabet.{pause}
 use Rattle.spec.specs.Letters.{Letter, Message, last, more, putLetter, read, firstWord, isMark, isBreak, isGap, isVowel}
 use Rattle.spec.specs.Codes.{markOf, isVoicing}
 use Rattle.spec.specs.Syllables.{Facts, factsOf, hasMark, namesFrom, incomplete, nameOf, syllableOf}
@@ -16,13 +14,13 @@ use Rattle.spec.specs.Voicing.{voiced, voiceless, voices, toneOf}
 use Rattle.spec.specs.Palatalization.{firstCode}
 use Rattle.spec.specs.Tape.{segment, tape, namesOf, names}
 use Rattle.spec.specs.Refusals.{vowelByte}
-use Rattle.message.proofs.Bytes.{break-vowel, vowel-break, vowel-mark}
+use Rattle.message.proofs.Bytes.{vowel-break, vowel-mark}
+use Rattle.laws.proofs.Classes.{break-vowel}
 use Rattle.laws.proofs.Stretch.{voices-over, voices-first}
 use Rattle.message.specs.Fused.{toneBefore, letterCodes, fusedFrom}
 use Rattle.message.proofs.Fused.{word-fused, names-fused}
 use Rattle.message.specs.Places.{Left, leftAt, markBefore, markFrom, markedAt, factsAt, tailTape, tailNext, tailWord, tapeAt, wordAt, toneAt, soundAt, letterOf, codesAt, toneAfter, soundAfter, tailNamesOf, namesAt, Steady}
 use Rattle.message.proofs.Left.{mark-within, word-put, afterLetter, begins-at, mark-first, read-letter, read-mark, read-break, read-end, left-letter, left-mark, left-break, unmarked-after}
-use Rattle.message.proofs.Computed.{everything}
 
 -- at the start of a word its stretch is the tape of what follows
 pub start-tape : (hard : Bool) (r : Message) → segment hard false r ≡ tailTape (record { p = 0; q = 0; hard = hard }) (factsOf (firstWord r)) r
@@ -47,17 +45,11 @@ unfolding tailTape tailWord tailNext firstWord tailRest
 word-rest l facts (last w) = sym (append-nil (fusedFrom (l .hard) facts false (l .p) w))
 word-rest l facts (more w x r) = refl
 
--- the tone of codes put before others
-pub tone-append : (next : Bool) (cs t : List ℕ) → toneOf next (cs ++ t) ≡ toneAfter cs (toneOf next t)
-unfolding toneOf voices toneBefore
-tone-append next [] t = refl
-tone-append next (c ∷ cs) t = refl
-
--- and their first sound
-pub sound-append : (cs t : List ℕ) → firstCode (cs ++ t) ≡ soundAfter cs (firstCode t)
-unfolding firstCode
-sound-append [] t = refl
-sound-append (c ∷ cs) t = refl
+-- the tone of codes put before others, and their first sound
+pub codes-append : (next : Bool) (cs t : List ℕ) → (toneOf next (cs ++ t) ≡ toneAfter cs (toneOf next t)) × (firstCode (cs ++ t) ≡ soundAfter cs (firstCode t))
+unfolding toneOf voices toneBefore firstCode
+codes-append next [] t = (refl, refl)
+codes-append next (c ∷ cs) t = (refl, refl)
 
 -- a choice of lists before another
 pub cond-append : (t : Bool) (x y z : List ℕ) → cond t x y ++ z ≡ cond t (x ++ z) (y ++ z)
@@ -73,34 +65,28 @@ module _ (l : Left) (facts : Facts) (x : Letter) where
   abbrev putCodes : Message → List ℕ
   putCodes r = letterCodes (l .hard) facts (l .p) x (firstWord r) (toneOf (tailNext after r) (tailWord after facts r)) (firstCode (tailWord after facts r))
 
-  -- a letter put before the rest changes nothing about the word after
-  pub put-next : (r : Message) → tailNext l (putLetter x r) ≡ tailNext after r
-  unfolding tailNext putLetter endsHardFrom
-  put-next (last w) = refl
-  put-next (more w y r) = refl
-
-  -- nor of what stands after its word
-  pub put-rest : (r : Message) → tailRest l (putLetter x r) ≡ tailRest after r
-  unfolding tailRest putLetter endsHardFrom
-  put-rest (last w) = refl
-  put-rest (more w y r) = refl
+  -- a letter put before the rest changes nothing about the word after, nor of what stands after its word
+  pub put-after : (r : Message) → (tailNext l (putLetter x r) ≡ tailNext after r) × (tailRest l (putLetter x r) ≡ tailRest after r)
+  unfolding tailNext tailRest putLetter endsHardFrom
+  put-after (last w) = (refl, refl)
+  put-after (more w y r) = (refl, refl)
 
   -- its codes stand before those of the rest of the word
   pub put-word : (r : Message) → tailWord l facts (putLetter x r) ≡ putCodes r ++ tailWord after facts r
   unfolding tailWord fusedFrom
-  put-word r = rw (word-put x r, put-next r)
+  put-word r = rw (word-put x r, put-after r .0)
 
   -- so they tell its tone
   pub put-tone : (r : Message) → toneOf (tailNext l (putLetter x r)) (tailWord l facts (putLetter x r)) ≡ toneAfter (putCodes r) (toneOf (tailNext after r) (tailWord after facts r))
-  put-tone r = rw (put-next r, put-word r) (tone-append (tailNext after r) (putCodes r) (tailWord after facts r))
+  put-tone r = rw (put-after r .0, put-word r) (codes-append (tailNext after r) (putCodes r) (tailWord after facts r) .0)
 
   -- and its first sound
   pub put-sound : (r : Message) → firstCode (tailWord l facts (putLetter x r)) ≡ soundAfter (putCodes r) (firstCode (tailWord after facts r))
-  put-sound r = rw (put-word r) (sound-append (putCodes r) (tailWord after facts r))
+  put-sound r = rw (put-word r) (codes-append (tailNext after r) (putCodes r) (tailWord after facts r) .1)
 
   -- and stand before the rest's tape
   pub put-tape : (r : Message) → tailTape l facts (putLetter x r) ≡ putCodes r ++ tailTape after facts r
-  put-tape r = rw (word-rest l facts (putLetter x r), word-rest after facts r, put-word r, put-rest r) (append-assoc (putCodes r) (tailWord after facts r) (tailRest after r))
+  put-tape r = rw (word-rest l facts (putLetter x r), word-rest after facts r, put-word r, put-after r .1) (append-assoc (putCodes r) (tailWord after facts r) (tailRest after r))
 
   -- of the names, a vowel puts its syllable's before the rest's
   pub put-names : (r : Message)
@@ -148,11 +134,7 @@ module _ (m : List ℕ) (steady : Steady m) where
   -- whether the word has a mark does not change within it
   pub marked-within : (i : ℕ) → i < length m → isBreak (getD m i 0) ≡ false → markedAt m i ≡ markedAt m (suc i)
   unfolding markedAt markBefore markFrom
-  marked-within i h b = rw (drop-cons m i 0 h, b) (swap (markBefore m i) (isMark (getD m i 0)) (markFrom (drop (suc i) m)))
-    where
-      swap : (x y z : Bool) → (x || (y || z)) ≡ ((y || x) || z)
-      swap true y z = rw (or-true y)
-      swap false y z = rw (or-false y)
+  marked-within i h b = rw (drop-cons m i 0 h, b, ← or-assoc (markBefore m i) (isMark (getD m i 0)) (markFrom (drop (suc i) m)), or-comm (markBefore m i) (isMark (getD m i 0)))
 
   -- at its end it is told by the bytes before
   pub marked-break : (i : ℕ) → i < length m → isBreak (getD m i 0) ≡ true → markedAt m i ≡ markBefore m i
@@ -172,7 +154,7 @@ module _ (m : List ℕ) (steady : Steady m) where
   -- so it is after a break
   pub marked-after : (i : ℕ) → isBreak (getD m i 0) ≡ true → markedAt m (suc i) ≡ hasMark (wordAt m (suc i))
   unfolding markBefore
-  marked-after i b = marked-first (suc i) (rw b) (unmarked-after m steady i (break-vowel (getD m i 0) (steady .bytes i) b))
+  marked-after i b = marked-first (suc i) (rw b) (unmarked-after m steady i (break-vowel (getD m i 0) b))
 
   -- the whole tape is the tape at the first place
   pub tape-start : tapeAt m 0 ≡ tape m
@@ -185,9 +167,7 @@ module _ (m : List ℕ) (steady : Steady m) where
   tape-end = rw (read-end m)
 
   -- a letter's codes stand before the rest's
-  pub tape-letter : (i : ℕ) → i < length m → isBreak (getD m i 0) ≡ false → isMark (getD m i 0) ≡ false
-      → tapeAt m i
-      ≡ codesAt m i ++ tapeAt m (suc i)
+  pub tape-letter : (i : ℕ) → i < length m → isBreak (getD m i 0) ≡ false → isMark (getD m i 0) ≡ false → tapeAt m i ≡ codesAt m i ++ tapeAt m (suc i)
   unfolding tapeAt codesAt toneAt soundAt wordAt
   tape-letter i h b k = rw (← marked-within i h b, left-letter m i h b k, read-letter m i h b k) (put-tape (leftAt m i) (factsAt m i) (letterOf m i) (read (drop (suc i) m)))
 

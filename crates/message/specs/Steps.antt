@@ -115,9 +115,10 @@ faultHere m i =
     let f = faultIn (kindAt m i) c in
     cond (eqb f 0) (cond (isLetterClass c && eqb (lettersAt m i) 64) 10 0) f
 
--- What the check has seen is true: no byte before its place has a fault, its kind is the one there, and its sum has the codes and the names of the bytes before. Its limit is as many places
+-- What the check has seen is true: the message is of bytes, no byte before its place has a fault, its kind is the one there, and its sum has the codes and the names of the bytes before. Its limit is as many places
 -- after `from` as the word lacks letters there to have 64, so before it no letter is a 65th.
 pub record Sees (m : List ℕ) (s : Seen) : Type 0 where
+  pub bytes : (j : ℕ) → getD m j 0 < 256
   pub within : s .at ≤ length m
   pub clear : (j : ℕ) → j < s .at → faultHere m j ≡ 0
   pub kind : s .kind ≡ kindAt m (s .at)

@@ -8,27 +8,14 @@ use borrow.Author.Needs.{needs}
 use Rattle.message.proofs.check.check.Statement.{statement}
 use Rattle.message.proofs.check.check.Tie as tie
 
-returns : tie.Need-returns
-unfolding checkOf
-returns c = check-promised _ _ (rw (eq-eqb (length (c .before .before .args .m .now)) 0 (c .if1 .taken)))
-
-returns-2 : tie.Need-returns-2
-unfolding checkOf
-returns-2 c =
-    let n = length (c .before .before .before .args .m .now) in
-    check-promised _ _ (rw (ne-eqb n 0 (c .before .if1 .left), lt-leb n 4096 (c .if2 .taken)))
-
-class-table-requires : tie.Need-class-table-requires
-class-table-requires c κs = search needs
-
-pair-table-requires : tie.Need-pair-table-requires
-pair-table-requires c κs = search needs
-
-walk-requires : tie.Need-walk-requires
-walk-requires c κs = search needs
-
-returns-3 : tie.Need-returns-3
-returns-3 c = check-promised _ _ (c .walk .ensures)
-
 pub check-spec : {M : Type 1} → statement M
-check-spec = tie.close (tie.spec returns returns-2 class-table-requires pair-table-requires walk-requires returns-3)
+unfolding checkOf
+check-spec =
+    tie.close
+    (tie.spec
+    (λ c. check-promised _ _ (rw (eq-eqb (length (c .before .before .args .m .now)) 0 (c .if1 .taken))))
+    (λ c. let n = length (c .before .before .before .args .m .now) in check-promised _ _ (rw (ne-eqb n 0 (c .before .if1 .left), lt-leb n 4096 (c .if2 .taken))))
+    (λ c κs. search needs)
+    (λ c κs. search needs)
+    (λ c κs. search needs)
+    (λ c. check-promised _ _ (c .walk .ensures)))

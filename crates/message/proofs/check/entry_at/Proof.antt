@@ -28,39 +28,15 @@ read c = let p = c .before .before .before .pre in rw (c .class-of .ensures) (pa
 small : (c : tie.After-class-of) → let a = c .before .before .before .args in getD (a .s .now) (16 * (a .k) + c .class-of .result) 0 < 32 * stopUnit
 small c = let s = c .before .before .before in rw (read c) (unpacks (s .args .k) (classAt (s .args .m .now) (s .args .i)) (entry-holds _ _ (s .pre .kind) (class c)) .small)
 
-shared-slice-read-class-of : tie.Need-shared-slice-read-class-of
-shared-slice-read-class-of c = search needs
-
-class-of-requires : tie.Need-class-of-requires
-class-of-requires c κs = search needs
-
-mul-result : tie.Need-mul-result
-mul-result c = search needs
-
-add-result : tie.Need-add-result
-add-result c = omega (arith, within c)
-
-mul-result-2 : tie.Need-mul-result-2
-mul-result-2 c = omega (arith, within c)
-
-element-copy-out-result : tie.Need-element-copy-out-result
-element-copy-out-result c = within c
-
-cast-result : tie.Need-cast-result
-cast-result c = omega (arith, small (c .before))
-
-returns : tie.Need-returns
-returns c = (read (c .before), small (c .before))
-
 pub entry-at-spec : {M : Type 1} → statement M
 entry-at-spec =
     tie.close
     (tie.spec
-    shared-slice-read-class-of
-    class-of-requires
-    mul-result
-    add-result
-    mul-result-2
-    element-copy-out-result
-    cast-result
-    returns)
+    (λ c. search needs)
+    (λ c κs. search needs)
+    (λ c. search needs)
+    (λ c. omega (arith, within c))
+    (λ c. omega (arith, within c))
+    within
+    (λ c. omega (arith, small (c .before)))
+    (λ c. (read (c .before), small (c .before))))

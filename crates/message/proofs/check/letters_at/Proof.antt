@@ -9,6 +9,7 @@ use lib.Dec.{leb}
 use borrow.Author.Tests.{le-leb, lt-leb}
 use Rattle.message.specs.Classes.{isBreakClass, isLetterClass, classAt}
 use Rattle.message.specs.Steps.{lettersAt}
+use borrow.Author.Needs.{needs}
 use Rattle.message.proofs.check.letters_at.Statement.{statement}
 use Rattle.message.proofs.check.letters_at.Tie as tie
 
@@ -18,22 +19,22 @@ record Back (m : List ℕ) (from i j n : ℕ) : Type 0 where
   pub counted : n + j ≤ i
   pub same : n + lettersAt m j ≡ lettersAt m i
 
--- one byte back
-back : (m : List ℕ) (j : ℕ) → 0 < j → let c = classAt m (j - 1) in lettersAt m j ≡ cond (isBreakClass c) 0 (cond (isLetterClass c) (suc (lettersAt m (j - 1))) (lettersAt m (j - 1)))
+-- one byte back, of class x: over a letter, a break, and any other
+record Over (m : List ℕ) (j x : ℕ) : Type 0 where
+  pub letter : 4 ≤ x → lettersAt m j ≡ suc (lettersAt m (j - 1))
+  pub break : 2 ≤ x → x < 4 → lettersAt m j ≡ 0
+  pub other : x < 2 → lettersAt m j ≡ lettersAt m (j - 1)
+
+over : (m : List ℕ) (j x : ℕ) → x ≡ classAt m (j - 1) → 0 < j → Over m j x
 unfolding lettersAt
-back m j h = let e : j ≡ suc (j - 1) = omega arith in ap (lettersAt m) e
-
--- over a letter
-letter-back : (m : List ℕ) (j : ℕ) → 0 < j → 4 ≤ classAt m (j - 1) → lettersAt m j ≡ suc (lettersAt m (j - 1))
-letter-back m j h l = let c = classAt m (j - 1) in back m j h ∙ rw (lt-leb c 3 (omega arith), le-leb 4 c l, and-false (leb 2 c))
-
--- over a break
-break-back : (m : List ℕ) (j : ℕ) → 0 < j → 2 ≤ classAt m (j - 1) → classAt m (j - 1) < 4 → lettersAt m j ≡ 0
-break-back m j h l u = let c = classAt m (j - 1) in back m j h ∙ rw (le-leb 2 c l, le-leb c 3 (omega arith))
-
--- over any other byte
-other-back : (m : List ℕ) (j : ℕ) → 0 < j → classAt m (j - 1) < 2 → lettersAt m j ≡ lettersAt m (j - 1)
-other-back m j h u = let c = classAt m (j - 1) in back m j h ∙ rw (lt-leb 2 c u, lt-leb 4 c (omega arith))
+over m j x e h =
+    let q : j ≡ suc (j - 1) = omega arith in
+    let b : lettersAt m j ≡ cond (isBreakClass x) 0 (cond (isLetterClass x) (suc (lettersAt m (j - 1))) (lettersAt m (j - 1))) = rw e (ap (lettersAt m) q) in
+    record {
+      letter = λ l. b ∙ rw (lt-leb x 3 (omega arith), le-leb 4 x l, and-false (leb 2 x));
+      break = λ l u. b ∙ rw (le-leb 2 x l, le-leb x 3 (omega arith));
+      other = λ u. b ∙ rw (lt-leb 2 x u, lt-leb 4 x (omega arith));
+    }
 
 abbrev Inv-loop : tie.InvT-loop
 Inv-loop m seen t from j₀ n₀ j n = Back m from (seen .at) j n
@@ -41,54 +42,9 @@ Inv-loop m seen t from j₀ n₀ j n = Back m from (seen .at) j n
 abbrev μ-loop : tie.MeasureT-loop
 μ-loop m seen t from j₀ n₀ j n = j
 
-loop-holds : tie.Need-loop-holds Inv-loop μ-loop
-loop-holds c = let w = c .before .pre .1 in record { above = w .from; counted = omega arith; same = omega arith }
-
-sub-j : tie.Need-sub-j Inv-loop μ-loop
-sub-j c = omega (arith, c .loop-test .taken)
-
-shared-slice-read-class-of : tie.Need-shared-slice-read-class-of Inv-loop μ-loop
-shared-slice-read-class-of c = let l = c .before .before in omega (arith, l .loop .inv .counted, l .before .before .pre .1 .within, c .before .loop-test .taken)
-
-class-of-requires : tie.Need-class-of-requires Inv-loop μ-loop
-class-of-requires c κs = c .before .before .before .before .pre .0
-
-add-n : tie.Need-add-n Inv-loop μ-loop
-add-n c = let l = c .before .before .before .before in omega (arith, l .loop .inv .counted, l .before .before .pre .1 .within)
-
-loop-less : tie.Need-loop-less Inv-loop μ-loop
-loop-less c = omega (arith, c .before .before .before .loop-test .taken)
-
-loop-again : tie.Need-loop-again Inv-loop μ-loop
-loop-again c = let k = c .before in
-    let l = k .before .before .before in
-    let h = k .before .before .loop-test .taken in
-    let e = letter-back (l .before .before .args .m .now) (l .loop .j) (omega (arith, h)) (omega (arith, k .class-of .ensures, c .if1 .taken)) in
-    record { above = omega (arith, h); counted = omega (arith, l .loop .inv .counted, h); same = omega (arith, l .loop .inv .same, e) }
-
-returns : tie.Need-returns Inv-loop μ-loop
-returns c = let k = c .before .before in
-    let l = k .before .before .before in
-    omega (arith, l .loop .inv .same, break-back (l .before .before .args .m .now) (l .loop .j) (omega (arith, k .before .before .loop-test .taken)) (omega (arith, k .class-of .ensures, c .if2 .taken)) (omega (arith, k .class-of .ensures, c .before .if1 .left)))
-
-loop-less-2 : tie.Need-loop-less-2 Inv-loop μ-loop
-loop-less-2 c = omega (arith, c .before .before .before .before .loop-test .taken)
-
-loop-again-2 : tie.Need-loop-again-2 Inv-loop μ-loop
-loop-again-2 c = let k = c .before .before in
-    let l = k .before .before .before in
-    let h = k .before .before .loop-test .taken in
-    let e = other-back (l .before .before .args .m .now) (l .loop .j) (omega (arith, h)) (omega (arith, k .class-of .ensures, c .if2 .left)) in
-    record { above = omega (arith, h); counted = omega (arith, l .loop .inv .counted, h); same = omega (arith, l .loop .inv .same, e) }
-
-add-result : tie.Need-add-result Inv-loop μ-loop
-add-result c = let s = c .before .before .before in omega (arith, s .pre .1 .from, s .pre .1 .within)
-
-sub-result : tie.Need-sub-result Inv-loop μ-loop
-sub-result c = omega (arith, c .before .before .before .before .pre .1 .limit)
-
-add-result-2 : tie.Need-add-result-2 Inv-loop μ-loop
-add-result-2 c = let l = c .before .before in let w = l .before .before .pre .1 in omega (arith, w .limit, w .from, w .within, l .loop .inv .counted)
+-- the byte that is read
+here : (k : tie.After-class-of Inv-loop μ-loop) → let l = k .before .before .before in Over (l .before .before .args .m .now) (l .loop .j) (k .class-of .result)
+here k = over _ _ _ (k .class-of .ensures) (omega (arith, k .before .before .loop-test .taken))
 
 returns-2 : tie.Need-returns-2 Inv-loop μ-loop
 returns-2 c = let l = c .before .before in
@@ -102,17 +58,17 @@ letters-at-spec =
     (tie.spec
     Inv-loop
     μ-loop
-    loop-holds
-    sub-j
-    shared-slice-read-class-of
-    class-of-requires
-    add-n
-    loop-less
-    loop-again
-    returns
-    loop-less-2
-    loop-again-2
-    add-result
-    sub-result
-    add-result-2
+    (λ c. search needs)
+    (λ c. search needs)
+    (λ c. search needs)
+    (λ c κs. search needs)
+    (λ c. search needs)
+    (λ c. search needs)
+    (λ c. let e = here (c .before) .letter (c .if1 .taken) in search needs)
+    (λ c. let e = here (c .before .before) .break (c .if2 .taken) (c .before .if1 .left) in search needs)
+    (λ c. search needs)
+    (λ c. let e = here (c .before .before) .other (c .if2 .left) in search needs)
+    (λ c. search needs)
+    (λ c. search needs)
+    (λ c. search needs)
     returns-2)

@@ -5,16 +5,6 @@ use borrow.Author.Needs.{needs}
 use Rattle.message.proofs.check.next_kind.Statement.{statement}
 use Rattle.message.proofs.check.next_kind.Tie as tie
 
-add-result : tie.Need-add-result
-add-result c = search needs
-
-returns : tie.Need-returns
-unfolding nextKind
-returns c = rw (c .if1 .taken)
-
-returns-2 : tie.Need-returns-2
-unfolding nextKind
-returns-2 c = rw (c .if1 .left)
-
 pub next-kind-spec : {M : Type 1} → statement M
-next-kind-spec = tie.close (tie.spec add-result returns returns-2)
+unfolding nextKind
+next-kind-spec = tie.close (tie.spec (λ c. search needs) (λ c. rw (c .if1 .taken)) (λ c. rw (c .if1 .left)))

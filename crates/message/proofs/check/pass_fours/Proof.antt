@@ -1,13 +1,12 @@
 -- Four bytes without a stop are seen one after the other; at the first stop, or at the end, what is seen stays true.
 -- Assumes nothing.
-use Prim.Native.Nat.{ℕ, _+_, _-_, _<_, _≤_}
+use Prim.Native.Nat.{_+_, _-_, _≤_}
 use native.Mathlib.Omega.{arith}
-use lib.ListN.{getD}
 use Rattle.message.specs.Classes.{classAt}
 use Rattle.message.specs.declared.Seen.{Seen}
 use Rattle.message.specs.Steps.{Sees, fourAt, silentFour}
-use Rattle.message.proofs.Checking.{sum-small, Adds, sees-four}
-use Rattle.message.proofs.Faults.{kind-small}
+use Rattle.message.proofs.Checking.{sees-small, Adds, sees-four}
+use borrow.Author.Needs.{needs}
 use Rattle.message.proofs.check.pass_fours.Statement.{statement}
 use Rattle.message.proofs.check.pass_fours.Tie as tie
 
@@ -16,10 +15,6 @@ Inv-loop m to t s from limit at₀ kind₀ sum₀ at kind sum = Sees m (record {
 
 abbrev μ-loop : tie.MeasureT-loop
 μ-loop m to t s from limit at₀ kind₀ sum₀ at kind sum = to - at
-
--- every byte is one
-bytes : (l : tie.At-loop Inv-loop μ-loop) (j : ℕ) → getD (l .before .before .args .m .now) j 0 < 256
-bytes l j = omega (arith, l .before .shared-slice-known .given j)
 
 -- what is seen at the loop's head
 abbrev seen : tie.At-loop Inv-loop μ-loop → Seen
@@ -31,41 +26,12 @@ four c =
     let l = c .before .before .before in
     let s = l .before .before in
     let h = c .before .before .loop-test .taken in
-    sees-four (s .args .m .now) (bytes l) (seen l) (l .loop .inv .0) (s .pre .bytes _ h) (s .pre .room _ h) (omega (arith, c .before .sum-four .ensures, c .if1 .left))
-
-loop-holds : tie.Need-loop-holds Inv-loop μ-loop
-loop-holds c = (c .before .pre .sees, omega arith)
-
-sum-four-requires : tie.Need-sum-four-requires Inv-loop μ-loop
-sum-four-requires c κs = let l = c .before in let s = l .before .before in record { tables = s .pre .tables; kind = rw (l .loop .inv .0 .kind) (kind-small (s .args .m .now) (bytes l) (l .loop .at)); within = s .pre .bytes _ (c .loop-test .taken) }
-
-returns : tie.Need-returns Inv-loop μ-loop
-returns c = let l = c .before .before .before in (l .loop .inv .0, l .loop .inv .1)
+    sees-four (s .args .m .now) (seen l) (l .loop .inv .0) (s .pre .bytes _ h) (s .pre .room _ h) (omega (arith, c .before .sum-four .ensures, c .if1 .left))
 
 weigh-four-requires : tie.Need-weigh-four-requires Inv-loop μ-loop
 weigh-four-requires c κs = let s = c .before .before .before .before .before in
     let f = four c in
     record { within = s .pre .bytes _ (c .before .before .loop-test .taken); enough = rw (c .before .sum-four .ensures) (f .enough); plain = rw (c .before .sum-four .ensures) (f .plain) }
-
-add-sum : tie.Need-add-sum Inv-loop μ-loop
-add-sum c = let l = c .before .before .before .before in
-    let s = l .before .before in
-    omega (arith, c .weigh-four .ensures, sum-small (s .args .m .now) (bytes l) (seen l) (l .loop .inv .0), l .loop .inv .0 .within, s .pre .short)
-
-add-class-of : tie.Need-add-class-of Inv-loop μ-loop
-add-class-of c = let l = c .before .before .before .before in omega (arith, l .loop .inv .0 .within, l .before .before .pre .short)
-
-shared-slice-read-class-of : tie.Need-shared-slice-read-class-of Inv-loop μ-loop
-shared-slice-read-class-of c = let l = c .before .before .before .before .before in omega (arith, l .before .before .pre .bytes _ (c .before .before .before .before .loop-test .taken))
-
-class-of-requires : tie.Need-class-of-requires Inv-loop μ-loop
-class-of-requires c κs = c .before .before .before .before .before .before .before .pre .tables .classes
-
-add-at : tie.Need-add-at Inv-loop μ-loop
-add-at c = let l = c .before .before .before .before .before .before in omega (arith, l .loop .inv .0 .within, l .before .before .pre .short)
-
-loop-less : tie.Need-loop-less Inv-loop μ-loop
-loop-less c = omega (arith, c .before .before .before .before .before .loop-test .taken)
 
 loop-again : tie.Need-loop-again Inv-loop μ-loop
 loop-again c = let w = c .before .before in
@@ -74,24 +40,21 @@ loop-again c = let w = c .before .before in
     let q = rw (e .before .sum-four .ensures) at (w .weigh-four .ensures) in
     (rw (c .class-of .ensures) (four e .seen _ (omega (arith, q))), omega (arith, l .loop .inv .1))
 
-returns-2 : tie.Need-returns-2 Inv-loop μ-loop
-returns-2 c = let l = c .before in (l .loop .inv .0, l .loop .inv .1)
-
 pub pass-fours-spec : {M : Type 1} → statement M
 pass-fours-spec =
     tie.close
     (tie.spec
     Inv-loop
     μ-loop
-    loop-holds
-    sum-four-requires
-    returns
+    (λ c. search needs)
+    (λ c κs. let b = sees-small (c .before .loop .inv .0) in let h = c .before .before .before .pre .bytes _ (c .loop-test .taken) in search needs)
+    (λ c. search needs)
     weigh-four-requires
-    add-sum
-    add-class-of
-    shared-slice-read-class-of
-    class-of-requires
-    add-at
-    loop-less
+    (λ c. let b = sees-small (c .before .before .before .before .loop .inv .0) in search needs)
+    (λ c. search needs)
+    (λ c. let l = c .before .before .before .before in let h = l .before .before .before .pre .bytes _ (l .loop-test .taken) in search needs)
+    (λ c κs. search needs)
+    (λ c. search needs)
+    (λ c. search needs)
     loop-again
-    returns-2)
+    (λ c. search needs))

@@ -19,21 +19,6 @@ t-or-d : (b : ℕ) → b < 256 → isTOrD b ≡ eqb (classOf b) 8
 unfolding everything
 t-or-d b h = below-same isTOrD (λ x. eqb (classOf x) 8) 256 b refl h
 
-shared-slice-read-is-t-or-d : tie.Need-shared-slice-read-is-t-or-d
-shared-slice-read-is-t-or-d c = search needs
-
-is-t-or-d-requires : tie.Need-is-t-or-d-requires
-is-t-or-d-requires c κs = search needs
-
-is-elided-requires : tie.Need-is-elided-requires
-is-elided-requires c κs = search needs
-
-returns : tie.Need-returns
-returns c = (rw (← c .before .is-elided .ensures, c .if2 .taken), omega arith)
-
-returns-2 : tie.Need-returns-2
-returns-2 c = (rw (← c .before .is-elided .ensures, c .if2 .left), omega arith)
-
 returns-3 : tie.Need-returns-3
 returns-3 c = let s = c .before .before .before .before in
     let h : getD (s .args .m .now) (s .args .i) 0 < 256 = omega (arith, c .before .before .before .shared-slice-known .given (s .args .i)) in
@@ -43,9 +28,9 @@ pub silent-at-spec : {M : Type 1} → statement M
 silent-at-spec =
     tie.close
     (tie.spec
-    shared-slice-read-is-t-or-d
-    is-t-or-d-requires
-    is-elided-requires
-    returns
-    returns-2
+    (λ c. search needs)
+    (λ c κs. search needs)
+    (λ c κs. search needs)
+    (λ c. (rw (← c .before .is-elided .ensures, c .if2 .taken), omega arith))
+    (λ c. (rw (← c .before .is-elided .ensures, c .if2 .left), omega arith))
     returns-3)

@@ -1,9 +1,9 @@
 -- Each turn passes bytes that have no fault or finds the first that has one; the measure is what is left of the message.
 -- Assumes nothing.
-use Prim.Native.Nat.{ℕ, _-_, _<_}
+use Prim.Native.Nat.{_-_}
 use mathlib.Core.Path.{_∙_}
 use native.Mathlib.Omega.{arith}
-use lib.ListN.{length, getD}
+use lib.ListN.{length}
 use borrow.Author.Needs.{needs}
 use Rattle.message.specs.Steps.{Sees}
 use Rattle.message.proofs.Checking.{sees-none, seen-all}
@@ -17,32 +17,11 @@ Inv-loop m t s seen₀ seen = Sees m seen
 abbrev μ-loop : tie.MeasureT-loop
 μ-loop m t s seen₀ seen = length m - seen .at
 
--- every byte is one
-bytes : (l : tie.At-loop Inv-loop μ-loop) (j : ℕ) → getD (l .before .before .args .m .now) j 0 < 256
-bytes l j = omega (arith, l .before .shared-slice-known .given j)
-
-loop-holds : tie.Need-loop-holds Inv-loop μ-loop
-loop-holds c = sees-none (c .before .args .m .now)
-
-lesser-requires : tie.Need-lesser-requires Inv-loop μ-loop
-lesser-requires c κs = tt
-
-fours-to-requires : tie.Need-fours-to-requires Inv-loop μ-loop
-fours-to-requires c κs = tt
-
 pass-fours-requires : tie.Need-pass-fours-requires Inv-loop μ-loop
 pass-fours-requires c κs = let l = c .before .before .before .before in
     let s = l .before .before in
     let n = c .before .lesser .ensures in
     record { tables = s .pre .tables; sees = l .loop .inv; short = s .pre .short; bytes = λ i h. omega (arith, c .fours-to .ensures i h, n .0); room = λ i h. omega (arith, c .fours-to .ensures i h, n .1) }
-
-step-requires : tie.Need-step-requires Inv-loop μ-loop
-step-requires c κs = let p = c .before .before in
-    let s = p .before .before .before .before .before .before .before in
-    record { tables = s .pre .tables; sees = p .pass-fours .ensures .0; short = s .pre .short; byte = c .if2 .taken }
-
-enum-known-number : tie.Need-enum-known-number Inv-loop μ-loop
-enum-known-number c = search needs
 
 returns : tie.Need-returns Inv-loop μ-loop
 returns c = let n = c .before in
@@ -51,38 +30,15 @@ returns c = let n = c .before in
     let l = p .before .before .before .before .before in
     let s = l .before .before in
     let q = rw (n .number .given .1) at (t .step .ensures) in
-    seen-fault (s .args .m .now) (bytes l) _ _ (t .before .if2 .taken) (s .pre .short) (p .pass-fours .ensures .0 .clear) (q .0) (q .1)
-
-enum-known-next : tie.Need-enum-known-next Inv-loop μ-loop
-enum-known-next c = search needs
-
-loop-less : tie.Need-loop-less Inv-loop μ-loop
-loop-less c = let n = c .before in
-    let t = n .before .before in
-    let p = t .before .before .before in
-    let q = rw (n .next .given .1) at (t .step .ensures) in
-    omega (arith, q .1, p .pass-fours .ensures .1, t .before .if2 .taken)
-
-loop-again : tie.Need-loop-again Inv-loop μ-loop
-loop-again c = let n = c .before in
-    let q = rw (n .next .given .1) at (n .before .before .step .ensures) in
-    q .0
-
-loop-less-2 : tie.Need-loop-less-2 Inv-loop μ-loop
-loop-less-2 c = omega (arith, c .if2 .left, c .before .before .before .before .before .if1 .taken)
-
-loop-again-2 : tie.Need-loop-again-2 Inv-loop μ-loop
-loop-again-2 c = c .before .before .pass-fours .ensures .0
-
-finish-requires : tie.Need-finish-requires Inv-loop μ-loop
-finish-requires c κs = c .before .before .before .before .pre .some
+    let w = p .pass-fours .ensures .0 in
+    seen-fault (s .args .m .now) (w .bytes) _ _ (t .before .if2 .taken) (s .pre .short) (w .clear) (q .0) (q .1)
 
 returns-2 : tie.Need-returns-2 Inv-loop μ-loop
 returns-2 c = let e = c .before in
     let l = e .before .before in
     let s = l .before .before in
     let w = l .loop .inv in
-    c .finish .ensures ∙ seen-all (s .args .m .now) (l .loop .seen) (bytes l) (s .pre .some) (s .pre .short) w (omega (arith, w .within, e .if1 .left))
+    c .finish .ensures ∙ seen-all (s .args .m .now) (l .loop .seen) (s .pre .some) (s .pre .short) w (omega (arith, w .within, e .if1 .left))
 
 pub walk-spec : {M : Type 1} → statement M
 walk-spec =
@@ -90,17 +46,17 @@ walk-spec =
     (tie.spec
     Inv-loop
     μ-loop
-    loop-holds
-    lesser-requires
-    fours-to-requires
+    (λ c. sees-none _ (λ j. omega (arith, c .shared-slice-known .given j)))
+    (λ c κs. search needs)
+    (λ c κs. search needs)
     pass-fours-requires
-    step-requires
-    enum-known-number
+    (λ c κs. search needs)
+    (λ c. search needs)
     returns
-    enum-known-next
-    loop-less
-    loop-again
-    loop-less-2
-    loop-again-2
-    finish-requires
+    (λ c. search needs)
+    (λ c. let q = rw (c .before .next .given .1) at (c .before .before .before .step .ensures) in search needs)
+    (λ c. let q = rw (c .before .next .given .1) at (c .before .before .before .step .ensures) in search needs)
+    (λ c. search needs)
+    (λ c. search needs)
+    (λ c κs. search needs)
     returns-2)

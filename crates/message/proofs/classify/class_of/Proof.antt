@@ -8,9 +8,6 @@ use Rattle.message.proofs.StepTable.{class-read}
 use Rattle.message.proofs.classify.class_of.Statement.{statement}
 use Rattle.message.proofs.classify.class_of.Tie as tie
 
-element-copy-out-result : tie.Need-element-copy-out-result
-element-copy-out-result c = search needs
-
 cast-result : tie.Need-cast-result
 cast-result c =
     let s = c .before in
@@ -21,4 +18,4 @@ returns : tie.Need-returns
 returns c = let s = c .before in class-read (s .args .t .now) (s .args .b) (s .pre) (omega (arith, s .fits .b))
 
 pub class-of-spec : {M : Type 1} → statement M
-class-of-spec = tie.close (tie.spec element-copy-out-result cast-result returns)
+class-of-spec = tie.close (tie.spec (λ c. search needs) cast-result returns)

@@ -7,19 +7,12 @@ use borrow.Author.Needs.{needs}
 use Rattle.message.proofs.letters.elides.Statement.{statement}
 use Rattle.message.proofs.letters.elides.Tie as tie
 
-elides-t-requires : tie.Need-elides-t-requires
-elides-t-requires c κs = search needs
-
-returns : tie.Need-returns
-unfolding elidesAmong
-returns c = rw (c .before .if1 .taken) (simp or-false (c .elides-t .ensures))
-
-elides-d-requires : tie.Need-elides-d-requires
-elides-d-requires c κs = search needs
-
-returns-2 : tie.Need-returns-2
-unfolding elidesAmong
-returns-2 c = rw (ne-eqb _ _ (c .before .if1 .left), c .elides-d .ensures)
-
 pub elides-spec : {M : Type 1} → statement M
-elides-spec = tie.close (tie.spec elides-t-requires returns elides-d-requires returns-2)
+unfolding elidesAmong
+elides-spec =
+    tie.close
+    (tie.spec
+    (λ c κs. search needs)
+    (λ c. rw (c .before .if1 .taken) (simp or-false (c .elides-t .ensures)))
+    (λ c κs. search needs)
+    (λ c. rw (ne-eqb _ _ (c .before .if1 .left), c .elides-d .ensures)))

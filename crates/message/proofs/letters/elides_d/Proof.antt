@@ -5,9 +5,6 @@ use Rattle.spec.specs.Elision.{elidesD}
 use Rattle.message.proofs.letters.elides_d.Statement.{statement}
 use Rattle.message.proofs.letters.elides_d.Tie as tie
 
-returns : tie.Need-returns
-unfolding elidesD
-returns c = refl
-
 pub elides-d-spec : {M : Type 1} → statement M
-elides-d-spec = tie.close (tie.spec returns)
+unfolding elidesD
+elides-d-spec = tie.close (tie.spec (λ c. refl))

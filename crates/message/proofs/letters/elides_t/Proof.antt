@@ -5,9 +5,6 @@ use Rattle.spec.specs.Elision.{elidesT}
 use Rattle.message.proofs.letters.elides_t.Statement.{statement}
 use Rattle.message.proofs.letters.elides_t.Tie as tie
 
-returns : tie.Need-returns
-unfolding elidesT
-returns c = refl
-
 pub elides-t-spec : {M : Type 1} → statement M
-elides-t-spec = tie.close (tie.spec returns)
+unfolding elidesT
+elides-t-spec = tie.close (tie.spec (λ c. refl))

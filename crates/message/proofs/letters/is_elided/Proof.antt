@@ -12,38 +12,6 @@ use borrow.Author.Needs.{needs}
 use Rattle.message.proofs.letters.is_elided.Statement.{statement}
 use Rattle.message.proofs.letters.is_elided.Tie as tie
 
-returns : tie.Need-returns
-unfolding elidedAt elidesAmong elidesT elidesD letterBefore
-returns c = rw (c .if1 .taken) (simp and-false)
-
-add-if2 : tie.Need-add-if2
-add-if2 c = search needs
-
-returns-2 : tie.Need-returns-2
-unfolding elidedAt elidesAmong elidesT elidesD letterAt small
-returns-2 c = rw (List·getD-eq-default {A = ℕ} _ 0 (c .if2 .taken)) (simp and-false)
-
-add-if3 : tie.Need-add-if3
-add-if3 c = search needs
-
-sub-elides-byte : tie.Need-sub-elides-byte
-sub-elides-byte c = search needs
-
-shared-slice-read-elides-byte : tie.Need-shared-slice-read-elides-byte
-shared-slice-read-elides-byte c = search needs
-
-shared-slice-read-elides-byte-2 : tie.Need-shared-slice-read-elides-byte-2
-shared-slice-read-elides-byte-2 c = search needs
-
-add-elides-byte : tie.Need-add-elides-byte
-add-elides-byte c = search needs
-
-shared-slice-read-elides-byte-3 : tie.Need-shared-slice-read-elides-byte-3
-shared-slice-read-elides-byte-3 c = search needs
-
-elides-byte-requires : tie.Need-elides-byte-requires
-elides-byte-requires c κs = search needs
-
 returns-3 : tie.Need-returns-3
 unfolding elidedAt letterAt
 returns-3 c =
@@ -52,55 +20,28 @@ returns-3 c =
     let e : length (s .args .m .now) ≤ s .args .i + 2 = omega (arith, t .if3 .taken) in
     rw (← before-at _ _ (t .before .before .if1 .left), List·getD-eq-default {A = ℕ} _ 0 e) (c .elides-byte .ensures)
 
-sub-elides-byte-2 : tie.Need-sub-elides-byte-2
-sub-elides-byte-2 c = search needs
-
-shared-slice-read-elides-byte-4 : tie.Need-shared-slice-read-elides-byte-4
-shared-slice-read-elides-byte-4 c = search needs
-
-shared-slice-read-elides-byte-5 : tie.Need-shared-slice-read-elides-byte-5
-shared-slice-read-elides-byte-5 c = search needs
-
-add-elides-byte-2 : tie.Need-add-elides-byte-2
-add-elides-byte-2 c = search needs
-
-shared-slice-read-elides-byte-6 : tie.Need-shared-slice-read-elides-byte-6
-shared-slice-read-elides-byte-6 c = search needs
-
-add-elides-byte-3 : tie.Need-add-elides-byte-3
-add-elides-byte-3 c = search needs
-
-shared-slice-read-elides-byte-7 : tie.Need-shared-slice-read-elides-byte-7
-shared-slice-read-elides-byte-7 c = search needs
-
-elides-byte-requires-2 : tie.Need-elides-byte-requires-2
-elides-byte-requires-2 c κs = search needs
-
-returns-4 : tie.Need-returns-4
-unfolding elidedAt letterAt
-returns-4 c = rw (← before-at _ _ (c .before .before .before .before .before .before .before .if1 .left)) (c .elides-byte2 .ensures)
-
 pub is-elided-spec : {M : Type 1} → statement M
+unfolding elidedAt elidesAmong elidesT elidesD letterBefore letterAt small
 is-elided-spec =
     tie.close
     (tie.spec
-    returns
-    add-if2
-    returns-2
-    add-if3
-    sub-elides-byte
-    shared-slice-read-elides-byte
-    shared-slice-read-elides-byte-2
-    add-elides-byte
-    shared-slice-read-elides-byte-3
-    elides-byte-requires
+    (λ c. rw (c .if1 .taken) (simp and-false))
+    (λ c. search needs)
+    (λ c. rw (List·getD-eq-default {A = ℕ} _ 0 (c .if2 .taken)) (simp and-false))
+    (λ c. search needs)
+    (λ c. search needs)
+    (λ c. search needs)
+    (λ c. search needs)
+    (λ c. search needs)
+    (λ c. search needs)
+    (λ c κs. search needs)
     returns-3
-    sub-elides-byte-2
-    shared-slice-read-elides-byte-4
-    shared-slice-read-elides-byte-5
-    add-elides-byte-2
-    shared-slice-read-elides-byte-6
-    add-elides-byte-3
-    shared-slice-read-elides-byte-7
-    elides-byte-requires-2
-    returns-4)
+    (λ c. search needs)
+    (λ c. search needs)
+    (λ c. search needs)
+    (λ c. search needs)
+    (λ c. search needs)
+    (λ c. search needs)
+    (λ c. search needs)
+    (λ c κs. search needs)
+    (λ c. rw (← before-at _ _ (c .before .before .before .before .before .before .before .if1 .left)) (c .elides-byte2 .ensures)))

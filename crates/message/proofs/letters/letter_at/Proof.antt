@@ -8,20 +8,12 @@ use Rattle.message.specs.Classes.{letterAt}
 use Rattle.message.proofs.letters.letter_at.Statement.{statement}
 use Rattle.message.proofs.letters.letter_at.Tie as tie
 
-shared-slice-read-small-letter : tie.Need-shared-slice-read-small-letter
-shared-slice-read-small-letter c = search needs
-
-small-letter-requires : tie.Need-small-letter-requires
-small-letter-requires c κs = search needs
-
-returns : tie.Need-returns
-unfolding letterAt
-returns c = c .small-letter .ensures
-
-returns-2 : tie.Need-returns-2
-unfolding letterAt small
-returns-2 c = rw (List·getD-eq-default {A = ℕ} _ 0 (c .if1 .left))
-
 pub letter-at-spec : {M : Type 1} → statement M
+unfolding letterAt small
 letter-at-spec =
-    tie.close (tie.spec shared-slice-read-small-letter small-letter-requires returns returns-2)
+    tie.close
+    (tie.spec
+    (λ c. search needs)
+    (λ c κs. search needs)
+    (λ c. c .small-letter .ensures)
+    (λ c. rw (List·getD-eq-default {A = ℕ} _ 0 (c .if1 .left))))

@@ -6,18 +6,12 @@ use Rattle.message.proofs.StepTable.{before-at}
 use Rattle.message.proofs.letters.letter_before.Statement.{statement}
 use Rattle.message.proofs.letters.letter_before.Tie as tie
 
-returns : tie.Need-returns
-unfolding letterBefore
-returns c = rw (c .if1 .taken)
-
-sub-letter-at : tie.Need-sub-letter-at
-sub-letter-at c = search needs
-
-letter-at-requires : tie.Need-letter-at-requires
-letter-at-requires c κs = search needs
-
-returns-2 : tie.Need-returns-2
-returns-2 c = rw (← before-at _ _ (c .before .if1 .left)) (c .letter-at .ensures)
-
 pub letter-before-spec : {M : Type 1} → statement M
-letter-before-spec = tie.close (tie.spec returns sub-letter-at letter-at-requires returns-2)
+unfolding letterBefore
+letter-before-spec =
+    tie.close
+    (tie.spec
+    (λ c. rw (c .if1 .taken))
+    (λ c. search needs)
+    (λ c κs. search needs)
+    (λ c. rw (← before-at _ _ (c .before .if1 .left)) (c .letter-at .ensures)))

@@ -7,25 +7,13 @@ use Rattle.spec.specs.Letters.{small}
 use Rattle.message.proofs.letters.small_letter.Statement.{statement}
 use Rattle.message.proofs.letters.small_letter.Tie as tie
 
-add-result : tie.Need-add-result
-add-result c = search needs
-
-returns : tie.Need-returns
-unfolding small
-returns c = rw (c .match .keys1)
-
-returns-2 : tie.Need-returns-2
-unfolding small
-returns-2 c = rw (le-leb _ _ (c .before .if1 .left), le-leb (c .before .before .before .args .b) 0xDF (omega arith))
-
-returns-3 : tie.Need-returns-3
-unfolding small
-returns-3 c = rw (lt-leb _ _ (c .if1 .taken), ne-eqb _ _ (c .before .match .rest .1))
-
-returns-4 : tie.Need-returns-4
-unfolding small
-returns-4 c =
-    rw (le-leb _ _ (c .before .if1 .left), lt-leb _ 0xDF (c .if2 .left), ne-eqb _ _ (c .before .before .match .rest .1))
-
 pub small-letter-spec : {M : Type 1} → statement M
-small-letter-spec = tie.close (tie.spec add-result returns returns-2 returns-3 returns-4)
+unfolding small
+small-letter-spec =
+    tie.close
+    (tie.spec
+    (λ c. search needs)
+    (λ c. rw (c .match .keys1))
+    (λ c. rw (le-leb _ _ (c .before .if1 .left), le-leb (c .before .before .before .args .b) 0xDF (omega arith)))
+    (λ c. rw (lt-leb _ _ (c .if1 .taken), ne-eqb _ _ (c .before .match .rest .1)))
+    (λ c. rw (le-leb _ _ (c .before .if1 .left), lt-leb _ 0xDF (c .if2 .left), ne-eqb _ _ (c .before .before .match .rest .1))))

@@ -5,9 +5,6 @@ use Rattle.message.proofs.Computed.{everything}
 use Rattle.message.proofs.pairs.pair_table.Statement.{statement}
 use Rattle.message.proofs.pairs.pair_table.Tie as tie
 
-returns : tie.Need-returns
-unfolding everything
-returns c = refl
-
 pub pair-table-spec : {M : Type 1} → statement M
-pair-table-spec = tie.close (tie.spec returns)
+unfolding everything
+pair-table-spec = tie.close (tie.spec (λ c. refl))
