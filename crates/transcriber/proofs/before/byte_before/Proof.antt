@@ -19,14 +19,8 @@ returns : tie.Need-returns
 unfolding byteBefore
 returns c = rw (c .if1 .taken)
 
-sub-result : tie.Need-sub-result
-sub-result c = search needs
-
-shared-slice-read-result : tie.Need-shared-slice-read-result
-shared-slice-read-result c = search needs
-
 returns-2 : tie.Need-returns-2
 returns-2 c = before-at _ _ (c .before .if1 .left)
 
 pub byte-before-spec : {M : Type 1} → statement M
-byte-before-spec = tie.close (tie.spec returns sub-result shared-slice-read-result returns-2)
+byte-before-spec = tie.close (tie.spec returns (search needs) (search needs) returns-2)

@@ -48,19 +48,10 @@ returns c = let s = c .before .before in rw (← s .pre .byte, ne-eqb (s .args .
 sub-byte-before : tie.Need-sub-byte-before
 sub-byte-before c = let s = c .before .before in past (s .args .m .now) (s .args .i) (s .args .p) (s .pre .byte) (λ e. omega arith)
 
-byte-before-requires : tie.Need-byte-before-requires
-byte-before-requires c κs = search needs
-
 sub-byte-before-2 : tie.Need-sub-byte-before-2
 sub-byte-before-2 c =
     let b = c .before in
     omega (arith, past (b .before .before .before .args .m .now) _ _ (b .byte-before .ensures) (soft-pause (b .byte-before .result) (c .if2 .taken)))
-
-byte-before-requires-2 : tie.Need-byte-before-requires-2
-byte-before-requires-2 c κs = search needs
-
-is-hard-only-requires : tie.Need-is-hard-only-requires
-is-hard-only-requires c κs = search needs
 
 returns-2 : tie.Need-returns-2
 unfolding hardBefore isGap
@@ -69,9 +60,6 @@ returns-2 c =
     let s = b .before .before .before in
     rw (← s .pre .byte, b .before .if1 .left, ← b .byte-before .ensures, soft-end _ (b .byte-before .result) (omega (arith, b .byte-before .ok)) (c .before .before .if2 .taken), ← c .before .byte-before2 .ensures)
     (c .is-hard-only .ensures)
-
-is-hard-or-paired-requires : tie.Need-is-hard-or-paired-requires
-is-hard-or-paired-requires c κs = search needs
 
 returns-3 : tie.Need-returns-3
 unfolding hardBefore isGap
@@ -87,10 +75,10 @@ hard-before-spec =
     (tie.spec
     returns
     sub-byte-before
-    byte-before-requires
+    (search needs)
     sub-byte-before-2
-    byte-before-requires-2
-    is-hard-only-requires
+    (search needs)
+    (search needs)
     returns-2
-    is-hard-or-paired-requires
+    (search needs)
     returns-3)

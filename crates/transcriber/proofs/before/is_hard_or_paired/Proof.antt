@@ -26,9 +26,6 @@ alike c lo hi v l h e =
     let s = c .small-letter .ensures in
     sym (where-same (λ x. between lo hi (small x)) (λ x. isHardOrPaired (small x)) (λ _. v) v p e (omega (arith, c .before .fits .p)) (between-true lo hi (small p) (omega (arith, s)) (omega (arith, s))))
 
-small-letter-requires : tie.Need-small-letter-requires
-small-letter-requires c κs = search needs
-
 returns : tie.Need-returns
 unfolding everything
 returns c = rw (← c .before .small-letter .ensures, c .match .keys1)
@@ -86,7 +83,7 @@ pub is-hard-or-paired-spec : {M : Type 1} → statement M
 is-hard-or-paired-spec =
     tie.close
     (tie.spec
-    small-letter-requires
+    (search needs)
     returns
     returns-2
     returns-3

@@ -25,9 +25,6 @@ last : (c : tie.After-group)
     getD (a .s .now) (320 + (getD (a .s .now) (192 + a .sound) 0 + getD (a .s .now) (96 + a .b % 32) 0)) 0 < 256
 last c = let s = c .before .before .before in let r = read s in table-small (s .args .s .now) _ (s .pre .0) (omega (arith, r .own, r .group))
 
-cast-letter : tie.Need-cast-letter
-cast-letter c = search needs
-
 add-code : tie.Need-add-code
 add-code c = omega (arith, low c)
 
@@ -37,20 +34,8 @@ element-copy-out-code c = omega (arith, low c)
 cast-code : tie.Need-cast-code
 cast-code c = let s = c .before in let a = s .args in omega (arith, table-small (a .s .now) (a .tone + a .b % 32) (s .pre .0) (omega (arith, low s)))
 
-add-own : tie.Need-add-own
-add-own c = search needs
-
-element-copy-out-own : tie.Need-element-copy-out-own
-element-copy-out-own c = search needs
-
 cast-own : tie.Need-cast-own
 cast-own c = omega (arith, read (c .before .before) .own)
-
-add-group : tie.Need-add-group
-add-group c = search needs
-
-element-copy-out-group : tie.Need-element-copy-out-group
-element-copy-out-group c = search needs
 
 cast-group : tie.Need-cast-group
 cast-group c = omega (arith, read (c .before .before .before) .group)
@@ -80,15 +65,15 @@ pub consonant-code-spec : {M : Type 1} → statement M
 consonant-code-spec =
     tie.close
     (tie.spec
-    cast-letter
+    (search needs)
     add-code
     element-copy-out-code
     cast-code
-    add-own
-    element-copy-out-own
+    (search needs)
+    (search needs)
     cast-own
-    add-group
-    element-copy-out-group
+    (search needs)
+    (search needs)
     cast-group
     add-result
     add-result-2

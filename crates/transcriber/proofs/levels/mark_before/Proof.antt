@@ -52,9 +52,6 @@ high b x h l = ne-eqb b x (λ e. omega arith)
 loop-holds : tie.Need-loop-holds Inv-loop μ-loop
 loop-holds c = (omega arith, refl)
 
-sub-j : tie.Need-sub-j Inv-loop μ-loop
-sub-j c = omega arith
-
 shared-slice-read-if1 : tie.Need-shared-slice-read-if1 Inv-loop μ-loop
 shared-slice-read-if1 c = let l = c .before .before in omega (arith, l .loop .inv .0, l .before .pre .1, c .before .loop-test .taken)
 
@@ -71,9 +68,6 @@ returns c =
     let b = getD (s .args .m .now) j 0 in
     let n = s .pre .0 .named j (omega (arith, l .loop .inv .0, s .pre .1, t .before .loop-test .taken)) in
     sym (settles (isMark b) (markBefore (s .args .m .now) j)) ∙ rw (low b (c .before .if1 .taken) n) at (turn t)
-
-loop-less : tie.Need-loop-less Inv-loop μ-loop
-loop-less c = omega arith
 
 loop-again : tie.Need-loop-again Inv-loop μ-loop
 unfolding isBreak isMark
@@ -92,10 +86,10 @@ mark-before-spec =
     Inv-loop
     μ-loop
     loop-holds
-    sub-j
+    (λ c. omega arith)
     shared-slice-read-if1
     shared-slice-read-result
     returns
-    loop-less
+    (λ c. omega arith)
     loop-again
     returns-2)

@@ -31,17 +31,11 @@ loop-holds c =
     let s = e .before .before .before .before .before .before in
     naming-none (s .pre .0) (s .pre .1) (s .pre .2) (e .put-end .ensures) (c .at-word-end .ensures)
 
-sub-i : tie.Need-sub-i Inv-loop μ-loop
-sub-i c = omega arith
-
 step-requires : tie.Need-step-requires Inv-loop μ-loop
 step-requires c κs =
     let b = c .before .before in
     let e = b .before .before .before .before .before in
     (e .before .before .before .class-table .ensures, naming-ready (naming-before (b .loop-test .taken) (b .before .loop .inv)))
-
-loop-less : tie.Need-loop-less Inv-loop μ-loop
-loop-less c = omega arith
 
 loop-again : tie.Need-loop-again Inv-loop μ-loop
 loop-again c =
@@ -70,9 +64,9 @@ fill-names-spec =
     put-end-requires
     at-word-end-requires
     loop-holds
-    sub-i
+    (λ c. omega arith)
     step-requires
-    loop-less
+    (λ c. omega arith)
     loop-again
     same-length
     returns)

@@ -22,18 +22,6 @@ accepted c = sym (c .before .before .check .ensures .answer) ∙ c .checked .giv
 counted : (c : tie.After-checked) → c .checked .given .0 .0 .names ≡ length (names (c .before .before .before .before .before .args .m .now))
 counted c = accepted-counts (c .before .before .before .before .before .args .m .now) (c .checked .given .0 .0) (accepted c) .1
 
-check-requires : tie.Need-check-requires
-check-requires c κs = search needs
-
-enum-known-checked : tie.Need-enum-known-checked
-enum-known-checked c = search needs
-
-enum-told : tie.Need-enum-told
-enum-told c = search needs
-
-refused-requires : tie.Need-refused-requires
-refused-requires c κs = search needs
-
 returns : tie.Need-returns
 unfolding nameAnswer
 returns c =
@@ -52,9 +40,6 @@ fill-names-requires c κs =
     let s = k .before .before .before .before .before in
     (accepted-steady (s .args .m .now) _ (accepted k) (λ j. omega (arith, k .before .before .before .before .shared-slice-known .given j)), counted k, c .before .if1 .left)
 
-same-length : tie.Need-same-length
-same-length c = search needs
-
 returns-3 : tie.Need-returns-3
 unfolding nameAnswer
 returns-3 c =
@@ -66,12 +51,12 @@ pub name-spec : {M : Type 1} → statement M
 name-spec =
     tie.close
     (tie.spec
-    check-requires
-    enum-known-checked
-    enum-told
-    refused-requires
+    (search needs)
+    (search needs)
+    (search needs)
+    (search needs)
     returns
     returns-2
     fill-names-requires
-    same-length
+    (search needs)
     returns-3)

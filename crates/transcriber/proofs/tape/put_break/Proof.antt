@@ -10,14 +10,8 @@ use Rattle.transcriber.proofs.Walking.{ready-break, break-room, break-s
 use Rattle.transcriber.proofs.tape.put_break.Statement.{statement}
 use Rattle.transcriber.proofs.tape.put_break.Tie as tie
 
-at-word-end-requires : tie.Need-at-word-end-requires
-at-word-end-requires c κs = search needs
-
 put-requires : tie.Need-put-requires
 put-requires c κs = let a = c .before .before .before .before .before .pre .1 in (break-room _ _ _ _ (a .ready) (ready-break a), a .ready .place)
-
-same-length : tie.Need-same-length
-same-length c = search needs
 
 returns : tie.Need-returns
 returns c = let p = c .before .before in
@@ -34,9 +28,6 @@ tone-at-gap-requires c κs = c .before .before .before .before .pre .0
 put-requires-2 : tie.Need-put-requires-2
 put-requires-2 c κs = let a = c .before .before .before .before .before .before .pre .1 in (break-room _ _ _ _ (a .ready) (ready-break a), a .ready .place)
 
-same-length-2 : tie.Need-same-length-2
-same-length-2 c = search needs
-
 returns-2 : tie.Need-returns-2
 returns-2 c = let p = c .before .before in
     let g = p .before .before in
@@ -51,11 +42,11 @@ pub put-break-spec : {M : Type 1} → statement M
 put-break-spec =
     tie.close
     (tie.spec
-    at-word-end-requires
+    (λ c κs. search needs)
     put-requires
-    same-length
+    (search needs)
     returns
     tone-at-gap-requires
     put-requires-2
-    same-length-2
+    (search needs)
     returns-2)

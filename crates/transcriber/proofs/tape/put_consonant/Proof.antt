@@ -38,19 +38,10 @@ is-silent-requires c κs = let s = c .before .before .before in
     let a = s .pre .1 in
     (s .pre .0 .byte, record { within = a .ready .within; bytes = a .ready .steady .bytes; class = a .class })
 
-seen-over-requires : tie.Need-seen-over-requires
-seen-over-requires c κs = search needs
-
-pass-over-requires : tie.Need-pass-over-requires
-pass-over-requires c κs = search needs
-
 returns : tie.Need-returns
 returns c = let k = c .before .before in
     let s = k .before .before .before .before .before in
     rw (c .pass-over .ensures) (elided-steps (s .pre .1) (sym (k .before .is-silent .ensures) ∙ k .if1 .taken) (c .before .seen-over .ensures))
-
-shared-slice-read-consonant-code : tie.Need-shared-slice-read-consonant-code
-shared-slice-read-consonant-code c = search needs
 
 consonant-code-requires : tie.Need-consonant-code-requires
 consonant-code-requires c κs = let s = c .before .before .before .before .before .before in
@@ -68,9 +59,6 @@ tone-before-requires : tie.Need-tone-before-requires
 tone-before-requires c κs = let k = c .before .before .before .before in
     (k .before .before .before .before .before .before .before .pre .0 .sound, code-small k)
 
-same-length : tie.Need-same-length
-same-length c = search needs
-
 returns-2 : tie.Need-returns-2
 returns-2 c = let p = c .before .before .before in
     let k = p .before .before in
@@ -85,13 +73,13 @@ put-consonant-spec =
     tie.close
     (tie.spec
     is-silent-requires
-    seen-over-requires
-    pass-over-requires
+    (search needs)
+    (search needs)
     returns
-    shared-slice-read-consonant-code
+    (search needs)
     consonant-code-requires
     cast-put
     put-requires
     tone-before-requires
-    same-length
+    (search needs)
     returns-2)

@@ -31,9 +31,6 @@ put-requires-2 c κs =
     let n = put-length _ _ _ _ _ (s .pre .1) (p .put .ensures) in
     (omega (arith, rw (c .before .if1 .taken) at (s .pre .0), p .put .ensures .place), omega (arith, n, p .put .ensures .place, s .pre .1))
 
-same-length : tie.Need-same-length
-same-length c = search needs
-
 returns : tie.Need-returns
 returns c =
     let g = c .before .before in
@@ -41,11 +38,8 @@ returns c =
     let s = p .before .before .before in
     rw (g .before .before .if1 .taken) (put-over (s .args .v .sound ∷ []) (J ∷ []) _ _ _ _ _ _ (s .pre .1) (p .put .ensures) (g .put2 .ensures))
 
-same-length-2 : tie.Need-same-length-2
-same-length-2 c = search needs
-
 returns-2 : tie.Need-returns-2
 returns-2 c = rw (c .if1 .left) (c .before .before .before .put .ensures)
 
 pub put-sung-spec : {M : Type 1} → statement M
-put-sung-spec = tie.close (tie.spec put-requires put-requires-2 same-length returns same-length-2 returns-2)
+put-sung-spec = tie.close (tie.spec put-requires put-requires-2 (search needs) returns (search needs) returns-2)

@@ -33,18 +33,6 @@ put-sung-requires c κs =
     let s = c .before .before .before .before .before in
     (letter-room _ _ _ _ (s .pre .1 .ready) _ (spelt s) (codes (c .before)), s .pre .1 .ready .place)
 
-first-code-requires : tie.Need-first-code-requires
-first-code-requires c κs = search needs
-
-sound-of-requires : tie.Need-sound-of-requires
-sound-of-requires c κs = search needs
-
-over-vowel-requires : tie.Need-over-vowel-requires
-over-vowel-requires c κs = search needs
-
-same-length : tie.Need-same-length
-same-length c = search needs
-
 returns : tie.Need-returns
 returns c =
     let w = c .before in
@@ -66,8 +54,8 @@ put-vowel-spec =
     (tie.spec
     vowel-at-requires
     put-sung-requires
-    first-code-requires
-    sound-of-requires
-    over-vowel-requires
-    same-length
+    (search needs)
+    (search needs)
+    (search needs)
+    (search needs)
     returns)

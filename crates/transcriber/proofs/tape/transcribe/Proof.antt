@@ -23,18 +23,6 @@ accepted c = sym (c .before .before .check .ensures .answer) ∙ c .checked .giv
 counted : (c : tie.After-checked) → c .checked .given .0 .0 .codes ≡ length (tape (c .before .before .before .before .before .args .m .now))
 counted c = accepted-counts (c .before .before .before .before .before .args .m .now) (c .checked .given .0 .0) (accepted c) .0
 
-check-requires : tie.Need-check-requires
-check-requires c κs = search needs
-
-enum-known-checked : tie.Need-enum-known-checked
-enum-known-checked c = search needs
-
-enum-told : tie.Need-enum-told
-enum-told c = search needs
-
-refused-requires : tie.Need-refused-requires
-refused-requires c κs = search needs
-
 returns : tie.Need-returns
 unfolding tapeAnswer
 returns c =
@@ -50,12 +38,6 @@ returns-2 c =
     let s = k .before .before .before .before .before in
     answered-short (checkOf (s .args .m .now)) (k .checked .given .0 .0) (accepted k) (length (tape (s .args .m .now))) (k .checked .given .0 .0 .codes) 0 (counted k) (tape (s .args .m .now)) (s .args .out .now) (c .if1 .taken)
 
-class-table-requires : tie.Need-class-table-requires
-class-table-requires c κs = search needs
-
-sound-table-requires : tie.Need-sound-table-requires
-sound-table-requires c κs = search needs
-
 write-tape-requires : tie.Need-write-tape-requires
 write-tape-requires c κs =
     let a = c .before .before .before in
@@ -69,9 +51,6 @@ write-tape-requires c κs =
       omega (arith, n),
       e .if1 .left,
     )
-
-same-length : tie.Need-same-length
-same-length c = search needs
 
 returns-3 : tie.Need-returns-3
 unfolding tapeAnswer
@@ -89,14 +68,14 @@ pub transcribe-spec : {M : Type 1} → statement M
 transcribe-spec =
     tie.close
     (tie.spec
-    check-requires
-    enum-known-checked
-    enum-told
-    refused-requires
+    (search needs)
+    (search needs)
+    (search needs)
+    (search needs)
     returns
     returns-2
-    class-table-requires
-    sound-table-requires
+    (search needs)
+    (search needs)
     write-tape-requires
-    same-length
+    (search needs)
     returns-3)

@@ -27,17 +27,11 @@ inside c =
 loop-holds : tie.Need-loop-holds Inv-loop μ-loop
 loop-holds c = let s = c .before .before in (s .pre .2 .order, omega arith, walked-none _ _ _ _ (s .pre .2 .stands))
 
-sub-i : tie.Need-sub-i Inv-loop μ-loop
-sub-i c = omega arith
-
 step-requires : tie.Need-step-requires Inv-loop μ-loop
 step-requires c κs = let l = c .before .before in
     let s = l .before .before .before in
     let w = inside (c .before) in
     (record { byte = s .pre .0; sound = s .pre .1 }, walked-ready _ (s .pre .2 .steady) _ _ _ (s .pre .2 .place) _ _ _ (omega (arith, s .pre .2 .within)) (s .pre .2 .room) w)
-
-loop-less : tie.Need-loop-less Inv-loop μ-loop
-loop-less c = omega arith
 
 loop-again : tie.Need-loop-again Inv-loop μ-loop
 loop-again c = let n = c .before .before in
@@ -64,9 +58,9 @@ walk-back-spec =
     Inv-loop
     μ-loop
     loop-holds
-    sub-i
+    (λ c. omega arith)
     step-requires
-    loop-less
+    (λ c. omega arith)
     loop-again
     same-length
     returns)

@@ -8,23 +8,11 @@ use borrow.Author.Needs.{needs}
 use Rattle.transcriber.proofs.vowels.has_glide.Statement.{statement}
 use Rattle.transcriber.proofs.vowels.has_glide.Tie as tie
 
-is-sign-class-requires : tie.Need-is-sign-class-requires
-is-sign-class-requires c κs = search needs
-
 returns : tie.Need-returns
 returns c = rw (c .before .if1 .taken) (c .is-sign-class .ensures)
 
 returns-2 : tie.Need-returns-2
 returns-2 c = rw (ne-eqb _ _ (c .before .if1 .left), ne-eqb _ _ (c .if2 .taken))
-
-enum-told : tie.Need-enum-told
-enum-told c = search needs
-
-enum-told-2 : tie.Need-enum-told-2
-enum-told-2 c = search needs
-
-is-sign-class-requires-2 : tie.Need-is-sign-class-requires-2
-is-sign-class-requires-2 c κs = search needs
 
 returns-3 : tie.Need-returns-3
 unfolding bare
@@ -38,11 +26,11 @@ pub has-glide-spec : {M : Type 1} → statement M
 has-glide-spec =
     tie.close
     (tie.spec
-    is-sign-class-requires
+    (search needs)
     returns
     returns-2
-    enum-told
-    enum-told-2
-    is-sign-class-requires-2
+    (search needs)
+    (search needs)
+    (search needs)
     returns-3
     returns-4)

@@ -6,24 +6,9 @@ use Rattle.transcriber.proofs.Raw.{boundary-initial}
 use Rattle.transcriber.proofs.vowels.row_e.Statement.{statement}
 use Rattle.transcriber.proofs.vowels.row_e.Tie as tie
 
-enum-told : tie.Need-enum-told
-enum-told c = search needs
-
-enum-told-2 : tie.Need-enum-told-2
-enum-told-2 c = search needs
-
-hard-before-requires : tie.Need-hard-before-requires
-hard-before-requires c κs = search needs
-
 returns : tie.Need-returns
 unfolding rowЭ byLevel
 returns c q t = let s = c .before .before .before .before .before in rw (c .before .before .enum-told2 .given .1, boundary-initial (s .args .m .now) (s .args .i) _ q (s .pre .byte) t, ← c .before .hard-before .ensures, c .if1 .taken)
-
-enum-told-3 : tie.Need-enum-told-3
-enum-told-3 c = search needs
-
-hard-before-requires-2 : tie.Need-hard-before-requires-2
-hard-before-requires-2 c κs = search needs
 
 returns-2 : tie.Need-returns-2
 unfolding rowЭ byLevel
@@ -45,12 +30,12 @@ pub row-e-spec : {M : Type 1} → statement M
 row-e-spec =
     tie.close
     (tie.spec
-    enum-told
-    enum-told-2
-    hard-before-requires
+    (search needs)
+    (search needs)
+    (search needs)
     returns
-    enum-told-3
-    hard-before-requires-2
+    (search needs)
+    (search needs)
     returns-2
     returns-3
     returns-4

@@ -5,31 +5,13 @@ use Rattle.spec.specs.Vowels.{byLevel, rowЕ}
 use Rattle.transcriber.proofs.vowels.row_ie.Statement.{statement}
 use Rattle.transcriber.proofs.vowels.row_ie.Tie as tie
 
-enum-told : tie.Need-enum-told
-enum-told c = search needs
-
-enum-told-2 : tie.Need-enum-told-2
-enum-told-2 c = search needs
-
-is-hard-only-requires : tie.Need-is-hard-only-requires
-is-hard-only-requires c κs = search needs
-
 returns : tie.Need-returns
 unfolding rowЕ byLevel
 returns c hard q t = rw (c .before .before .enum-told2 .given .1, t .hardOnly, ← c .before .is-hard-only .ensures, c .if1 .taken)
 
-enum-told-3 : tie.Need-enum-told-3
-enum-told-3 c = search needs
-
-is-initial-requires : tie.Need-is-initial-requires
-is-initial-requires c κs = search needs
-
 returns-2 : tie.Need-returns-2
 unfolding rowЕ byLevel
 returns-2 c hard q t = rw (c .before .before .enum-told3 .given .1, t .first, ← c .before .is-initial .ensures, c .if2 .taken)
-
-is-hard-only-requires-2 : tie.Need-is-hard-only-requires-2
-is-hard-only-requires-2 c κs = search needs
 
 returns-3 : tie.Need-returns-3
 unfolding rowЕ byLevel
@@ -51,14 +33,14 @@ pub row-ie-spec : {M : Type 1} → statement M
 row-ie-spec =
     tie.close
     (tie.spec
-    enum-told
-    enum-told-2
-    is-hard-only-requires
+    (search needs)
+    (search needs)
+    (search needs)
     returns
-    enum-told-3
-    is-initial-requires
+    (search needs)
+    (search needs)
     returns-2
-    is-hard-only-requires-2
+    (search needs)
     returns-3
     returns-4
     returns-5

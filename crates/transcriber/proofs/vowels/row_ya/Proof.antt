@@ -5,18 +5,6 @@ use Rattle.spec.specs.Vowels.{byLevel, rowЯ}
 use Rattle.transcriber.proofs.vowels.row_ya.Statement.{statement}
 use Rattle.transcriber.proofs.vowels.row_ya.Tie as tie
 
-enum-told : tie.Need-enum-told
-enum-told c = search needs
-
-enum-told-2 : tie.Need-enum-told-2
-enum-told-2 c = search needs
-
-enum-told-3 : tie.Need-enum-told-3
-enum-told-3 c = search needs
-
-is-initial-requires : tie.Need-is-initial-requires
-is-initial-requires c κs = search needs
-
 returns : tie.Need-returns
 unfolding rowЯ byLevel
 returns c hard q t = rw (c .before .before .enum-told3 .given .1, t .first, ← c .before .is-initial .ensures, c .if1 .taken)
@@ -34,4 +22,4 @@ unfolding rowЯ byLevel
 returns-4 c hard q t = rw (c .before .before .enum-told3 .given .1, t .first, ← c .before .is-initial .ensures, c .if1 .left)
 
 pub row-ya-spec : {M : Type 1} → statement M
-row-ya-spec = tie.close (tie.spec enum-told enum-told-2 enum-told-3 is-initial-requires returns returns-2 returns-3 returns-4)
+row-ya-spec = tie.close (tie.spec (search needs) (search needs) (search needs) (search needs) returns returns-2 returns-3 returns-4)

@@ -14,33 +14,6 @@ use Rattle.transcriber.proofs.Raw.{outside}
 use Rattle.transcriber.proofs.vowels.vowel_sound.Statement.{statement}
 use Rattle.transcriber.proofs.vowels.vowel_sound.Tie as tie
 
-row-a-requires : tie.Need-row-a-requires
-row-a-requires c κs = search needs
-
-row-o-requires : tie.Need-row-o-requires
-row-o-requires c κs = search needs
-
-by-stress-requires : tie.Need-by-stress-requires
-by-stress-requires c κs = search needs
-
-by-stress-requires-2 : tie.Need-by-stress-requires-2
-by-stress-requires-2 c κs = search needs
-
-row-e-requires : tie.Need-row-e-requires
-row-e-requires c κs = search needs
-
-row-ie-requires : tie.Need-row-ie-requires
-row-ie-requires c κs = search needs
-
-by-stress-requires-3 : tie.Need-by-stress-requires-3
-by-stress-requires-3 c κs = search needs
-
-row-ya-requires : tie.Need-row-ya-requires
-row-ya-requires c κs = search needs
-
-row-i-requires : tie.Need-row-i-requires
-row-i-requires c κs = search needs
-
 returns : tie.Need-returns
 unfolding everything
 returns c q t = ⊎-elim (λ e. rw e (c .row-a .ensures (hardBefore (c .before .before .before .args .m .now) (c .before .before .before .args .i)) q t)) (λ e. rw e (c .row-a .ensures (hardBefore (c .before .before .before .args .m .now) (c .before .before .before .args .i)) q t)) (c .before .match .keys1)
@@ -94,15 +67,15 @@ pub vowel-sound-spec : {M : Type 1} → statement M
 vowel-sound-spec =
     tie.close
     (tie.spec
-    row-a-requires
-    row-o-requires
-    by-stress-requires
-    by-stress-requires-2
-    row-e-requires
-    row-ie-requires
-    by-stress-requires-3
-    row-ya-requires
-    row-i-requires
+    (search needs)
+    (search needs)
+    (search needs)
+    (search needs)
+    (search needs)
+    (search needs)
+    (search needs)
+    (search needs)
+    (search needs)
     returns
     returns-2
     returns-3
