@@ -41,13 +41,6 @@ other-end : (q b : ℕ) → b < 256 → isSoftSign b ≡ false → hardEnd q (sm
 unfolding everything
 other-end q b h e = where-same (λ x. not (isSoftSign x)) (λ x. hardEnd q (small x)) (λ x. isHardOrPaired (small x)) true b refl h (ap not e)
 
-returns : tie.Need-returns
-unfolding hardBefore isGap
-returns c = let s = c .before .before in rw (← s .pre .byte, ne-eqb (s .args .p) 32 (c .if1 .taken))
-
-sub-byte-before : tie.Need-sub-byte-before
-sub-byte-before c = let s = c .before .before in past (s .args .m .now) (s .args .i) (s .args .p) (s .pre .byte) (λ e. omega arith)
-
 sub-byte-before-2 : tie.Need-sub-byte-before-2
 sub-byte-before-2 c =
     let b = c .before in
@@ -70,11 +63,12 @@ returns-3 c =
     (c .is-hard-or-paired .ensures)
 
 pub hard-before-spec : {M : Type 1} → statement M
+unfolding hardBefore isGap
 hard-before-spec =
     tie.close
     (tie.spec
-    returns
-    sub-byte-before
+    (λ c. let s = c .before .before in rw (← s .pre .byte, ne-eqb (s .args .p) 32 (c .if1 .taken)))
+    (λ c. let s = c .before .before in past (s .args .m .now) (s .args .i) (s .args .p) (s .pre .byte) (λ e. omega arith))
     (search needs)
     sub-byte-before-2
     (search needs)

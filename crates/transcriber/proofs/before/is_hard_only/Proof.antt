@@ -11,18 +11,6 @@ use Rattle.transcriber.proofs.Raw.{outside}
 use Rattle.transcriber.proofs.before.is_hard_only.Statement.{statement}
 use Rattle.transcriber.proofs.before.is_hard_only.Tie as tie
 
-returns : tie.Need-returns
-unfolding everything
-returns c = ⊎-elim (λ e. rw e) (λ e. rw e) (c .match .keys1)
-
-returns-2 : tie.Need-returns-2
-unfolding everything
-returns-2 c = ⊎-elim (λ e. rw e) (λ e. rw e) (c .match .keys2)
-
-returns-3 : tie.Need-returns-3
-unfolding everything
-returns-3 c = ⊎-elim (λ e. rw e) (λ e. rw e) (c .match .keys3)
-
 returns-4 : tie.Need-returns-4
 unfolding everything
 returns-4 c =
@@ -32,4 +20,11 @@ returns-4 c =
     (rw (ne-eqb _ _ (λ e. r .0 .0 .1 (inl e)), ne-eqb _ _ (λ e. r .0 .0 .1 (inr e)), ne-eqb _ _ (λ e. r .0 .1 (inl e)), ne-eqb _ _ (λ e. r .0 .1 (inr e)), ne-eqb _ _ (λ e. r .1 (inl e)), ne-eqb _ _ (λ e. r .1 (inr e)))))
 
 pub is-hard-only-spec : {M : Type 1} → statement M
-is-hard-only-spec = tie.close (tie.spec returns returns-2 returns-3 returns-4)
+unfolding everything
+is-hard-only-spec =
+    tie.close
+    (tie.spec
+    (λ c. ⊎-elim (λ e. rw e) (λ e. rw e) (c .match .keys1))
+    (λ c. ⊎-elim (λ e. rw e) (λ e. rw e) (c .match .keys2))
+    (λ c. ⊎-elim (λ e. rw e) (λ e. rw e) (c .match .keys3))
+    returns-4)

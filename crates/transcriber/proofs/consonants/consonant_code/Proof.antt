@@ -25,59 +25,29 @@ last : (c : tie.After-group)
     getD (a .s .now) (320 + (getD (a .s .now) (192 + a .sound) 0 + getD (a .s .now) (96 + a .b % 32) 0)) 0 < 256
 last c = let s = c .before .before .before in let r = read s in table-small (s .args .s .now) _ (s .pre .0) (omega (arith, r .own, r .group))
 
-add-code : tie.Need-add-code
-add-code c = omega (arith, low c)
-
-element-copy-out-code : tie.Need-element-copy-out-code
-element-copy-out-code c = omega (arith, low c)
-
-cast-code : tie.Need-cast-code
-cast-code c = let s = c .before in let a = s .args in omega (arith, table-small (a .s .now) (a .tone + a .b % 32) (s .pre .0) (omega (arith, low s)))
-
-cast-own : tie.Need-cast-own
-cast-own c = omega (arith, read (c .before .before) .own)
-
-cast-group : tie.Need-cast-group
-cast-group c = omega (arith, read (c .before .before .before) .group)
-
-add-result : tie.Need-add-result
-add-result c = let r = read (c .before .before .before) in omega (arith, r .own, r .group)
-
-add-result-2 : tie.Need-add-result-2
-add-result-2 c = let r = read (c .before .before .before) in omega (arith, r .own, r .group)
-
-element-copy-out-result : tie.Need-element-copy-out-result
-element-copy-out-result c = let r = read (c .before .before .before) in omega (arith, r .own, r .group)
-
-cast-result : tie.Need-cast-result
-cast-result c = omega (arith, last (c .before))
-
 add-result-3 : tie.Need-add-result-3
 add-result-3 c =
     let s = c .before .before .before .before in
     let a = s .args in
     omega (arith, last (c .before), table-small (a .s .now) (a .tone + a .b % 32) (s .pre .0) (omega (arith, low s)))
 
-returns : tie.Need-returns
-returns c = sym (read (c .before .before .before .before) .code)
-
 pub consonant-code-spec : {M : Type 1} → statement M
 consonant-code-spec =
     tie.close
     (tie.spec
     (search needs)
-    add-code
-    element-copy-out-code
-    cast-code
+    (λ c. omega (arith, low c))
+    (λ c. omega (arith, low c))
+    (λ c. let s = c .before in let a = s .args in omega (arith, table-small (a .s .now) (a .tone + a .b % 32) (s .pre .0) (omega (arith, low s))))
     (search needs)
     (search needs)
-    cast-own
+    (λ c. omega (arith, read (c .before .before) .own))
     (search needs)
     (search needs)
-    cast-group
-    add-result
-    add-result-2
-    element-copy-out-result
-    cast-result
+    (λ c. omega (arith, read (c .before .before .before) .group))
+    (λ c. let r = read (c .before .before .before) in omega (arith, r .own, r .group))
+    (λ c. let r = read (c .before .before .before) in omega (arith, r .own, r .group))
+    (λ c. let r = read (c .before .before .before) in omega (arith, r .own, r .group))
+    (λ c. omega (arith, last (c .before)))
     add-result-3
-    returns)
+    (λ c. sym (read (c .before .before .before .before) .code)))

@@ -49,15 +49,6 @@ settles false x = refl
 high : (b x : ℕ) → 0x80 ≤ b → x < 0x80 → eqb b x ≡ false
 high b x h l = ne-eqb b x (λ e. omega arith)
 
-loop-holds : tie.Need-loop-holds Inv-loop μ-loop
-loop-holds c = (omega arith, refl)
-
-shared-slice-read-if1 : tie.Need-shared-slice-read-if1 Inv-loop μ-loop
-shared-slice-read-if1 c = let l = c .before .before in omega (arith, l .loop .inv .0, l .before .pre .1, c .before .loop-test .taken)
-
-shared-slice-read-result : tie.Need-shared-slice-read-result Inv-loop μ-loop
-shared-slice-read-result c = let t = c .before .before in let l = t .before .before in omega (arith, l .loop .inv .0, l .before .pre .1, t .before .loop-test .taken)
-
 returns : tie.Need-returns Inv-loop μ-loop
 unfolding isMark
 returns c =
@@ -75,21 +66,18 @@ loop-again c =
     let h = c .if1 .left in
     (omega arith, rw (high _ 0x2A h (omega arith), high _ 0x20 h (omega arith), high _ 0x23 h (omega arith)) at (turn (c .before)))
 
-returns-2 : tie.Need-returns-2 Inv-loop μ-loop
-unfolding markBefore
-returns-2 c = let e : c .before .loop .j ≡ 0 = omega arith in rw e at (c .before .loop .inv .1)
-
 pub mark-before-spec : {M : Type 1} → statement M
+unfolding markBefore
 mark-before-spec =
     tie.close
     (tie.spec
     Inv-loop
     μ-loop
-    loop-holds
+    (λ c. (omega arith, refl))
     (λ c. omega arith)
-    shared-slice-read-if1
-    shared-slice-read-result
+    (λ c. let l = c .before .before in omega (arith, l .loop .inv .0, l .before .pre .1, c .before .loop-test .taken))
+    (λ c. let t = c .before .before in let l = t .before .before in omega (arith, l .loop .inv .0, l .before .pre .1, t .before .loop-test .taken))
     returns
     (λ c. omega arith)
     loop-again
-    returns-2)
+    (λ c. let e : c .before .loop .j ≡ 0 = omega arith in rw e at (c .before .loop .inv .1)))

@@ -29,8 +29,13 @@ returns c =
     let t = c .before .before .before .before in
     rw (tail (t .before), t .if1 .taken) (c .before .before .put .ensures)
 
-returns-2 : tie.Need-returns-2
-returns-2 c = rw (tail (c .before), c .if1 .left) (put-none _ _)
-
 pub put-end-spec : {M : Type 1} → statement M
-put-end-spec = tie.close (tie.spec (λ c κs. search needs) (search needs) put-requires (search needs) returns returns-2)
+put-end-spec =
+    tie.close
+    (tie.spec
+    (λ c κs. search needs)
+    (search needs)
+    put-requires
+    (search needs)
+    returns
+    (λ c. rw (tail (c .before), c .if1 .left) (put-none _ _)))

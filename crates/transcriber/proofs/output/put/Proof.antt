@@ -5,8 +5,12 @@ use Rattle.transcriber.proofs.Putting.{put-one}
 use Rattle.transcriber.proofs.output.put.Statement.{statement}
 use Rattle.transcriber.proofs.output.put.Tie as tie
 
-returns : tie.Need-returns
-returns c = put-one (c .args .out .now) (c .args .at) (c .args .code) (c .pre .0) (c .pre .1)
-
 pub put-spec : {M : Type 1} → statement M
-put-spec = tie.close (tie.spec (search needs) (search needs) (search needs) (search needs) returns)
+put-spec =
+    tie.close
+    (tie.spec
+    (search needs)
+    (search needs)
+    (search needs)
+    (search needs)
+    (λ c. put-one (c .args .out .now) (c .args .at) (c .args .code) (c .pre .0) (c .pre .1)))

@@ -10,9 +10,6 @@ use Rattle.transcriber.proofs.Walking.{ready-break, break-room, break-s
 use Rattle.transcriber.proofs.tape.put_break.Statement.{statement}
 use Rattle.transcriber.proofs.tape.put_break.Tie as tie
 
-put-requires : tie.Need-put-requires
-put-requires c κs = let a = c .before .before .before .before .before .pre .1 in (break-room _ _ _ _ (a .ready) (ready-break a), a .ready .place)
-
 returns : tie.Need-returns
 returns c = let p = c .before .before in
     let k = p .before .before in
@@ -21,12 +18,6 @@ returns c = let p = c .before .before in
     let a = s .pre .1 in
     break-steps _ _ _ _ (a .ready) (p .put .last .0) (p .put .result) 64 (w .at-word-end .result) true (ready-break a)
     (eq-eqb (classOf (getD (s .args .m .now) (s .args .i) 0)) 3 (sym (a .class) ∙ k .if1 .taken)) refl (w .at-word-end .ensures) (p .put .ensures)
-
-tone-at-gap-requires : tie.Need-tone-at-gap-requires
-tone-at-gap-requires c κs = c .before .before .before .before .pre .0
-
-put-requires-2 : tie.Need-put-requires-2
-put-requires-2 c κs = let a = c .before .before .before .before .before .before .pre .1 in (break-room _ _ _ _ (a .ready) (ready-break a), a .ready .place)
 
 returns-2 : tie.Need-returns-2
 returns-2 c = let p = c .before .before in
@@ -43,10 +34,10 @@ put-break-spec =
     tie.close
     (tie.spec
     (λ c κs. search needs)
-    put-requires
+    (λ c κs. let a = c .before .before .before .before .before .pre .1 in (break-room _ _ _ _ (a .ready) (ready-break a), a .ready .place))
     (search needs)
     returns
-    tone-at-gap-requires
-    put-requires-2
+    (λ c κs. c .before .before .before .before .pre .0)
+    (λ c κs. let a = c .before .before .before .before .before .before .pre .1 in (break-room _ _ _ _ (a .ready) (ready-break a), a .ready .place))
     (search needs)
     returns-2)

@@ -48,9 +48,6 @@ consonant-code-requires c κs = let s = c .before .before .before .before .befor
     let a = s .pre .1 in
     (s .pre .0 .sound, record { letter = ready-consonant a; tone = rw (a .ready .stands .tone) (tone-no (toneAt (s .args .m .now) (suc (s .args .i)))); sound = right-sound _ _ _ _ (a .ready) .2 })
 
-cast-put : tie.Need-cast-put
-cast-put c = omega (arith, code-small (c .before))
-
 put-requires : tie.Need-put-requires
 put-requires c κs = let s = c .before .before .before .before .before .before .before .before in
     (letter-room _ _ _ _ (s .pre .1 .ready) (c .before .consonant-code .result ∷ []) (spelt s) (code-put (c .before)), s .pre .1 .ready .place)
@@ -78,7 +75,7 @@ put-consonant-spec =
     returns
     (search needs)
     consonant-code-requires
-    cast-put
+    (λ c. omega (arith, code-small (c .before)))
     put-requires
     tone-before-requires
     (search needs)

@@ -25,9 +25,6 @@ spelt s = spelt-vowel (getD (s .args .m .now) (s .args .i) 0) (s .pre .1 .ready 
 codes : (c : tie.After-vowel-at) → let s = c .before .before .before .before in codesAt (s .args .m .now) (s .args .i) ≡ sungCodes (c .vowel-at .result)
 codes c = sung-codes _ _ _ _ (vowel (c .before .before .before .before)) _ (c .vowel-at .ensures)
 
-vowel-at-requires : tie.Need-vowel-at-requires
-vowel-at-requires c κs = let s = c .before .before .before in (s .pre .0, vowel s)
-
 put-sung-requires : tie.Need-put-sung-requires
 put-sung-requires c κs =
     let s = c .before .before .before .before .before in
@@ -52,7 +49,7 @@ pub put-vowel-spec : {M : Type 1} → statement M
 put-vowel-spec =
     tie.close
     (tie.spec
-    vowel-at-requires
+    (λ c κs. let s = c .before .before .before in (s .pre .0, vowel s))
     put-sung-requires
     (search needs)
     (search needs)

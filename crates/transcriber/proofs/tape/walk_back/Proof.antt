@@ -24,9 +24,6 @@ inside c =
     let e : suc (c .before .loop .i - 1) ≡ c .before .loop .i = omega (arith, c .loop-test .taken) in
     rw e (c .before .loop .inv .2)
 
-loop-holds : tie.Need-loop-holds Inv-loop μ-loop
-loop-holds c = let s = c .before .before in (s .pre .2 .order, omega arith, walked-none _ _ _ _ (s .pre .2 .stands))
-
 step-requires : tie.Need-step-requires Inv-loop μ-loop
 step-requires c κs = let l = c .before .before in
     let s = l .before .before .before in
@@ -57,7 +54,7 @@ walk-back-spec =
     (tie.spec
     Inv-loop
     μ-loop
-    loop-holds
+    (λ c. let s = c .before .before in (s .pre .2 .order, omega arith, walked-none _ _ _ _ (s .pre .2 .stands)))
     (λ c. omega arith)
     step-requires
     (λ c. omega arith)

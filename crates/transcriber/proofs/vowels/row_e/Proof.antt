@@ -14,10 +14,6 @@ returns-2 : tie.Need-returns-2
 unfolding rowЭ byLevel
 returns-2 c q t = let s = c .before .before .before .before .before in rw (c .before .before .enum-told3 .given .1, boundary-initial (s .args .m .now) (s .args .i) _ q (s .pre .byte) t, ← c .before .hard-before2 .ensures, c .if2 .taken)
 
-returns-3 : tie.Need-returns-3
-unfolding rowЭ byLevel
-returns-3 c q t = rw (c .enum-told .given .1)
-
 returns-4 : tie.Need-returns-4
 unfolding rowЭ byLevel
 returns-4 c q t = let s = c .before .before .before .before .before in rw (c .before .before .enum-told2 .given .1, boundary-initial (s .args .m .now) (s .args .i) _ q (s .pre .byte) t, ← c .before .hard-before .ensures, c .if1 .left)
@@ -27,6 +23,7 @@ unfolding rowЭ byLevel
 returns-5 c q t = let s = c .before .before .before .before .before in rw (c .before .before .enum-told3 .given .1, boundary-initial (s .args .m .now) (s .args .i) _ q (s .pre .byte) t, ← c .before .hard-before2 .ensures, c .if2 .left)
 
 pub row-e-spec : {M : Type 1} → statement M
+unfolding rowЭ byLevel
 row-e-spec =
     tie.close
     (tie.spec
@@ -37,6 +34,6 @@ row-e-spec =
     (search needs)
     (search needs)
     returns-2
-    returns-3
+    (λ c q t. rw (c .enum-told .given .1))
     returns-4
     returns-5)

@@ -4,9 +4,6 @@ use borrow.Author.Needs.{needs}
 use Rattle.transcriber.proofs.vowels.second_a.Statement.{statement}
 use Rattle.transcriber.proofs.vowels.second_a.Tie as tie
 
-returns : tie.Need-returns
-returns c q t = rw (t .first, ← c .before .is-initial .ensures, c .if1 .taken)
-
 returns-2 : tie.Need-returns-2
 returns-2 c q t = rw (t .first, ← c .before .before .before .is-initial .ensures, c .before .before .if1 .left, t .softOnly, ← c .before .is-soft-only .ensures, c .if2 .taken)
 
@@ -14,4 +11,11 @@ returns-3 : tie.Need-returns-3
 returns-3 c q t = rw (t .first, ← c .before .before .before .is-initial .ensures, c .before .before .if1 .left, t .softOnly, ← c .before .is-soft-only .ensures, c .if2 .left)
 
 pub second-a-spec : {M : Type 1} → statement M
-second-a-spec = tie.close (tie.spec (search needs) returns (search needs) returns-2 returns-3)
+second-a-spec =
+    tie.close
+    (tie.spec
+    (search needs)
+    (λ c q t. rw (t .first, ← c .before .is-initial .ensures, c .if1 .taken))
+    (search needs)
+    returns-2
+    returns-3)

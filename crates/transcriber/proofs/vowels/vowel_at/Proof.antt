@@ -22,6 +22,4 @@ returns c =
     (b .byte-before .ensures) (k .class-of .ensures) (y .syllable-by .ensures) (v .vowel-sound .ensures) (c .has-glide .ensures)
 
 pub vowel-at-spec : {M : Type 1} → statement M
-vowel-at-spec =
-    tie.close
-    (tie.spec (search needs) (λ c κs. search needs) (search needs) (search needs) vowel-sound-requires (search needs) returns)
+vowel-at-spec = tie.close (tie.spec (search needs) (λ c κs. search needs) (search needs) (search needs) vowel-sound-requires (search needs) returns)

@@ -22,37 +22,13 @@ returns-2 : tie.Need-returns-2
 unfolding everything
 returns-2 c q t = ⊎-elim (λ e. rw e (c .row-o .ensures (hardBefore (c .before .before .before .args .m .now) (c .before .before .before .args .i)) q t)) (λ e. rw e (c .row-o .ensures (hardBefore (c .before .before .before .args .m .now) (c .before .before .before .args .i)) q t)) (c .before .match .keys2)
 
-returns-3 : tie.Need-returns-3
-unfolding everything
-returns-3 c q t = ⊎-elim (λ e. rw e (c .by-stress .ensures)) (λ e. rw e (c .by-stress .ensures)) (c .before .match .keys3)
-
-returns-4 : tie.Need-returns-4
-unfolding everything
-returns-4 c q t = ⊎-elim (λ e. rw e (c .by-stress2 .ensures)) (λ e. rw e (c .by-stress2 .ensures)) (c .before .match .keys4)
-
-returns-5 : tie.Need-returns-5
-unfolding everything
-returns-5 c q t = ⊎-elim (λ e. rw e (c .row-e .ensures q t)) (λ e. rw e (c .row-e .ensures q t)) (c .before .match .keys5)
-
 returns-6 : tie.Need-returns-6
 unfolding everything
 returns-6 c q t = ⊎-elim (λ e. rw e (c .row-ie .ensures (hardBefore (c .before .before .before .args .m .now) (c .before .before .before .args .i)) q t)) (λ e. rw e (c .row-ie .ensures (hardBefore (c .before .before .before .args .m .now) (c .before .before .before .args .i)) q t)) (c .before .match .keys6)
 
-returns-7 : tie.Need-returns-7
-unfolding everything
-returns-7 c q t = ⊎-elim (λ e. rw e) (λ e. rw e) (c .match .keys7)
-
-returns-8 : tie.Need-returns-8
-unfolding everything
-returns-8 c q t = ⊎-elim (λ e. rw e (c .by-stress3 .ensures)) (λ e. rw e (c .by-stress3 .ensures)) (c .before .match .keys8)
-
 returns-9 : tie.Need-returns-9
 unfolding everything
 returns-9 c q t = ⊎-elim (λ e. rw e (c .row-ya .ensures (hardBefore (c .before .before .before .args .m .now) (c .before .before .before .args .i)) q t)) (λ e. rw e (c .row-ya .ensures (hardBefore (c .before .before .before .args .m .now) (c .before .before .before .args .i)) q t)) (c .before .match .keys9)
-
-returns-10 : tie.Need-returns-10
-unfolding everything
-returns-10 c q t = ⊎-elim (λ e. rw e (c .row-i .ensures q t)) (λ e. rw e (c .row-i .ensures q t)) (c .before .match .keys10)
 
 returns-11 : tie.Need-returns-11
 unfolding everything
@@ -64,6 +40,7 @@ returns-11 c q t =
     ∙ s .pre .0))
 
 pub vowel-sound-spec : {M : Type 1} → statement M
+unfolding everything
 vowel-sound-spec =
     tie.close
     (tie.spec
@@ -78,12 +55,12 @@ vowel-sound-spec =
     (search needs)
     returns
     returns-2
-    returns-3
-    returns-4
-    returns-5
+    (λ c q t. ⊎-elim (λ e. rw e (c .by-stress .ensures)) (λ e. rw e (c .by-stress .ensures)) (c .before .match .keys3))
+    (λ c q t. ⊎-elim (λ e. rw e (c .by-stress2 .ensures)) (λ e. rw e (c .by-stress2 .ensures)) (c .before .match .keys4))
+    (λ c q t. ⊎-elim (λ e. rw e (c .row-e .ensures q t)) (λ e. rw e (c .row-e .ensures q t)) (c .before .match .keys5))
     returns-6
-    returns-7
-    returns-8
+    (λ c q t. ⊎-elim (λ e. rw e) (λ e. rw e) (c .match .keys7))
+    (λ c q t. ⊎-elim (λ e. rw e (c .by-stress3 .ensures)) (λ e. rw e (c .by-stress3 .ensures)) (c .before .match .keys8))
     returns-9
-    returns-10
+    (λ c q t. ⊎-elim (λ e. rw e (c .row-i .ensures q t)) (λ e. rw e (c .row-i .ensures q t)) (c .before .match .keys10))
     returns-11)
