@@ -1,7 +1,7 @@
 -- Each arm is its letter's row, by computation at the small letter and at the capital; a vowel has an arm.
 -- Assumes nothing.
 use mathlib.Core.Path.{refl, sym, _∙_}
-use mathlib.Core.Bool.{false≢true}
+use mathlib.Core.Bool.{Bool, false≢true}
 use mathlib.Core.List.{[], _∷_}
 use mathlib.Core.Logic.{⊎-elim, inl, inr}
 use native.Mathlib.Omega.{arith}
@@ -14,21 +14,9 @@ use Rattle.transcriber.proofs.Raw.{outside}
 use Rattle.transcriber.proofs.vowels.vowel_sound.Statement.{statement}
 use Rattle.transcriber.proofs.vowels.vowel_sound.Tie as tie
 
-returns : tie.Need-returns
-unfolding everything
-returns c q t = ⊎-elim (λ e. rw e (c .row-a .ensures (hardBefore (c .before .before .before .args .m .now) (c .before .before .before .args .i)) q t)) (λ e. rw e (c .row-a .ensures (hardBefore (c .before .before .before .args .m .now) (c .before .before .before .args .i)) q t)) (c .before .match .keys1)
-
-returns-2 : tie.Need-returns-2
-unfolding everything
-returns-2 c q t = ⊎-elim (λ e. rw e (c .row-o .ensures (hardBefore (c .before .before .before .args .m .now) (c .before .before .before .args .i)) q t)) (λ e. rw e (c .row-o .ensures (hardBefore (c .before .before .before .args .m .now) (c .before .before .before .args .i)) q t)) (c .before .match .keys2)
-
-returns-6 : tie.Need-returns-6
-unfolding everything
-returns-6 c q t = ⊎-elim (λ e. rw e (c .row-ie .ensures (hardBefore (c .before .before .before .args .m .now) (c .before .before .before .args .i)) q t)) (λ e. rw e (c .row-ie .ensures (hardBefore (c .before .before .before .args .m .now) (c .before .before .before .args .i)) q t)) (c .before .match .keys6)
-
-returns-9 : tie.Need-returns-9
-unfolding everything
-returns-9 c q t = ⊎-elim (λ e. rw e (c .row-ya .ensures (hardBefore (c .before .before .before .args .m .now) (c .before .before .before .args .i)) q t)) (λ e. rw e (c .row-ya .ensures (hardBefore (c .before .before .before .args .m .now) (c .before .before .before .args .i)) q t)) (c .before .match .keys9)
+-- is the boundary before the vowel a hard one?
+abbrev hard : tie.Start → Bool
+hard s = hardBefore (s .args .m .now) (s .args .i)
 
 returns-11 : tie.Need-returns-11
 unfolding everything
@@ -53,14 +41,14 @@ vowel-sound-spec =
     (search needs)
     (search needs)
     (search needs)
-    returns
-    returns-2
+    (λ c q t. let e = c .row-a .ensures (hard (c .before .before .before)) q t in ⊎-elim (λ k. rw k e) (λ k. rw k e) (c .before .match .keys1))
+    (λ c q t. let e = c .row-o .ensures (hard (c .before .before .before)) q t in ⊎-elim (λ k. rw k e) (λ k. rw k e) (c .before .match .keys2))
     (λ c q t. ⊎-elim (λ e. rw e (c .by-stress .ensures)) (λ e. rw e (c .by-stress .ensures)) (c .before .match .keys3))
     (λ c q t. ⊎-elim (λ e. rw e (c .by-stress2 .ensures)) (λ e. rw e (c .by-stress2 .ensures)) (c .before .match .keys4))
     (λ c q t. ⊎-elim (λ e. rw e (c .row-e .ensures q t)) (λ e. rw e (c .row-e .ensures q t)) (c .before .match .keys5))
-    returns-6
+    (λ c q t. let e = c .row-ie .ensures (hard (c .before .before .before)) q t in ⊎-elim (λ k. rw k e) (λ k. rw k e) (c .before .match .keys6))
     (λ c q t. ⊎-elim (λ e. rw e) (λ e. rw e) (c .match .keys7))
     (λ c q t. ⊎-elim (λ e. rw e (c .by-stress3 .ensures)) (λ e. rw e (c .by-stress3 .ensures)) (c .before .match .keys8))
-    returns-9
+    (λ c q t. let e = c .row-ya .ensures (hard (c .before .before .before)) q t in ⊎-elim (λ k. rw k e) (λ k. rw k e) (c .before .match .keys9))
     (λ c q t. ⊎-elim (λ e. rw e (c .row-i .ensures q t)) (λ e. rw e (c .row-i .ensures q t)) (c .before .match .keys10))
     returns-11)
