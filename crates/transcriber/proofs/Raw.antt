@@ -31,7 +31,7 @@ use Rattle.message.proofs.Before.{vowel-before}
 use Rattle.message.proofs.Left.{left-letter, left-mark, left-break}
 use Rattle.message.proofs.Computed.{everything}
 use Rattle.transcriber.specs.Levels.{levelBy}
-use Rattle.transcriber.specs.Sounds.{byteBefore, classBefore, isHardOrPaired, Told, coverClass, syllableBy, glideBy, hardBefore, tonedCode, toneNo}
+use Rattle.transcriber.specs.Sounds.{byteBefore, ByteBefore, classBefore, isHardOrPaired, Told, coverClass, syllableBy, glideBy, hardBefore, tonedCode, toneNo}
 
 -- two functions that agree on the bytes that pass a test agree at each of them
 pub where-same : {A : Type 0} (t : ℕ → Bool) (f g : ℕ → A) (d : A) (b : ℕ) → map (λ x. cond (t x) (f x) d) (below 256) ≡ map (λ x. cond (t x) (g x) d) (below 256)
@@ -88,11 +88,11 @@ gap-break true h y = refl
 gap-break false true y = refl
 gap-break false false y = refl
 
-pub boundary-initial : (m : List ℕ) (i p q : ℕ) → p ≡ byteBefore m i → Told p q → (initial q && hardBefore m i) ≡ hardBefore m i
+pub boundary-initial : {m : List ℕ} {i p q : ℕ} → ByteBefore m i p → Told p q → (initial q && hardBefore m i) ≡ hardBefore m i
 unfolding hardBefore isBreak isGap
-boundary-initial m i p q e t =
+boundary-initial {m} {i} e t =
     let b = byteBefore m i in
-    rw (t .first, e) (gap-break (eqb b gap) (eqb b pause) (hardEnd (small (byteBefore m (i - 2))) (small (byteBefore m (i - 1)))))
+    rw (t .first, e .byte) (gap-break (eqb b gap) (eqb b pause) (hardEnd (small (byteBefore m (i - 2))) (small (byteBefore m (i - 1)))))
 
 -- consonants and signs are the classes from 4 to 9
 letters-class : (b : ℕ) → b < 256 → (isConsonant (small b) || isSign (small b)) ≡ between 4 9 (classOf b)
@@ -245,7 +245,7 @@ low-cond true x y n = refl
 low-cond false x y n = refl
 
 -- a choice of the same
-cond-same : (t k : Bool) → cond t k k ≡ k
+pub cond-same : {A : Type 0} (t : Bool) (k : A) → cond t k k ≡ k
 cond-same true k = refl
 cond-same false k = refl
 
@@ -259,16 +259,12 @@ vowel-low hard p s b = by (s .level) refl
     by First e = rw e (leb-true _ 13 (entry-low 13 _ b (simp (low-cond, cond-same))))
     by Second e = rw e (leb-true _ 13 (entry-low 13 _ b (simp (low-cond, cond-same))))
 
--- none of which voices or devoices
-low-tone : (c : ℕ) → c < 14 → toneBefore c ≡ asWritten
+-- none of which voices or devoices, so that a vowel leaves an obstruent before it as written
+pub vowel-tone : (hard : Bool) (p : ℕ) (s : Syllable) (b : ℕ) → toneBefore (vowelSound hard p s b) ≡ asWritten
 unfolding everything
-low-tone c h = below-same toneBefore (λ _. asWritten) 14 c refl h
+vowel-tone hard p s b = below-same toneBefore (λ _. asWritten) 14 (vowelSound hard p s b) refl (omega (arith, vowel-low hard p s b))
 
--- every code is below 64, so that it is a place of the table: a vowel's
-vowel-small : (hard : Bool) (p : ℕ) (s : Syllable) (b : ℕ) → vowelSound hard p s b < 64
-vowel-small hard p s b = omega (arith, vowel-low hard p s b)
-
--- a consonant's hard one, which has another after it
+-- every code is below 64, so that it is a place of the table: a consonant's hard one, which has another after it
 hard-low : (tone : Tone) (b : ℕ) → tonedCode tone b ≤ 56
 unfolding tonedCode toned writtenCode voicedCode voicelessCode
 hard-low tone b = leb-true _ _ (rw low-cond (rw (by tone, entry-low 56 _ b refl, cond-same)))
@@ -309,17 +305,13 @@ fused-small hard facts next p (l ∷ w) = by (elides p (l .byte) w) (isSign (l .
     by true x y g r = r
     by false true y g r = r
     by false false true true r = omega arith
-    by false false true false r = vowel-small hard p s (l .byte)
+    by false false true false r = omega (arith, vowel-low hard p s (l .byte))
     by false false false g r = consonant-small (l .byte) (softens (firstByte w)) (toneOf next t) (firstCode t)
 
 -- that after a place
 pub sound-small : (m : List ℕ) (i : ℕ) → soundAt m i < 64
 unfolding soundAt tailWord
 sound-small m i = fused-small _ _ _ _ _
-
--- a vowel leaves an obstruent before it as written
-pub vowel-tone : (hard : Bool) (p : ℕ) (s : Syllable) (b : ℕ) → toneBefore (vowelSound hard p s b) ≡ asWritten
-vowel-tone hard p s b = low-tone (vowelSound hard p s b) (omega (arith, vowel-low hard p s b))
 
 -- a tone's number is at most 64
 pub tone-small : (t : Tone) → toneNo t ≤ 64

@@ -1,7 +1,7 @@
 -- The code that the table gives is the consonant's, and it is what stands right of the letter before; a silent letter puts nothing.
 -- Assumes nothing.
 use Prim.Native.Nat.{suc, _%_, _<_}
-use mathlib.Core.Path.{_≡_, refl, sym, _∙_}
+use mathlib.Core.Path.{_≡_, refl, sym, ap, _∙_}
 use mathlib.Core.Bool.{false}
 use mathlib.Core.List.{[], _∷_}
 use native.Mathlib.Omega.{arith}
@@ -10,9 +10,9 @@ use lib.ListN.{getD}
 use borrow.Author.Needs.{needs}
 use Rattle.spec.specs.Letters.{small}
 use Rattle.message.specs.Places.{toneAt, codesAt}
-use Rattle.transcriber.specs.Sounds.{toneBy}
+use Rattle.transcriber.specs.Sounds.{toneNo, toneBy}
 use Rattle.transcriber.proofs.Raw.{consonant-small}
-use Rattle.transcriber.proofs.Walking.{Spelt, spelt-consonant, consonant-softens, consonant-codes, ready-consonant, elided-steps, letter-room, right-sound, tone-no, plain-levels, letter-steps}
+use Rattle.transcriber.proofs.Walking.{Spelt, spelt-consonant, consonant-softens, consonant-codes, ready-consonant, elided-steps, letter-room, right-sound, tone-by, plain-levels, letter-steps}
 use Rattle.transcriber.proofs.tape.put_consonant.Statement.{statement}
 use Rattle.transcriber.proofs.tape.put_consonant.Tie as tie
 
@@ -46,7 +46,7 @@ returns c = let k = c .before .before in
 consonant-code-requires : tie.Need-consonant-code-requires
 consonant-code-requires c κs = let s = c .before .before .before .before .before .before in
     let a = s .pre .1 in
-    (s .pre .0 .sound, record { letter = ready-consonant a; tone = rw (a .ready .stands .tone) (tone-no (toneAt (s .args .m .now) (suc (s .args .i)))); sound = right-sound _ _ _ _ (a .ready) .2 })
+    (s .pre .0 .sound, record { letter = ready-consonant a; tone = rw (a .ready .stands .tone) (ap toneNo (tone-by (toneAt (s .args .m .now) (suc (s .args .i))))); sound = right-sound _ _ _ _ (a .ready) .2 })
 
 put-requires : tie.Need-put-requires
 put-requires c κs = let s = c .before .before .before .before .before .before .before .before in

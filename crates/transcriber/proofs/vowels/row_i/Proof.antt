@@ -8,11 +8,11 @@ use Rattle.transcriber.proofs.vowels.row_i.Tie as tie
 
 returns-2 : tie.Need-returns-2
 unfolding rowИ
-returns-2 c q t = let h = c .before .before in let f = h .before .before in let s = f .before .before in rw (t .hardOnly, ← f .is-hard-only .ensures, h .before .if1 .left, boundary-initial (s .args .m .now) (s .args .i) _ q (s .pre .byte) t, ← h .hard-before .ensures, c .before .if2 .taken) (c .by-stress2 .ensures)
+returns-2 c q t = let h = c .before .before in let f = h .before .before in let s = f .before .before in rw (t .hardOnly, ← f .is-hard-only .ensures, h .before .if1 .left, boundary-initial (s .pre) t, ← h .hard-before .ensures, c .before .if2 .taken) (c .by-stress2 .ensures)
 
 returns-3 : tie.Need-returns-3
 unfolding rowИ
-returns-3 c q t = let h = c .before .before in let f = h .before .before in let s = f .before .before in rw (t .hardOnly, ← f .is-hard-only .ensures, h .before .if1 .left, boundary-initial (s .args .m .now) (s .args .i) _ q (s .pre .byte) t, ← h .hard-before .ensures, c .before .if2 .left) (c .by-stress3 .ensures)
+returns-3 c q t = let h = c .before .before in let f = h .before .before in let s = f .before .before in rw (t .hardOnly, ← f .is-hard-only .ensures, h .before .if1 .left, boundary-initial (s .pre) t, ← h .hard-before .ensures, c .before .if2 .left) (c .by-stress3 .ensures)
 
 pub row-i-spec : {M : Type 1} → statement M
 unfolding rowИ
