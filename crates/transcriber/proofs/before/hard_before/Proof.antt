@@ -71,8 +71,7 @@ hard-before-spec =
     (λ c. let s = c .before .before in past (s .args .m .now) (s .args .i) (s .args .p) (s .pre .byte) (λ e. omega arith))
     (search needs)
     sub-byte-before-2
-    (search needs)
-    (search needs)
+    (search needs) (search needs)
     returns-2
     (search needs)
     returns-3)

@@ -11,7 +11,6 @@ pub tone-before-spec : {M : Type 1} → statement M
 tone-before-spec =
     tie.close
     (tie.spec
-    (search needs)
-    (search needs)
+    (search needs) (search needs)
     (λ c. let s = c .before in omega (arith, table-small (s .args .s .now) (128 + s .args .code) (s .pre .0) (omega arith)))
     (λ c. let s = c .before in tone-read (s .args .s .now) (s .args .code) (s .pre .0) (s .pre .1)))

@@ -33,8 +33,7 @@ pub put-end-spec : {M : Type 1} → statement M
 put-end-spec =
     tie.close
     (tie.spec
-    (λ c κs. search needs)
-    (search needs)
+    (λ c κs. search needs) (search needs)
     put-requires
     (search needs)
     returns

@@ -53,15 +53,12 @@ pub step-spec : {M : Type 1} → statement M
 step-spec =
     tie.close
     (tie.spec
-    (search needs)
-    (λ c κs. search needs)
+    (search needs) (λ c κs. search needs)
     put-name-requires
-    (search needs)
-    (λ c. search needs)
+    (search needs) (λ c. search needs)
     returns-2
     (search needs)
     returns-3
     put-end-requires
-    (λ c κs. search needs)
-    (search needs)
+    (λ c κs. search needs) (search needs)
     returns-4)

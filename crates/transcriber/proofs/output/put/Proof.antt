@@ -9,8 +9,5 @@ pub put-spec : {M : Type 1} → statement M
 put-spec =
     tie.close
     (tie.spec
-    (search needs)
-    (search needs)
-    (search needs)
-    (search needs)
+    (search needs) (search needs) (search needs) (search needs)
     (λ c. put-one (c .args .out .now) (c .args .at) (c .args .code) (c .pre .0) (c .pre .1)))

@@ -10,14 +10,7 @@ unfolding nameOf nameIn
 name-of-spec =
     tie.close
     (tie.spec
-    (search needs)
-    (search needs)
-    (search needs)
-    (search needs)
-    (search needs)
-    (search needs)
-    (search needs)
-    (search needs)
+    (search needs) (search needs) (search needs) (search needs) (search needs) (search needs) (search needs) (search needs)
     (λ c. rw (c .before .before .enum-told .given .1, c .enum-told2 .given .1))
     (λ c. rw (c .before .before .enum-told .given .1, c .enum-told3 .given .1))
     (λ c. rw (c .before .before .enum-told .given .1, c .enum-told4 .given .1))

@@ -70,8 +70,7 @@ put-consonant-spec =
     tie.close
     (tie.spec
     is-silent-requires
-    (search needs)
-    (search needs)
+    (search needs) (search needs)
     returns
     (search needs)
     consonant-code-requires

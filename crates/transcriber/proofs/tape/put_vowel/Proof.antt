@@ -51,8 +51,5 @@ put-vowel-spec =
     (tie.spec
     (λ c κs. let s = c .before .before .before in (s .pre .0, vowel s))
     put-sung-requires
-    (search needs)
-    (search needs)
-    (search needs)
-    (search needs)
+    (search needs) (search needs) (search needs) (search needs)
     returns)

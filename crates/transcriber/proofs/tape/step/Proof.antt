@@ -54,19 +54,13 @@ pub step-spec : {M : Type 1} → statement M
 step-spec =
     tie.close
     (tie.spec
-    (search needs)
-    (λ c κs. search needs)
+    (search needs) (λ c κs. search needs)
     put-vowel-requires
-    (search needs)
-    (λ c. search needs)
+    (search needs) (λ c. search needs)
     put-consonant-requires
-    (search needs)
-    (λ c. search needs)
-    (search needs)
-    (search needs)
+    (search needs) (λ c. search needs) (search needs) (search needs)
     returns-3
-    (search needs)
-    (search needs)
+    (search needs) (search needs)
     returns-4
     put-break-requires
     (search needs)

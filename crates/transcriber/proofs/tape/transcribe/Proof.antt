@@ -68,14 +68,10 @@ pub transcribe-spec : {M : Type 1} → statement M
 transcribe-spec =
     tie.close
     (tie.spec
-    (search needs)
-    (search needs)
-    (search needs)
-    (search needs)
+    (search needs) (search needs) (search needs) (search needs)
     returns
     returns-2
-    (search needs)
-    (search needs)
+    (search needs) (search needs)
     write-tape-requires
     (search needs)
     returns-3)

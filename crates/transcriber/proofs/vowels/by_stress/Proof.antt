@@ -10,9 +10,7 @@ unfolding byStress
 by-stress-spec =
     tie.close
     (tie.spec
-    (search needs)
-    (λ c. search needs)
-    (λ c. search needs)
+    (search needs) (λ c. search needs) (λ c. search needs)
     (λ c. rw (c .enum-told .given .1))
     (λ c. rw (c .enum-told2 .given .1))
     (λ c. rw (c .enum-told3 .given .1)))

@@ -8,10 +8,6 @@ use borrow.Author.Needs.{needs}
 use Rattle.transcriber.proofs.vowels.has_glide.Statement.{statement}
 use Rattle.transcriber.proofs.vowels.has_glide.Tie as tie
 
-returns-4 : tie.Need-returns-4
-unfolding bare
-returns-4 c = rw (c .before .before .before .if2 .left, c .before .enum-told2 .given .1, or-false (isSignClass (c .before .before .before .before .before .args .k))) (c .is-sign-class2 .ensures)
-
 pub has-glide-spec : {M : Type 1} → statement M
 unfolding bare
 has-glide-spec =
@@ -20,8 +16,6 @@ has-glide-spec =
     (search needs)
     (λ c. rw (c .before .if1 .taken) (c .is-sign-class .ensures))
     (λ c. rw (ne-eqb _ _ (c .before .if1 .left), ne-eqb _ _ (c .if2 .taken)))
-    (search needs)
-    (search needs)
-    (search needs)
+    (search needs) (search needs) (search needs)
     (λ c. rw (c .before .before .if2 .left, c .enum-told .given .1))
-    returns-4)
+    (λ c. rw (c .before .before .before .if2 .left, c .before .enum-told2 .given .1, or-false (isSignClass (c .before .before .before .before .before .args .k))) (c .is-sign-class2 .ensures)))

@@ -10,12 +10,9 @@ unfolding rowА byLevel
 row-a-spec =
     tie.close
     (tie.spec
-    (search needs)
-    (search needs)
-    (search needs)
+    (search needs) (search needs) (search needs)
     (λ c hard q t. rw (c .before .before .enum-told2 .given .1, t .softOnly, ← c .before .is-soft-only .ensures, c .if1 .taken))
-    (search needs)
-    (search needs)
+    (search needs) (search needs)
     (λ c hard q t. rw (c .enum-told .given .1))
     (λ c hard q t. rw (c .before .before .enum-told2 .given .1, t .softOnly, ← c .before .is-soft-only .ensures, c .if1 .left))
     (λ c hard q t. rw (c .before .enum-told3 .given .1) (c .second-a .ensures q t)))

@@ -19,11 +19,9 @@ unfolding rowИ
 row-i-spec =
     tie.close
     (tie.spec
-    (search needs)
-    (search needs)
+    (search needs) (search needs)
     (λ c q t. let h = c .before .before in rw (t .hardOnly, ← h .is-hard-only .ensures, c .before .if1 .taken) (c .by-stress .ensures))
-    (search needs)
-    (search needs)
+    (search needs) (search needs)
     returns-2
     (search needs)
     returns-3)

@@ -10,10 +10,7 @@ unfolding rowО byLevel
 row-o-spec =
     tie.close
     (tie.spec
-    (search needs)
-    (search needs)
-    (search needs)
-    (search needs)
+    (search needs) (search needs) (search needs) (search needs)
     (λ c hard q t. rw (c .enum-told .given .1))
     (λ c hard q t. rw (c .enum-told2 .given .1))
     (λ c hard q t. rw (c .before .enum-told3 .given .1) (c .second-a .ensures q t)))

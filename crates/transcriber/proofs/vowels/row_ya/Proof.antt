@@ -10,10 +10,7 @@ unfolding rowЯ byLevel
 row-ya-spec =
     tie.close
     (tie.spec
-    (search needs)
-    (search needs)
-    (search needs)
-    (search needs)
+    (search needs) (search needs) (search needs) (search needs)
     (λ c hard q t. rw (c .before .before .enum-told3 .given .1, t .first, ← c .before .is-initial .ensures, c .if1 .taken))
     (λ c hard q t. rw (c .enum-told .given .1))
     (λ c hard q t. rw (c .enum-told2 .given .1))

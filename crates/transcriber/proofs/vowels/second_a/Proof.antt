@@ -4,12 +4,6 @@ use borrow.Author.Needs.{needs}
 use Rattle.transcriber.proofs.vowels.second_a.Statement.{statement}
 use Rattle.transcriber.proofs.vowels.second_a.Tie as tie
 
-returns-2 : tie.Need-returns-2
-returns-2 c q t = rw (t .first, ← c .before .before .before .is-initial .ensures, c .before .before .if1 .left, t .softOnly, ← c .before .is-soft-only .ensures, c .if2 .taken)
-
-returns-3 : tie.Need-returns-3
-returns-3 c q t = rw (t .first, ← c .before .before .before .is-initial .ensures, c .before .before .if1 .left, t .softOnly, ← c .before .is-soft-only .ensures, c .if2 .left)
-
 pub second-a-spec : {M : Type 1} → statement M
 second-a-spec =
     tie.close
@@ -17,5 +11,5 @@ second-a-spec =
     (search needs)
     (λ c q t. rw (t .first, ← c .before .is-initial .ensures, c .if1 .taken))
     (search needs)
-    returns-2
-    returns-3)
+    (λ c q t. rw (t .first, ← c .before .before .before .is-initial .ensures, c .before .before .if1 .left, t .softOnly, ← c .before .is-soft-only .ensures, c .if2 .taken))
+    (λ c q t. rw (t .first, ← c .before .before .before .is-initial .ensures, c .before .before .if1 .left, t .softOnly, ← c .before .is-soft-only .ensures, c .if2 .left)))

@@ -32,15 +32,7 @@ unfolding everything
 vowel-sound-spec =
     tie.close
     (tie.spec
-    (search needs)
-    (search needs)
-    (search needs)
-    (search needs)
-    (search needs)
-    (search needs)
-    (search needs)
-    (search needs)
-    (search needs)
+    (search needs) (search needs) (search needs) (search needs) (search needs) (search needs) (search needs) (search needs) (search needs)
     (λ c q t. let e = c .row-a .ensures (hard (c .before .before .before)) q t in ⊎-elim (λ k. rw k e) (λ k. rw k e) (c .before .match .keys1))
     (λ c q t. let e = c .row-o .ensures (hard (c .before .before .before)) q t in ⊎-elim (λ k. rw k e) (λ k. rw k e) (c .before .match .keys2))
     (λ c q t. ⊎-elim (λ e. rw e (c .by-stress .ensures)) (λ e. rw e (c .by-stress .ensures)) (c .before .match .keys3))
