@@ -4,10 +4,11 @@ use Prim.Native.Nat.{ℕ, zero, suc, _-_, _<_, _≤_}
 use mathlib.Core.Path.{_≡_, refl, sym, ap, _∙_}
 use mathlib.Core.Bool.{Bool, true, false, cond, _&&_, _||_, not, or-assoc, false≢true}
 use mathlib.Core.List.{List, [], _∷_, _++_, map}
+use mathlib.Core.Logic.{_⊎_, inl, inr}
 use native.Mathlib.Omega.{arith}
 use lib.Dec.{eqb, leb}
 use lib.ListN.{length, getD, drop}
-use borrow.Author.Tests.{eqb-true, leb-true, le-leb}
+use borrow.Author.Tests.{eqb-true, ne-eqb, leb-true, le-leb}
 use Rattle.spec.specs.Alphabet.{gap, pause, mark, «ь», «е», «ё», «и», «ю», «я»}
 use Rattle.spec.specs.Tables.{among, Entry, _gives_, entry}
 use Rattle.spec.specs.Letters.{Letter, between, small, plainVowels, softeningVowels, isBreak, isGap, isHardOnly, isSoftOnly, isConsonant, isSign, isVowel, isMark, firstByte, beginsWithMark}
@@ -38,10 +39,19 @@ pub where-same : {A : Type 0} (t : ℕ → Bool) (f g : ℕ → A) (d : A) (b : 
     → b < 256 → t b ≡ true → f b ≡ g b
 where-same t f g d b e h k = rw k at (below-same (λ x. cond (t x) (f x) d) (λ x. cond (t x) (g x) d) 256 b e h)
 
--- a test that only bytes of a list pass
-pub outside : (keys : List ℕ) (f : ℕ → Bool) (b : ℕ) → b < 256 → map (λ x. cond (among keys x) false (f x)) (below 256) ≡ map (λ _. false) (below 256)
-    → among keys b ≡ false → f b ≡ false
-outside keys f b h e k = rw k at (below-same (λ x. cond (among keys x) false (f x)) (λ _. false) 256 b e h)
+-- a byte that is none of the keys of arms with two keys each
+pub data NoKey (b : ℕ) : List ℕ → Type 0 where
+  none : NoKey b []
+  neither : {x y : ℕ} {keys : List ℕ} → (b ≡ x ⊎ b ≡ y → ⊥) → NoKey b keys → NoKey b (x ∷ y ∷ keys)
+
+not-among : {b : ℕ} {keys : List ℕ} → NoKey b keys → among keys b ≡ false
+unfolding among
+not-among none = refl
+not-among (neither n k) = rw (ne-eqb _ _ (λ h. n (inl h)), ne-eqb _ _ (λ h. n (inr h))) (not-among k)
+
+-- passes no test that only keys pass
+pub outside : {keys : List ℕ} {b : ℕ} (f : ℕ → Bool) → NoKey b keys → map (λ x. cond (among keys x) false (f x)) (below 256) ≡ map (λ _. false) (below 256) → b < 256 → f b ≡ false
+outside {keys} {b} f k e h = rw (not-among k) at (below-same (λ x. cond (among keys x) false (f x)) (λ _. false) 256 b e h)
 
 -- a letter is told by its byte
 told-letter : (b : ℕ) → b < 256 → isLetterClass (classOf b) ≡ true → Told b (small b)

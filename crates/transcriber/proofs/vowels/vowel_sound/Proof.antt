@@ -2,15 +2,13 @@
 -- Assumes nothing.
 use mathlib.Core.Path.{refl, sym, _∙_}
 use mathlib.Core.Bool.{Bool, false≢true}
-use mathlib.Core.List.{[], _∷_}
-use mathlib.Core.Logic.{⊎-elim, inl, inr}
+use mathlib.Core.Logic.{⊎-elim}
 use native.Mathlib.Omega.{arith}
 use borrow.Author.Needs.{needs}
-use borrow.Author.Tests.{ne-eqb}
 use Rattle.spec.specs.Refusals.{vowelByte}
 use Rattle.message.proofs.Computed.{everything}
 use Rattle.transcriber.specs.Sounds.{hardBefore}
-use Rattle.transcriber.proofs.Raw.{outside}
+use Rattle.transcriber.proofs.Raw.{none, neither, outside}
 use Rattle.transcriber.proofs.vowels.vowel_sound.Statement.{statement}
 use Rattle.transcriber.proofs.vowels.vowel_sound.Tie as tie
 
@@ -23,9 +21,8 @@ unfolding everything
 returns-11 c q t =
     let r = c .match .rest in
     let s = c .before .before in
-    absurd (false≢true (sym (outside (0xC0 ∷ 0xE0 ∷ 0xCE ∷ 0xEE ∷ 0xD3 ∷ 0xF3 ∷ 0xDB ∷ 0xFB ∷ 0xDD ∷ 0xFD ∷ 0xC5 ∷ 0xE5 ∷ 0xA8 ∷ 0xB8 ∷ 0xDE ∷ 0xFE ∷ 0xDF ∷ 0xFF ∷ 0xC8 ∷ 0xE8 ∷ []) vowelByte (s .args .b) (omega (arith, s .fits .b)) refl
-    (rw (ne-eqb _ _ (λ e. r .0 .0 .0 .0 .0 .0 .0 .0 .0 .1 (inl e)), ne-eqb _ _ (λ e. r .0 .0 .0 .0 .0 .0 .0 .0 .0 .1 (inr e)), ne-eqb _ _ (λ e. r .0 .0 .0 .0 .0 .0 .0 .0 .1 (inl e)), ne-eqb _ _ (λ e. r .0 .0 .0 .0 .0 .0 .0 .0 .1 (inr e)), ne-eqb _ _ (λ e. r .0 .0 .0 .0 .0 .0 .0 .1 (inl e)), ne-eqb _ _ (λ e. r .0 .0 .0 .0 .0 .0 .0 .1 (inr e)), ne-eqb _ _ (λ e. r .0 .0 .0 .0 .0 .0 .1 (inl e)), ne-eqb _ _ (λ e. r .0 .0 .0 .0 .0 .0 .1 (inr e)), ne-eqb _ _ (λ e. r .0 .0 .0 .0 .0 .1 (inl e)), ne-eqb _ _ (λ e. r .0 .0 .0 .0 .0 .1 (inr e)), ne-eqb _ _ (λ e. r .0 .0 .0 .0 .1 (inl e)), ne-eqb _ _ (λ e. r .0 .0 .0 .0 .1 (inr e)), ne-eqb _ _ (λ e. r .0 .0 .0 .1 (inl e)), ne-eqb _ _ (λ e. r .0 .0 .0 .1 (inr e)), ne-eqb _ _ (λ e. r .0 .0 .1 (inl e)), ne-eqb _ _ (λ e. r .0 .0 .1 (inr e)), ne-eqb _ _ (λ e. r .0 .1 (inl e)), ne-eqb _ _ (λ e. r .0 .1 (inr e)), ne-eqb _ _ (λ e. r .1 (inl e)), ne-eqb _ _ (λ e. r .1 (inr e)))))
-    ∙ s .pre .0))
+    let other = neither (r .0 .0 .0 .0 .0 .0 .0 .0 .0 .1) (neither (r .0 .0 .0 .0 .0 .0 .0 .0 .1) (neither (r .0 .0 .0 .0 .0 .0 .0 .1) (neither (r .0 .0 .0 .0 .0 .0 .1) (neither (r .0 .0 .0 .0 .0 .1) (neither (r .0 .0 .0 .0 .1) (neither (r .0 .0 .0 .1) (neither (r .0 .0 .1) (neither (r .0 .1) (neither (r .1) none))))))))) in
+    absurd (false≢true (sym (outside vowelByte other refl (omega (arith, s .fits .b))) ∙ s .pre .0))
 
 pub vowel-sound-spec : {M : Type 1} → statement M
 unfolding everything
