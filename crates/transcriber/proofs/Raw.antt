@@ -53,20 +53,6 @@ not-among (neither n k) = rw (ne-eqb _ _ (λ h. n (inl h)), ne-eqb _ _ (λ h. n 
 pub outside : {keys : List ℕ} {b : ℕ} (f : ℕ → Bool) → NoKey b keys → map (λ x. cond (among keys x) false (f x)) (below 256) ≡ map (λ _. false) (below 256) → b < 256 → f b ≡ false
 outside {keys} {b} f k e h = rw (not-among k) at (below-same (λ x. cond (among keys x) false (f x)) (λ _. false) 256 b e h)
 
--- a letter is told by its byte
-told-letter : (b : ℕ) → b < 256 → isLetterClass (classOf b) ≡ true → Told b (small b)
-unfolding everything
-told-letter b h e =
-    record {
-      first = where-same (λ x. isLetterClass (classOf x)) (λ x. initial (small x)) isBreak true b refl h e;
-      hardOnly = refl;
-      softOnly = refl;
-      consonant = refl;
-      sign = refl;
-      hard = refl;
-      softSign = refl;
-    }
-
 -- what is asked of the last letter, 0 for none, but for whether there is one
 abbrev asked : ℕ → List Bool
 asked q = isHardOnly q ∷ isSoftOnly q ∷ isConsonant q ∷ isSign q ∷ isHardOrPaired q ∷ eqb q «ь» ∷ []
@@ -74,6 +60,11 @@ asked q = isHardOnly q ∷ isSoftOnly q ∷ isConsonant q ∷ isSign q ∷ isHar
 -- the answers are the same for the byte and the letter
 told-asked : (p q : ℕ) → initial q ≡ isBreak p → asked q ≡ asked (small p) → Told p q
 told-asked p q f e = record { first = f; hardOnly = cc; softOnly = cc; consonant = cc; sign = cc; hard = cc; softSign = cc }
+
+-- a letter is told by its byte
+told-letter : (b : ℕ) → b < 256 → isLetterClass (classOf b) ≡ true → Told b (small b)
+unfolding everything
+told-letter b h e = told-asked b (small b) (where-same (λ x. isLetterClass (classOf x)) (λ x. initial (small x)) isBreak true b refl h e) refl
 
 -- a break tells that there is none
 told-break : (b : ℕ) → b < 256 → isBreak b ≡ true → Told b 0
@@ -109,15 +100,10 @@ letters-class : (b : ℕ) → b < 256 → (isConsonant (small b) || isSign (smal
 unfolding everything
 letters-class b h = below-same (λ x. isConsonant (small x) || isSign (small x)) (λ x. between 4 9 (classOf x)) 256 b refl h
 
--- ь is no break
-sign-break : (b : ℕ) → b < 256 → eqb (small b) «ь» ≡ true → isBreak b ≡ false
+-- ь is no break and no mark
+sign-letter : (b : ℕ) → b < 256 → eqb (small b) «ь» ≡ true → (isBreak b ≡ false) × (isMark b ≡ false)
 unfolding everything
-sign-break b = not-both (λ x. eqb (small x) «ь») isBreak b refl
-
--- and no mark
-sign-mark : (b : ℕ) → b < 256 → eqb (small b) «ь» ≡ true → isMark b ≡ false
-unfolding everything
-sign-mark b = not-both (λ x. eqb (small x) «ь») isMark b refl
+sign-letter b h e = (not-both (λ x. eqb (small x) «ь») isBreak b refl h e, not-both (λ x. eqb (small x) «ь») isMark b refl h e)
 
 -- at the start of the message no word ends
 start-hard : hardEnd 0 0 ≡ hardEnd (small pause) (small pause)
@@ -185,7 +171,7 @@ module _ (m : List ℕ) (steady : Steady m) where
       x = isHardOrPaired (small b)
 
       by : (t : Bool) → eqb (small b) «ь» ≡ t → (x || (t && isHardOnly (leftAt m (suc i) .q))) ≡ (x || (t && isHardOnly (small (byteBefore m i))))
-      by true d = rw (left-letter m i h (sign-break b (steady .bytes i) d) (sign-mark b (steady .bytes i) d), told-at i (omega arith) .hardOnly)
+      by true d = let l = sign-letter b (steady .bytes i) d in rw (left-letter m i h (l .0) (l .1), told-at i (omega arith) .hardOnly)
       by false d = refl
 
   -- before a mark stands a vowel, and no boundary

@@ -285,14 +285,13 @@ unfolding everything toneNo
 glide-tone = refl
 
 -- the codes of a vowel: their first leaves an obstruent before it as written
-module _ (m : List ℕ) (i : ℕ) (v : Vowel) (f : Sung m i v) where
-  pub sung-tone : (t : Tone) → toneNo (toneAfter (sungCodes v) t) ≡ 0
-  unfolding toneNo
-  sung-tone t = by (v .glide)
-    where
-      by : (g : Bool) → toneNo (toneAfter (cond g (J ∷ v .sound ∷ []) (v .sound ∷ [])) t) ≡ 0
-      by true = glide-tone
-      by false = rw (f .sound, vowel-tone (leftAt m i .hard) (leftAt m i .p) (syllableAt m i) (small (getD m i 0)))
+pub sung-tone : {m : List ℕ} {i : ℕ} {v : Vowel} → Sung m i v → (t : Tone) → 0 ≡ toneNo (toneAfter (sungCodes v) t)
+unfolding toneNo
+sung-tone {m} {i} {v} f t = by (v .glide)
+  where
+    by : (g : Bool) → 0 ≡ toneNo (toneAfter (cond g (J ∷ v .sound ∷ []) (v .sound ∷ [])) t)
+    by true = sym glide-tone
+    by false = rw (f .sound, vowel-tone (leftAt m i .hard) (leftAt m i .p) (syllableAt m i) (small (getD m i 0)))
 
 -- and is the sound right of the letter before
 pub sung-first : (v : Vowel) (s : ℕ) → cond (v .glide) J (v .sound) ≡ soundAfter (sungCodes v) s

@@ -41,7 +41,7 @@ returns c =
     let i = s .args .i in
     let sings = vowel-sings _ _ _ _ (vowel s) in
     letter-steps _ _ _ _ (s .pre .1 .ready) (p .put-sung .last .0) (sungCodes (v .vowel-at .result)) (p .put-sung .result) 0 (f .first-code .result) (w .sound-of .result) (not (eqb (s .args .c) 10)) (spelt s) (codes v)
-    (sym (sung-tone m i (v .vowel-at .result) (v .vowel-at .ensures) (toneAt m (suc i)))) (f .first-code .ensures ∙ sung-first (v .vowel-at .result) (soundAt m (suc i)))
+    (sung-tone (v .vowel-at .ensures) (toneAt m (suc i))) (f .first-code .ensures ∙ sung-first (v .vowel-at .result) (soundAt m (suc i)))
     (rw (s .pre .1 .class) (sym (vowel-softens (getD m i 0) (s .pre .1 .ready .steady .bytes i) sings))) (w .sound-of .ensures)
     (rw (c .over-vowel .ensures) (levels-vowel m (s .pre .1 .ready .steady) i (s .pre .1 .ready .within) sings (s .pre .1 .ready .stands .levels))) (p .put-sung .ensures)
 
