@@ -24,11 +24,6 @@ put-requires c κs =
     let w = c .before .before .before .before .before .before .pre .1 in
     (omega (arith, w .room, rw (c .before .if1 .taken) at (ap length (tail (c .before .before)))), w .place)
 
-returns : tie.Need-returns
-returns c =
-    let t = c .before .before .before .before in
-    rw (tail (t .before), t .if1 .taken) (c .before .before .put .ensures)
-
 pub put-end-spec : {M : Type 1} → statement M
 put-end-spec =
     tie.close
@@ -36,5 +31,5 @@ put-end-spec =
     (λ c κs. search needs) (search needs)
     put-requires
     (search needs)
-    returns
+    (λ c. let t = c .before .before .before .before in rw (tail (t .before), t .if1 .taken) (c .before .before .put .ensures))
     (λ c. rw (tail (c .before), c .if1 .left) (put-none _ _)))

@@ -5,11 +5,6 @@ use Rattle.transcriber.proofs.Namings.{vowel-room, named-vowel}
 use Rattle.transcriber.proofs.naming.put_name.Statement.{statement}
 use Rattle.transcriber.proofs.naming.put_name.Tie as tie
 
-put-requires : tie.Need-put-requires
-put-requires c κs =
-    let a = c .before .before .before .before .before .before .before .pre .1 in
-    (vowel-room (a .ready) (a .vowel), a .ready .place)
-
 returns : tie.Need-returns
 returns c =
     let p = c .before .before .before in
@@ -19,4 +14,10 @@ returns c =
     (rw (p .before .name-of .ensures, p .before .before .before .syllable-by .ensures, k .class-before .ensures) at (p .put .ensures)))
 
 pub put-name-spec : {M : Type 1} → statement M
-put-name-spec = tie.close (tie.spec (λ c κs. search needs) (search needs) (search needs) put-requires (search needs) (search needs) returns)
+put-name-spec =
+    tie.close
+    (tie.spec
+    (λ c κs. search needs) (search needs) (search needs)
+    (λ c κs. let a = c .before .before .before .before .before .before .before .pre .1 in (vowel-room (a .ready) (a .vowel), a .ready .place))
+    (search needs) (search needs)
+    returns)

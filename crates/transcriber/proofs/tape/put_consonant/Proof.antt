@@ -52,10 +52,6 @@ put-requires : tie.Need-put-requires
 put-requires c κs = let s = c .before .before .before .before .before .before .before .before in
     (letter-room _ _ _ _ (s .pre .1 .ready) (c .before .consonant-code .result ∷ []) (spelt s) (code-put (c .before)), s .pre .1 .ready .place)
 
-tone-before-requires : tie.Need-tone-before-requires
-tone-before-requires c κs = let k = c .before .before .before .before in
-    (k .before .before .before .before .before .before .before .pre .0 .sound, code-small k)
-
 returns-2 : tie.Need-returns-2
 returns-2 c = let p = c .before .before .before in
     let k = p .before .before in
@@ -76,6 +72,6 @@ put-consonant-spec =
     consonant-code-requires
     (λ c. omega (arith, code-small (c .before)))
     put-requires
-    tone-before-requires
+    (λ c κs. let k = c .before .before .before .before in (k .before .before .before .before .before .before .before .pre .0 .sound, code-small k))
     (search needs)
     returns-2)

@@ -25,11 +25,6 @@ spelt s = spelt-vowel (getD (s .args .m .now) (s .args .i) 0) (s .pre .1 .ready 
 codes : (c : tie.After-vowel-at) → let s = c .before .before .before .before in codesAt (s .args .m .now) (s .args .i) ≡ sungCodes (c .vowel-at .result)
 codes c = sung-codes _ _ _ _ (vowel (c .before .before .before .before)) _ (c .vowel-at .ensures)
 
-put-sung-requires : tie.Need-put-sung-requires
-put-sung-requires c κs =
-    let s = c .before .before .before .before .before in
-    (letter-room _ _ _ _ (s .pre .1 .ready) _ (spelt s) (codes (c .before)), s .pre .1 .ready .place)
-
 returns : tie.Need-returns
 returns c =
     let w = c .before in
@@ -50,6 +45,6 @@ put-vowel-spec =
     tie.close
     (tie.spec
     (λ c κs. let s = c .before .before .before in (s .pre .0, vowel s))
-    put-sung-requires
+    (λ c κs. let s = c .before .before .before .before .before in (letter-room _ _ _ _ (s .pre .1 .ready) _ (spelt s) (codes (c .before)), s .pre .1 .ready .place))
     (search needs) (search needs) (search needs) (search needs)
     returns)

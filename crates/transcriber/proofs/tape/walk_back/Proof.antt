@@ -38,11 +38,6 @@ loop-again c = let n = c .before .before in
     let h : l .loop .i - 1 < length (s .args .m .now) = omega (arith, s .pre .2 .within, l .loop .inv .1, i .loop-test .taken) in
     (omega (arith, i .loop-test .taken), omega (arith, l .loop .inv .1), walked-more _ (s .pre .2 .steady) _ _ _ (s .pre .2 .place) _ _ _ _ _ h (inside i) (n .step .ensures))
 
-same-length : tie.Need-same-length Inv-loop μ-loop
-same-length c = let l = c .before in
-    let s = l .before .before .before in
-    walked-length _ (s .pre .2 .steady) _ _ _ (s .pre .2 .place) _ _ _ (l .loop .inv .2)
-
 returns : tie.Need-returns Inv-loop μ-loop
 returns c = let l = c .before in
     let e : l .loop .i ≡ l .before .before .before .args .to = omega (arith, c .loop-test .left, l .loop .inv .0) in
@@ -59,5 +54,5 @@ walk-back-spec =
     step-requires
     (λ c. omega arith)
     loop-again
-    same-length
+    (λ c. let l = c .before in let s = l .before .before .before in walked-length _ (s .pre .2 .steady) _ _ _ (s .pre .2 .place) _ _ _ (l .loop .inv .2))
     returns)
