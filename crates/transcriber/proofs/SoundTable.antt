@@ -16,7 +16,7 @@ use Rattle.message.specs.Fused.{toneBefore, consonantCode}
 use Rattle.message.proofs.Bytes.{below-same, pairs-same}
 use Rattle.message.proofs.Computed.{everything}
 use Rattle.transcriber.specs.Sounds.{toneNo, toneBy, tonedCode, letterGroup, soundGroup, groupOf, softIn, softNo, soundTable}
-use Rattle.transcriber.proofs.Raw.{where-same}
+use Rattle.transcriber.proofs.Raw.{where-same, tone-small}
 
 -- every entry is a byte
 pub table-small : (t : List ℕ) (i : ℕ) → t ≡ soundTable → i < 496 → getD t i 0 < 256
@@ -64,10 +64,12 @@ one-more : (t : Bool) (n : ℕ) → cond t (suc n) n ≡ n + cond t 1 0
 one-more true n = omega arith
 one-more false n = omega arith
 
--- what the code reads of a consonant: its own group and the sound's are within the table
+-- what the code reads of a consonant: bytes, of which its own group and the sound's are within the table
 pub record Read (t : List ℕ) (b n s : ℕ) : Type 0 where
   pub own : getD t (96 + b % 32) 0 < 16
   pub group : getD t (192 + s) 0 ≤ 160
+  pub hard : getD t (n + b % 32) 0 < 256
+  pub more : getD t (320 + (getD t (192 + s) 0 + getD t (96 + b % 32) 0)) 0 < 256
   pub code : consonantCode (small b) (leb 64 s) (toneBy n) (s % 64) ≡ getD t (n + b % 32) 0 + getD t (320 + (getD t (192 + s) 0 + getD t (96 + b % 32) 0)) 0
 
 -- that is so
@@ -76,8 +78,12 @@ unfolding consonantCode tonedCode
 code-read t b n s e h k q l =
     let j : b % 32 < 32 = omega arith in
     let c : getD soundTable (n + b % 32) 0 ≡ tonedCode (toneBy n) (224 + b % 32) = rw q at (code-row (toneBy n) (b % 32) j) in
+    let o : getD soundTable (96 + b % 32) 0 < 16 = omega (arith, leb-true (getD soundTable (96 + b % 32) 0) 15 (own-low (b % 32) j)) in
+    let g : getD soundTable (192 + s) 0 ≤ 160 = leb-true _ _ (group-low s l) in
     rw e (record {
-      own = omega (arith, leb-true (getD soundTable (96 + b % 32) 0) 15 (own-low (b % 32) j));
-      group = leb-true _ _ (group-low s l);
+      own = o;
+      group = g;
+      hard = table-small soundTable (n + b % 32) refl (omega (arith, q, tone-small (toneBy n)));
+      more = table-small soundTable _ refl (omega (arith, o, g));
       code = rw (← consonant-letter b h k, one-more, soft-row _ (b % 32) s j l, c);
     })
