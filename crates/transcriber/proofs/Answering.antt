@@ -16,17 +16,17 @@ use Rattle.spec.specs.declared.Answer.the-variants.{Written, Refused}
 use Rattle.laws.proofs.Promises.{promised}
 
 -- a message that the check refuses leaves the output as it is
-pub answered-refused : (c : Checked) (f : Refusal) (a b : Answer) (text out : List ℕ) → c ≡ checked.Refused f → Promise (afterCheck c a) text out out (afterCheck c b)
+pub answered-refused : {c : Checked} {f : Refusal} {text out : List ℕ} (a b : Answer) → c ≡ checked.Refused f → Promise (afterCheck c a) text out out (afterCheck c b)
 unfolding afterCheck outputAfter
-answered-refused c f a b text out e = rw e (promised _ _ _ _ _ refl refl)
+answered-refused a b e = rw e (promised _ _ _ _ _ refl refl)
 
-module _ (c : Checked) (counts : Counts) (e : c ≡ checked.Accepted counts) (n k live : ℕ) (same : k ≡ n) (text out : List ℕ) where
+module _ {c : Checked} {counts : Counts} (e : c ≡ checked.Accepted counts) {n k : ℕ} (same : k ≡ n) {text out : List ℕ} where
   -- so does one whose answer has no room
-  pub answered-short : length out < k → Promise (afterCheck c (within (length out) n live)) text out out (Refused (refusal 11 k))
+  pub answered-short : length out < k → Promise (afterCheck c (within (length out) n 0)) text out out (Refused (refusal 11 k))
   unfolding afterCheck within outputAfter
   answered-short h = rw (e, ← same, lt-leb k (length out) h) (promised _ _ _ _ _ refl refl)
 
   -- and one whose answer has room has it written before the rest of the output
-  pub answered-written : (out′ : List ℕ) → k ≤ length out → out′ ≡ text ++ drop k out → Promise (afterCheck c (within (length out) n live)) text out out′ (Written k live)
+  pub answered-written : {out′ : List ℕ} → k ≤ length out → out′ ≡ text ++ drop k out → Promise (afterCheck c (within (length out) n 0)) text out out′ (Written k 0)
   unfolding afterCheck within outputAfter
-  answered-written out′ h w = rw (e, ← same, le-leb k (length out) h) (promised _ _ _ _ _ refl w)
+  answered-written h w = rw (e, ← same, le-leb k (length out) h) (promised _ _ _ _ _ refl w)

@@ -1,6 +1,6 @@
 -- The naming's walk from the right: each byte settles the names that the definition gives it, and what stands right of it is told by what stood right of the next one.
 -- Assumes nothing.
-use Prim.Native.Nat.{ℕ, suc, _+_, _-_, _<_, _≤_}
+use Prim.Native.Nat.{ℕ, suc, _-_, _<_, _≤_}
 use mathlib.Core.Path.{_≡_, refl, ap, _∙_}
 use mathlib.Core.Bool.{Bool, true, false}
 use mathlib.Core.List.{List, [], _∷_, _++_}
@@ -36,25 +36,11 @@ module _ (m : List ℕ) (steady : Steady m) (i : ℕ) (h : i < length m) where
       by false s true v = rw (s, v) (names-vowel m steady i h v)
       by false s false v = rw (s, v) (names-other m steady i h s v)
 
-  -- there is room for them before the rest's
-  pub name-room : length (namePiece m i) + length (namesAt m (suc i)) ≤ length (names m)
-  name-room = omega (arith, names-from m steady i (omega arith), simp length-append at (ap length name-step))
-
   -- a vowel settles its syllable's
   pub piece-vowel : vowelByte (getD m i 0) ≡ true
       → {l : Levels} → LevelsAt m (suc i) l → namePiece m i ≡ nameOf (syllableBy (classBefore m i) (l .near)) ∷ []
   unfolding namePiece
   piece-vowel v l = rw (vowel-break (getD m i 0) (steady .bytes i) v, v, levels-syllable m steady i h v (l .near))
-
-  -- a break the incomplete one's of the word before it
-  pub piece-break : isBreak (getD m i 0) ≡ true → namePiece m i ≡ incomplete (leftAt m i .p)
-  unfolding namePiece
-  piece-break s = rw s
-
-  -- any other byte none
-  pub piece-other : isBreak (getD m i 0) ≡ false → vowelByte (getD m i 0) ≡ false → namePiece m i ≡ []
-  unfolding namePiece
-  piece-other s v = rw (s, v)
 
 module _ {m out : List ℕ} {i : ℕ} {v : NameState} (ready : NameReady m out i v) where
   -- the highest classes are the vowels'
@@ -84,6 +70,7 @@ module _ {m out : List ℕ} {i : ℕ} {v : NameState} (ready : NameReady m out i
 
   -- another letter puts none, and the vowel before it looks past it
   pub named-letter : 4 ≤ classOf (getD m i 0) → classOf (getD m i 0) < 10 → Named m out out i v v
+  unfolding namePiece
   named-letter low high =
       let b = getD m i 0 in
       let t = by-class b (ready .steady .bytes i) in
@@ -92,11 +79,12 @@ module _ {m out : List ℕ} {i : ℕ} {v : NameState} (ready : NameReady m out i
       let n : vowelByte b ≡ false = t .vowel ∙ rw (lt-leb 10 (classOf b) high) in
       record {
         levels = levels-letter m (ready .steady) i (ready .within) s k n (ready .levels);
-        put = rw (piece-other m (ready .steady) i (ready .within) s n) (put-none out (v .at));
+        put = rw (s, n) (put-none out (v .at));
       }
 
   -- a mark puts none and is seen by the vowel before it
   pub named-mark : classOf (getD m i 0) ≡ 1 → Named m out out i v (record { at = v .at; levels = overMark (v .levels) })
+  unfolding namePiece
   named-mark c =
       let b = getD m i 0 in
       let t = by-class b (ready .steady .bytes i) in
@@ -105,7 +93,7 @@ module _ {m out : List ℕ} {i : ℕ} {v : NameState} (ready : NameReady m out i
       let n : vowelByte b ≡ false = t .vowel ∙ rw c in
       record {
         levels = levels-mark m (ready .steady) i (ready .within) k (ready .levels);
-        put = rw (piece-other m (ready .steady) i (ready .within) s n) (put-none out (v .at));
+        put = rw (s, n) (put-none out (v .at));
       }
 
   -- a byte below the letters that is no mark is a break
@@ -118,17 +106,19 @@ module _ {m out : List ℕ} {i : ℕ} {v : NameState} (ready : NameReady m out i
 
   -- an incomplete syllable's name finds room there
   pub break-room : classOf (getD m i 0) < 4 → (classOf (getD m i 0) ≡ 1 → ⊥) → length (incomplete (leftAt m i .p)) ≤ v .at
-  break-room low n = rw (piece-break m (ready .steady) i (ready .within) (break-byte low n)) at (ready .room)
+  unfolding namePiece
+  break-room low n = rw (break-byte low n) at (ready .room)
 
   -- it puts that name, and before it another word ends
   pub named-break : {out′ : List ℕ} {r : ℕ} {l : Levels} → classOf (getD m i 0) < 4 → (classOf (getD m i 0) ≡ 1 → ⊥)
       → Put (incomplete (leftAt m i .p)) out out′ (v .at) r → l ≡ wordEnd (markBefore m i)
       → Named m out out′ i v (record { at = r; levels = l })
+  unfolding namePiece
   named-break low n p e =
       let s = break-byte low n in
       record {
         levels = rw e (levels-break m (ready .steady) i (ready .within) s);
-        put = rw (piece-break m (ready .steady) i (ready .within) s) p;
+        put = rw s p;
       }
 
 -- the walk stands at place i: the names from there on are in the output
@@ -171,11 +161,12 @@ module _ {m out₀ out : List ℕ} {n i : ℕ} {v : NameState} (at : Naming m ou
   -- a step can be taken
   pub naming-ready : NameReady m out i v
   naming-ready =
+      let h : i < length m = omega (arith, at .within) in
       record {
-        within = omega (arith, at .within);
+        within = h;
         steady = at .steady;
         levels = at .levels;
-        room = omega (arith, name-room m (at .steady) i (omega (arith, at .within)), at .put .place, at .total);
+        room = omega (arith, names-from m (at .steady) i (omega arith), simp length-append at (ap length (name-step m (at .steady) i h)), at .put .place, at .total);
         place = omega (arith, naming-length at, at .put .place, at .room);
       }
 

@@ -4,10 +4,11 @@ use Prim.Native.Nat.{ℕ, zero, suc, _-_, _<_, _≤_}
 use mathlib.Core.Path.{_≡_, refl, sym, ap, _∙_}
 use mathlib.Core.Bool.{Bool, true, false, cond, _&&_, _||_, not, or-assoc, false≢true}
 use mathlib.Core.List.{List, [], _∷_, _++_, map}
+use mathlib.Core.Logic.{_⊎_, inl, inr}
 use native.Mathlib.Omega.{arith}
 use lib.Dec.{eqb, leb}
 use lib.ListN.{length, getD, drop}
-use borrow.Author.Tests.{eqb-true, leb-true, le-leb}
+use borrow.Author.Tests.{eqb-true, ne-eqb, leb-true, le-leb}
 use Rattle.spec.specs.Alphabet.{gap, pause, mark, «ь», «е», «ё», «и», «ю», «я»}
 use Rattle.spec.specs.Tables.{among, Entry, _gives_, entry}
 use Rattle.spec.specs.Letters.{Letter, between, small, plainVowels, softeningVowels, isBreak, isGap, isHardOnly, isSoftOnly, isConsonant, isSign, isVowel, isMark, firstByte, beginsWithMark}
@@ -31,31 +32,26 @@ use Rattle.message.proofs.Before.{vowel-before}
 use Rattle.message.proofs.Left.{left-letter, left-mark, left-break}
 use Rattle.message.proofs.Computed.{everything}
 use Rattle.transcriber.specs.Levels.{levelBy}
-use Rattle.transcriber.specs.Sounds.{byteBefore, classBefore, isHardOrPaired, Told, coverClass, syllableBy, glideBy, hardBefore, tonedCode, toneNo}
+use Rattle.transcriber.specs.Sounds.{byteBefore, ByteBefore, classBefore, isHardOrPaired, Told, coverClass, syllableBy, glideBy, hardBefore, tonedCode, toneNo}
 
 -- two functions that agree on the bytes that pass a test agree at each of them
 pub where-same : {A : Type 0} (t : ℕ → Bool) (f g : ℕ → A) (d : A) (b : ℕ) → map (λ x. cond (t x) (f x) d) (below 256) ≡ map (λ x. cond (t x) (g x) d) (below 256)
     → b < 256 → t b ≡ true → f b ≡ g b
 where-same t f g d b e h k = rw k at (below-same (λ x. cond (t x) (f x) d) (λ x. cond (t x) (g x) d) 256 b e h)
 
--- a test that only bytes of a list pass
-pub outside : (keys : List ℕ) (f : ℕ → Bool) (b : ℕ) → b < 256 → map (λ x. cond (among keys x) false (f x)) (below 256) ≡ map (λ _. false) (below 256)
-    → among keys b ≡ false → f b ≡ false
-outside keys f b h e k = rw k at (below-same (λ x. cond (among keys x) false (f x)) (λ _. false) 256 b e h)
+-- a byte that is none of the keys of arms with two keys each
+pub data NoKey (b : ℕ) : List ℕ → Type 0 where
+  none : NoKey b []
+  neither : {x y : ℕ} {keys : List ℕ} → (b ≡ x ⊎ b ≡ y → ⊥) → NoKey b keys → NoKey b (x ∷ y ∷ keys)
 
--- a letter is told by its byte
-told-letter : (b : ℕ) → b < 256 → isLetterClass (classOf b) ≡ true → Told b (small b)
-unfolding everything
-told-letter b h e =
-    record {
-      first = where-same (λ x. isLetterClass (classOf x)) (λ x. initial (small x)) isBreak true b refl h e;
-      hardOnly = refl;
-      softOnly = refl;
-      consonant = refl;
-      sign = refl;
-      hard = refl;
-      softSign = refl;
-    }
+not-among : {b : ℕ} {keys : List ℕ} → NoKey b keys → among keys b ≡ false
+unfolding among
+not-among none = refl
+not-among (neither n k) = rw (ne-eqb _ _ (λ h. n (inl h)), ne-eqb _ _ (λ h. n (inr h))) (not-among k)
+
+-- passes no test that only keys pass
+pub outside : {keys : List ℕ} {b : ℕ} (f : ℕ → Bool) → NoKey b keys → map (λ x. cond (among keys x) false (f x)) (below 256) ≡ map (λ _. false) (below 256) → b < 256 → f b ≡ false
+outside {keys} {b} f k e h = rw (not-among k) at (below-same (λ x. cond (among keys x) false (f x)) (λ _. false) 256 b e h)
 
 -- what is asked of the last letter, 0 for none, but for whether there is one
 abbrev asked : ℕ → List Bool
@@ -64,6 +60,11 @@ asked q = isHardOnly q ∷ isSoftOnly q ∷ isConsonant q ∷ isSign q ∷ isHar
 -- the answers are the same for the byte and the letter
 told-asked : (p q : ℕ) → initial q ≡ isBreak p → asked q ≡ asked (small p) → Told p q
 told-asked p q f e = record { first = f; hardOnly = cc; softOnly = cc; consonant = cc; sign = cc; hard = cc; softSign = cc }
+
+-- a letter is told by its byte
+told-letter : (b : ℕ) → b < 256 → isLetterClass (classOf b) ≡ true → Told b (small b)
+unfolding everything
+told-letter b h e = told-asked b (small b) (where-same (λ x. isLetterClass (classOf x)) (λ x. initial (small x)) isBreak true b refl h e) refl
 
 -- a break tells that there is none
 told-break : (b : ℕ) → b < 256 → isBreak b ≡ true → Told b 0
@@ -88,26 +89,21 @@ gap-break true h y = refl
 gap-break false true y = refl
 gap-break false false y = refl
 
-pub boundary-initial : (m : List ℕ) (i p q : ℕ) → p ≡ byteBefore m i → Told p q → (initial q && hardBefore m i) ≡ hardBefore m i
+pub boundary-initial : {m : List ℕ} {i p q : ℕ} → ByteBefore m i p → Told p q → (initial q && hardBefore m i) ≡ hardBefore m i
 unfolding hardBefore isBreak isGap
-boundary-initial m i p q e t =
+boundary-initial {m} {i} e t =
     let b = byteBefore m i in
-    rw (t .first, e) (gap-break (eqb b gap) (eqb b pause) (hardEnd (small (byteBefore m (i - 2))) (small (byteBefore m (i - 1)))))
+    rw (t .first, e .byte) (gap-break (eqb b gap) (eqb b pause) (hardEnd (small (byteBefore m (i - 2))) (small (byteBefore m (i - 1)))))
 
 -- consonants and signs are the classes from 4 to 9
 letters-class : (b : ℕ) → b < 256 → (isConsonant (small b) || isSign (small b)) ≡ between 4 9 (classOf b)
 unfolding everything
 letters-class b h = below-same (λ x. isConsonant (small x) || isSign (small x)) (λ x. between 4 9 (classOf x)) 256 b refl h
 
--- ь is no break
-sign-break : (b : ℕ) → b < 256 → eqb (small b) «ь» ≡ true → isBreak b ≡ false
+-- ь is no break and no mark
+sign-letter : (b : ℕ) → b < 256 → eqb (small b) «ь» ≡ true → (isBreak b ≡ false) × (isMark b ≡ false)
 unfolding everything
-sign-break b = not-both (λ x. eqb (small x) «ь») isBreak b refl
-
--- and no mark
-sign-mark : (b : ℕ) → b < 256 → eqb (small b) «ь» ≡ true → isMark b ≡ false
-unfolding everything
-sign-mark b = not-both (λ x. eqb (small x) «ь») isMark b refl
+sign-letter b h e = (not-both (λ x. eqb (small x) «ь») isBreak b refl h e, not-both (λ x. eqb (small x) «ь») isMark b refl h e)
 
 -- at the start of the message no word ends
 start-hard : hardEnd 0 0 ≡ hardEnd (small pause) (small pause)
@@ -175,7 +171,7 @@ module _ (m : List ℕ) (steady : Steady m) where
       x = isHardOrPaired (small b)
 
       by : (t : Bool) → eqb (small b) «ь» ≡ t → (x || (t && isHardOnly (leftAt m (suc i) .q))) ≡ (x || (t && isHardOnly (small (byteBefore m i))))
-      by true d = rw (left-letter m i h (sign-break b (steady .bytes i) d) (sign-mark b (steady .bytes i) d), told-at i (omega arith) .hardOnly)
+      by true d = let l = sign-letter b (steady .bytes i) d in rw (left-letter m i h (l .0) (l .1), told-at i (omega arith) .hardOnly)
       by false d = refl
 
   -- before a mark stands a vowel, and no boundary
@@ -245,7 +241,7 @@ low-cond true x y n = refl
 low-cond false x y n = refl
 
 -- a choice of the same
-cond-same : (t k : Bool) → cond t k k ≡ k
+pub cond-same : {A : Type 0} (t : Bool) (k : A) → cond t k k ≡ k
 cond-same true k = refl
 cond-same false k = refl
 
@@ -259,16 +255,12 @@ vowel-low hard p s b = by (s .level) refl
     by First e = rw e (leb-true _ 13 (entry-low 13 _ b (simp (low-cond, cond-same))))
     by Second e = rw e (leb-true _ 13 (entry-low 13 _ b (simp (low-cond, cond-same))))
 
--- none of which voices or devoices
-low-tone : (c : ℕ) → c < 14 → toneBefore c ≡ asWritten
+-- none of which voices or devoices, so that a vowel leaves an obstruent before it as written
+pub vowel-tone : (hard : Bool) (p : ℕ) (s : Syllable) (b : ℕ) → toneBefore (vowelSound hard p s b) ≡ asWritten
 unfolding everything
-low-tone c h = below-same toneBefore (λ _. asWritten) 14 c refl h
+vowel-tone hard p s b = below-same toneBefore (λ _. asWritten) 14 (vowelSound hard p s b) refl (omega (arith, vowel-low hard p s b))
 
--- every code is below 64, so that it is a place of the table: a vowel's
-vowel-small : (hard : Bool) (p : ℕ) (s : Syllable) (b : ℕ) → vowelSound hard p s b < 64
-vowel-small hard p s b = omega (arith, vowel-low hard p s b)
-
--- a consonant's hard one, which has another after it
+-- every code is below 64, so that it is a place of the table: a consonant's hard one, which has another after it
 hard-low : (tone : Tone) (b : ℕ) → tonedCode tone b ≤ 56
 unfolding tonedCode toned writtenCode voicedCode voicelessCode
 hard-low tone b = leb-true _ _ (rw low-cond (rw (by tone, entry-low 56 _ b refl, cond-same)))
@@ -309,17 +301,13 @@ fused-small hard facts next p (l ∷ w) = by (elides p (l .byte) w) (isSign (l .
     by true x y g r = r
     by false true y g r = r
     by false false true true r = omega arith
-    by false false true false r = vowel-small hard p s (l .byte)
+    by false false true false r = omega (arith, vowel-low hard p s (l .byte))
     by false false false g r = consonant-small (l .byte) (softens (firstByte w)) (toneOf next t) (firstCode t)
 
 -- that after a place
 pub sound-small : (m : List ℕ) (i : ℕ) → soundAt m i < 64
 unfolding soundAt tailWord
 sound-small m i = fused-small _ _ _ _ _
-
--- a vowel leaves an obstruent before it as written
-pub vowel-tone : (hard : Bool) (p : ℕ) (s : Syllable) (b : ℕ) → toneBefore (vowelSound hard p s b) ≡ asWritten
-vowel-tone hard p s b = low-tone (vowelSound hard p s b) (omega (arith, vowel-low hard p s b))
 
 -- a tone's number is at most 64
 pub tone-small : (t : Tone) → toneNo t ≤ 64

@@ -10,7 +10,6 @@ use lib.ListN.{length, getD}
 use borrow.Author.Tests.{le-leb, lt-leb}
 use Rattle.spec.specs.Letters.{between, small, firstByte, isBreak, isGap, isMark}
 use Rattle.spec.specs.Codes.{J, markOf, isVoicing, isDevoicing}
-use Rattle.spec.specs.Elision.{elides}
 use Rattle.spec.specs.Syllables.{syllableOf}
 use Rattle.spec.specs.Vowels.{softens}
 use Rattle.spec.specs.Voicing.{Tone, voiced, voiceless, asWritten}
@@ -34,7 +33,7 @@ use Rattle.transcriber.specs.declared.Right.{Right}
 use Rattle.transcriber.specs.declared.Vowel.{Vowel}
 use Rattle.transcriber.proofs.Putting.{put-none}
 use Rattle.transcriber.proofs.Levelling.{levels-syllable, levels-letter, levels-mark, levels-break}
-use Rattle.transcriber.proofs.Raw.{where-same, told-at, hard-raw, glide-raw, vowel-tone, sound-small}
+use Rattle.transcriber.proofs.Raw.{where-same, cond-same, told-at, hard-raw, glide-raw, vowel-tone, sound-small}
 
 -- a tone is told by its number
 pub tone-by : (t : Tone) → toneBy (toneNo t) ≡ t
@@ -42,10 +41,6 @@ unfolding toneBy toneNo
 tone-by voiced = refl
 tone-by voiceless = refl
 tone-by asWritten = refl
-
--- a tone's number is its own
-pub tone-no : (t : Tone) → toneNo (toneBy (toneNo t)) ≡ toneNo t
-tone-no t = ap toneNo (tone-by t)
 
 -- 64 more can be told from less
 sound-split : (n : ℕ) (t : Bool) → n < 64 → (leb 64 (n + cond t 64 0) ≡ t) × ((n + cond t 64 0) % 64 ≡ n) × (n + cond t 64 0 < 128)
@@ -148,11 +143,7 @@ module _ (m : List ℕ) (steady : Steady m) (i : ℕ) (h : i < length m) where
   -- nor does a sign
   pub codes-sign : {v : Bool} → Spelt (getD m i 0) true v → codesAt m i ≡ []
   unfolding codesAt letterCodes letterOf signByte
-  codes-sign p = rw (p .sounds) (by (elides (leftAt m i .p) (small (getD m i 0)) (wordAt m (suc i))))
-    where
-      by : (t : Bool) → cond {A = List ℕ} t [] [] ≡ []
-      by true = refl
-      by false = refl
+  codes-sign p = rw (p .sounds, cond-same)
 
   -- a consonant that is heard puts its code
   pub codes-consonant : Spelt (getD m i 0) false false → elidedAt m i ≡ false
@@ -294,14 +285,13 @@ unfolding everything toneNo
 glide-tone = refl
 
 -- the codes of a vowel: their first leaves an obstruent before it as written
-module _ (m : List ℕ) (i : ℕ) (v : Vowel) (f : Sung m i v) where
-  pub sung-tone : (t : Tone) → toneNo (toneAfter (sungCodes v) t) ≡ 0
-  unfolding toneNo
-  sung-tone t = by (v .glide)
-    where
-      by : (g : Bool) → toneNo (toneAfter (cond g (J ∷ v .sound ∷ []) (v .sound ∷ [])) t) ≡ 0
-      by true = glide-tone
-      by false = rw (f .sound, vowel-tone (leftAt m i .hard) (leftAt m i .p) (syllableAt m i) (small (getD m i 0)))
+pub sung-tone : {m : List ℕ} {i : ℕ} {v : Vowel} → Sung m i v → (t : Tone) → 0 ≡ toneNo (toneAfter (sungCodes v) t)
+unfolding toneNo
+sung-tone {m} {i} {v} f t = by (v .glide)
+  where
+    by : (g : Bool) → 0 ≡ toneNo (toneAfter (cond g (J ∷ v .sound ∷ []) (v .sound ∷ [])) t)
+    by true = sym glide-tone
+    by false = rw (f .sound, vowel-tone (leftAt m i .hard) (leftAt m i .p) (syllableAt m i) (small (getD m i 0)))
 
 -- and is the sound right of the letter before
 pub sung-first : (v : Vowel) (s : ℕ) → cond (v .glide) J (v .sound) ≡ soundAfter (sungCodes v) s

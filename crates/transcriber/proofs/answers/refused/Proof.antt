@@ -5,19 +5,6 @@ use Rattle.spec.specs.Answers.{afterCheck}
 use Rattle.transcriber.proofs.answers.refused.Statement.{statement}
 use Rattle.transcriber.proofs.answers.refused.Tie as tie
 
-enum-told : tie.Need-enum-told
-enum-told c = search needs
-
-enum-known-c : tie.Need-enum-known-c
-enum-known-c c = search needs
-
-returns : tie.Need-returns
-unfolding afterCheck
-returns c = rw (c .enum-told .given .1)
-
-returns-2 : tie.Need-returns-2
-unfolding afterCheck
-returns-2 c = rw (c .before .c .given .1)
-
 pub refused-spec : {M : Type 1} → statement M
-refused-spec = tie.close (tie.spec enum-told enum-known-c returns returns-2)
+unfolding afterCheck
+refused-spec = tie.close (tie.spec (search needs) (search needs) (λ c. rw (c .enum-told .given .1)) (λ c. rw (c .before .c .given .1)))

@@ -15,18 +15,6 @@ before-at : (m : List ℕ) (i : ℕ) → (i ≡ 0 → ⊥) → getD m (i - 1) 0 
 unfolding byteBefore
 before-at m i h = let e : suc (i - 1) ≡ i = omega arith in ap (byteBefore m) e
 
-returns : tie.Need-returns
-unfolding byteBefore
-returns c = rw (c .if1 .taken)
-
-sub-result : tie.Need-sub-result
-sub-result c = search needs
-
-shared-slice-read-result : tie.Need-shared-slice-read-result
-shared-slice-read-result c = search needs
-
-returns-2 : tie.Need-returns-2
-returns-2 c = before-at _ _ (c .before .if1 .left)
-
 pub byte-before-spec : {M : Type 1} → statement M
-byte-before-spec = tie.close (tie.spec returns sub-result shared-slice-read-result returns-2)
+unfolding byteBefore
+byte-before-spec = tie.close (tie.spec (λ c. rw (c .if1 .taken)) (search needs) (search needs) (λ c. before-at _ _ (c .before .if1 .left)))

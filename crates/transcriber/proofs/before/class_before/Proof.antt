@@ -4,14 +4,5 @@ use borrow.Author.Needs.{needs}
 use Rattle.transcriber.proofs.before.class_before.Statement.{statement}
 use Rattle.transcriber.proofs.before.class_before.Tie as tie
 
-byte-before-requires : tie.Need-byte-before-requires
-byte-before-requires c κs = search needs
-
-class-of-requires : tie.Need-class-of-requires
-class-of-requires c κs = search needs
-
-returns : tie.Need-returns
-returns c = rw (← c .before .byte-before .ensures) (c .class-of .ensures)
-
 pub class-before-spec : {M : Type 1} → statement M
-class-before-spec = tie.close (tie.spec byte-before-requires class-of-requires returns)
+class-before-spec = tie.close (tie.spec (search needs) (λ c κs. search needs) (λ c. rw (← c .before .byte-before .ensures) (c .class-of .ensures)))

@@ -1,8 +1,8 @@
 -- Each branch settles tests of the definition; a byte before that is no pause is a byte of the message, so there are as many bytes before the place as the code goes back.
 -- Assumes nothing.
 use Prim.Native.Nat.{ℕ, zero, suc, _-_, _<_}
-use mathlib.Core.Path.{_≡_, refl, ap}
-use mathlib.Core.Bool.{Bool, true, false, _||_, not, false≢true}
+use mathlib.Core.Path.{_≡_, refl}
+use mathlib.Core.Bool.{Bool, cond, _||_, false≢true}
 use mathlib.Core.List.{List}
 use native.Mathlib.Omega.{arith}
 use lib.Dec.{eqb}
@@ -11,9 +11,9 @@ use borrow.Author.Tests.{ne-eqb}
 use Rattle.spec.specs.Alphabet.{pause}
 use Rattle.spec.specs.Letters.{small, isGap, isHardOnly}
 use Rattle.spec.specs.Vowels.{hardEnd}
+use Rattle.message.proofs.Bytes.{below-same}
 use Rattle.message.proofs.Computed.{everything}
 use Rattle.transcriber.specs.Sounds.{byteBefore, hardBefore, isHardOrPaired}
-use Rattle.transcriber.proofs.Raw.{where-same}
 use Rattle.transcriber.proofs.before.hard_before.Statement.{statement}
 use Rattle.transcriber.proofs.before.hard_before.Tie as tie
 
@@ -27,70 +27,34 @@ past m (suc i) p e n = omega arith
 abbrev isSoftSign : ℕ → Bool
 isSoftSign b = eqb b 0xFC || eqb b 0xDC
 
--- is no pause
-soft-pause : (b : ℕ) → isSoftSign b ≡ true → b ≡ pause → ⊥
-soft-pause b e h = false≢true (rw h at e)
-
--- a word that ends in it ends hard if a hard letter stands before it
-soft-end : (q b : ℕ) → b < 256 → isSoftSign b ≡ true → hardEnd q (small b) ≡ isHardOnly q
+-- a word that ends in it ends hard if a hard letter stands before it, another if its last letter is hard or paired
+end-by : (q b : ℕ) → b < 256 → hardEnd q (small b) ≡ cond (isSoftSign b) (isHardOnly q) (isHardOrPaired (small b))
 unfolding everything
-soft-end q b = where-same isSoftSign (λ x. hardEnd q (small x)) (λ _. isHardOnly q) true b refl
+end-by q b = below-same (λ x. hardEnd q (small x)) (λ x. cond (isSoftSign x) (isHardOnly q) (isHardOrPaired (small x))) 256 b refl
 
--- another word if its last letter is hard or paired
-other-end : (q b : ℕ) → b < 256 → isSoftSign b ≡ false → hardEnd q (small b) ≡ isHardOrPaired (small b)
-unfolding everything
-other-end q b h e = where-same (λ x. not (isSoftSign x)) (λ x. hardEnd q (small x)) (λ x. isHardOrPaired (small x)) true b refl h (ap not e)
-
-returns : tie.Need-returns
+-- so the byte before the gap settles it
+ends : (c : tie.After-byte-before)
+    → let s = c .before .before .before in
+    hardBefore (s .args .m .now) (s .args .i)
+    ≡ cond (isSoftSign (c .byte-before .result)) (isHardOnly (small (byteBefore (s .args .m .now) (s .args .i - 2)))) (isHardOrPaired (small (c .byte-before .result)))
 unfolding hardBefore isGap
-returns c = let s = c .before .before in rw (← s .pre .byte, ne-eqb (s .args .p) 32 (c .if1 .taken))
-
-sub-byte-before : tie.Need-sub-byte-before
-sub-byte-before c = let s = c .before .before in past (s .args .m .now) (s .args .i) (s .args .p) (s .pre .byte) (λ e. omega arith)
-
-byte-before-requires : tie.Need-byte-before-requires
-byte-before-requires c κs = search needs
+ends c = let s = c .before .before .before in rw (← s .pre .byte, c .before .if1 .left, ← c .byte-before .ensures) (end-by _ (c .byte-before .result) (omega (arith, c .byte-before .ok)))
 
 sub-byte-before-2 : tie.Need-sub-byte-before-2
 sub-byte-before-2 c =
     let b = c .before in
-    omega (arith, past (b .before .before .before .args .m .now) _ _ (b .byte-before .ensures) (soft-pause (b .byte-before .result) (c .if2 .taken)))
-
-byte-before-requires-2 : tie.Need-byte-before-requires-2
-byte-before-requires-2 c κs = search needs
-
-is-hard-only-requires : tie.Need-is-hard-only-requires
-is-hard-only-requires c κs = search needs
-
-returns-2 : tie.Need-returns-2
-unfolding hardBefore isGap
-returns-2 c =
-    let b = c .before .before .before in
-    let s = b .before .before .before in
-    rw (← s .pre .byte, b .before .if1 .left, ← b .byte-before .ensures, soft-end _ (b .byte-before .result) (omega (arith, b .byte-before .ok)) (c .before .before .if2 .taken), ← c .before .byte-before2 .ensures)
-    (c .is-hard-only .ensures)
-
-is-hard-or-paired-requires : tie.Need-is-hard-or-paired-requires
-is-hard-or-paired-requires c κs = search needs
-
-returns-3 : tie.Need-returns-3
-unfolding hardBefore isGap
-returns-3 c =
-    let b = c .before .before in
-    let s = b .before .before .before in
-    rw (← s .pre .byte, b .before .if1 .left, ← b .byte-before .ensures, other-end (small (byteBefore (s .args .m .now) (s .args .i - 2))) (b .byte-before .result) (omega (arith, b .byte-before .ok)) (c .before .if2 .left))
-    (c .is-hard-or-paired .ensures)
+    omega (arith, past (b .before .before .before .args .m .now) _ _ (b .byte-before .ensures) (λ h. false≢true (rw h at (c .if2 .taken))))
 
 pub hard-before-spec : {M : Type 1} → statement M
+unfolding hardBefore isGap
 hard-before-spec =
     tie.close
     (tie.spec
-    returns
-    sub-byte-before
-    byte-before-requires
+    (λ c. let s = c .before .before in rw (← s .pre .byte, ne-eqb (s .args .p) 32 (c .if1 .taken)))
+    (λ c. let s = c .before .before in past (s .args .m .now) (s .args .i) (s .args .p) (s .pre .byte) (λ e. omega arith))
+    (search needs)
     sub-byte-before-2
-    byte-before-requires-2
-    is-hard-only-requires
-    returns-2
-    is-hard-or-paired-requires
-    returns-3)
+    (search needs) (search needs)
+    (λ c. rw (ends (c .before .before .before), c .before .before .if2 .taken, ← c .before .byte-before2 .ensures) (c .is-hard-only .ensures))
+    (search needs)
+    (λ c. rw (ends (c .before .before), c .before .if2 .left) (c .is-hard-or-paired .ensures)))

@@ -26,53 +26,6 @@ alike c lo hi v l h e =
     let s = c .small-letter .ensures in
     sym (where-same (λ x. between lo hi (small x)) (λ x. isHardOrPaired (small x)) (λ _. v) v p e (omega (arith, c .before .fits .p)) (between-true lo hi (small p) (omega (arith, s)) (omega (arith, s))))
 
-small-letter-requires : tie.Need-small-letter-requires
-small-letter-requires c κs = search needs
-
-returns : tie.Need-returns
-unfolding everything
-returns c = rw (← c .before .small-letter .ensures, c .match .keys1)
-
-returns-2 : tie.Need-returns-2
-unfolding everything
-returns-2 c = alike (c .before .before .before .before) 225 228 true (omega arith) (omega arith) refl
-
-returns-3 : tie.Need-returns-3
-unfolding everything
-returns-3 c = alike (c .before .before .before .before .before .before) 230 231 true (omega arith) (omega arith) refl
-
-returns-4 : tie.Need-returns-4
-unfolding everything
-returns-4 c = alike (c .before .before .before .before .before .before .before) 234 237 true (omega arith) (omega arith) refl
-
-returns-5 : tie.Need-returns-5
-unfolding everything
-returns-5 c = alike (c .before .before .before .before) 239 242 true (omega arith) (omega arith) refl
-
-returns-6 : tie.Need-returns-6
-unfolding everything
-returns-6 c = alike (c .before .before .before .before .before .before) 244 246 true (omega arith) (omega arith) refl
-
-returns-7 : tie.Need-returns-7
-unfolding everything
-returns-7 c = alike (c .before .before .before) 0 224 false (omega arith) (omega arith) refl
-
-returns-8 : tie.Need-returns-8
-unfolding everything
-returns-8 c = alike (c .before .before .before .before .before) 229 229 false (omega arith) (omega arith) refl
-
-returns-9 : tie.Need-returns-9
-unfolding everything
-returns-9 c = alike (c .before .before .before .before .before .before .before) 232 233 false (omega arith) (omega arith) refl
-
-returns-10 : tie.Need-returns-10
-unfolding everything
-returns-10 c = alike (c .before .before .before) 238 238 false (omega arith) (omega arith) refl
-
-returns-11 : tie.Need-returns-11
-unfolding everything
-returns-11 c = alike (c .before .before .before .before .before) 243 243 false (omega arith) (omega arith) refl
-
 returns-12 : tie.Need-returns-12
 unfolding everything
 returns-12 c =
@@ -83,19 +36,20 @@ returns-12 c =
     (rw (le-leb 247 (small p) (omega (arith, e)), ne-eqb (small p) 248 (λ h. c .before .before .before .before .before .match .rest .1 (e ∙ h)))))
 
 pub is-hard-or-paired-spec : {M : Type 1} → statement M
+unfolding everything
 is-hard-or-paired-spec =
     tie.close
     (tie.spec
-    small-letter-requires
-    returns
-    returns-2
-    returns-3
-    returns-4
-    returns-5
-    returns-6
-    returns-7
-    returns-8
-    returns-9
-    returns-10
-    returns-11
+    (search needs)
+    (λ c. rw (← c .before .small-letter .ensures, c .match .keys1))
+    (λ c. alike (c .before .before .before .before) 225 228 true (omega arith) (omega arith) refl)
+    (λ c. alike (c .before .before .before .before .before .before) 230 231 true (omega arith) (omega arith) refl)
+    (λ c. alike (c .before .before .before .before .before .before .before) 234 237 true (omega arith) (omega arith) refl)
+    (λ c. alike (c .before .before .before .before) 239 242 true (omega arith) (omega arith) refl)
+    (λ c. alike (c .before .before .before .before .before .before) 244 246 true (omega arith) (omega arith) refl)
+    (λ c. alike (c .before .before .before) 0 224 false (omega arith) (omega arith) refl)
+    (λ c. alike (c .before .before .before .before .before) 229 229 false (omega arith) (omega arith) refl)
+    (λ c. alike (c .before .before .before .before .before .before .before) 232 233 false (omega arith) (omega arith) refl)
+    (λ c. alike (c .before .before .before) 238 238 false (omega arith) (omega arith) refl)
+    (λ c. alike (c .before .before .before .before .before) 243 243 false (omega arith) (omega arith) refl)
     returns-12)

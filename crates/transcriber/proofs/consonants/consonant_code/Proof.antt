@@ -1,13 +1,12 @@
 -- The table has the hard code of the letter under the tone, which its last five bits tell, the groups of the letter and of the sound after it, and what the one makes of the other.
 -- Assumes nothing.
-use Prim.Native.Nat.{_+_, _%_, _<_, _≤_}
+use Prim.Native.Nat.{_≤_}
 use mathlib.Core.Path.{sym}
 use native.Mathlib.Omega.{arith}
-use lib.ListN.{getD}
 use borrow.Author.Needs.{needs}
 use Rattle.transcriber.specs.Sounds.{toneBy}
 use Rattle.transcriber.proofs.Raw.{tone-small}
-use Rattle.transcriber.proofs.SoundTable.{Read, table-small, code-read}
+use Rattle.transcriber.proofs.SoundTable.{Read, code-read}
 use Rattle.transcriber.proofs.consonants.consonant_code.Statement.{statement}
 use Rattle.transcriber.proofs.consonants.consonant_code.Tie as tie
 
@@ -19,80 +18,21 @@ low s = omega (arith, s .pre .1 .tone, tone-small (toneBy (s .args .tone)))
 read : (s : tie.Start) → Read (s .args .s .now) (s .args .b) (s .args .tone) (s .args .sound)
 read s = let a = s .args in code-read (a .s .now) (a .b) (a .tone) (a .sound) (s .pre .0) (omega (arith, s .fits .b)) (s .pre .1 .letter) (s .pre .1 .tone) (s .pre .1 .sound)
 
--- the last entry read is a byte
-last : (c : tie.After-group)
-    → let a = c .before .before .before .args in
-    getD (a .s .now) (320 + (getD (a .s .now) (192 + a .sound) 0 + getD (a .s .now) (96 + a .b % 32) 0)) 0 < 256
-last c = let s = c .before .before .before in let r = read s in table-small (s .args .s .now) _ (s .pre .0) (omega (arith, r .own, r .group))
-
-cast-letter : tie.Need-cast-letter
-cast-letter c = search needs
-
-add-code : tie.Need-add-code
-add-code c = omega (arith, low c)
-
-element-copy-out-code : tie.Need-element-copy-out-code
-element-copy-out-code c = omega (arith, low c)
-
-cast-code : tie.Need-cast-code
-cast-code c = let s = c .before in let a = s .args in omega (arith, table-small (a .s .now) (a .tone + a .b % 32) (s .pre .0) (omega (arith, low s)))
-
-add-own : tie.Need-add-own
-add-own c = search needs
-
-element-copy-out-own : tie.Need-element-copy-out-own
-element-copy-out-own c = search needs
-
-cast-own : tie.Need-cast-own
-cast-own c = omega (arith, read (c .before .before) .own)
-
-add-group : tie.Need-add-group
-add-group c = search needs
-
-element-copy-out-group : tie.Need-element-copy-out-group
-element-copy-out-group c = search needs
-
-cast-group : tie.Need-cast-group
-cast-group c = omega (arith, read (c .before .before .before) .group)
-
-add-result : tie.Need-add-result
-add-result c = let r = read (c .before .before .before) in omega (arith, r .own, r .group)
-
-add-result-2 : tie.Need-add-result-2
-add-result-2 c = let r = read (c .before .before .before) in omega (arith, r .own, r .group)
-
-element-copy-out-result : tie.Need-element-copy-out-result
-element-copy-out-result c = let r = read (c .before .before .before) in omega (arith, r .own, r .group)
-
-cast-result : tie.Need-cast-result
-cast-result c = omega (arith, last (c .before))
-
-add-result-3 : tie.Need-add-result-3
-add-result-3 c =
-    let s = c .before .before .before .before in
-    let a = s .args in
-    omega (arith, last (c .before), table-small (a .s .now) (a .tone + a .b % 32) (s .pre .0) (omega (arith, low s)))
-
-returns : tie.Need-returns
-returns c = sym (read (c .before .before .before .before) .code)
-
 pub consonant-code-spec : {M : Type 1} → statement M
 consonant-code-spec =
     tie.close
     (tie.spec
-    cast-letter
-    add-code
-    element-copy-out-code
-    cast-code
-    add-own
-    element-copy-out-own
-    cast-own
-    add-group
-    element-copy-out-group
-    cast-group
-    add-result
-    add-result-2
-    element-copy-out-result
-    cast-result
-    add-result-3
-    returns)
+    (search needs)
+    (λ c. omega (arith, low c))
+    (λ c. omega (arith, low c))
+    (λ c. omega (arith, read (c .before) .hard))
+    (search needs) (search needs)
+    (λ c. omega (arith, read (c .before .before) .own))
+    (search needs) (search needs)
+    (λ c. omega (arith, read (c .before .before .before) .group))
+    (λ c. let r = read (c .before .before .before) in omega (arith, r .own, r .group))
+    (λ c. let r = read (c .before .before .before) in omega (arith, r .own, r .group))
+    (λ c. let r = read (c .before .before .before) in omega (arith, r .own, r .group))
+    (λ c. omega (arith, read (c .before .before .before .before) .more))
+    (λ c. let r = read (c .before .before .before .before) in omega (arith, r .hard, r .more))
+    (λ c. sym (read (c .before .before .before .before) .code)))

@@ -5,14 +5,5 @@ use borrow.Author.Needs.{needs}
 use Rattle.transcriber.proofs.consonants.sound_of.Statement.{statement}
 use Rattle.transcriber.proofs.consonants.sound_of.Tie as tie
 
-add-result : tie.Need-add-result
-add-result c = search needs
-
-returns : tie.Need-returns
-returns c = rw (c .if1 .taken)
-
-returns-2 : tie.Need-returns-2
-returns-2 c = rw (c .if1 .left) (omega arith)
-
 pub sound-of-spec : {M : Type 1} → statement M
-sound-of-spec = tie.close (tie.spec add-result returns returns-2)
+sound-of-spec = tie.close (tie.spec (search needs) (λ c. rw (c .if1 .taken)) (λ c. rw (c .if1 .left) (omega arith)))

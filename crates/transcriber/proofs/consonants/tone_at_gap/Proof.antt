@@ -7,14 +7,10 @@ use Rattle.transcriber.proofs.Walking.{gap-tone}
 use Rattle.transcriber.proofs.consonants.tone_at_gap.Statement.{statement}
 use Rattle.transcriber.proofs.consonants.tone_at_gap.Tie as tie
 
-tone-before-requires : tie.Need-tone-before-requires
-tone-before-requires c κs = search needs
-
-returns : tie.Need-returns
-returns c = rw (gap-tone (c .before .before .args .sound % 64), ← c .before .tone-before .ensures, c .if1 .taken)
-
-returns-2 : tie.Need-returns-2
-returns-2 c = rw (gap-tone (c .before .before .args .sound % 64), ← c .before .tone-before .ensures, ne-eqb (c .before .tone-before .result) 32 (c .if1 .left))
-
 pub tone-at-gap-spec : {M : Type 1} → statement M
-tone-at-gap-spec = tie.close (tie.spec tone-before-requires returns returns-2)
+tone-at-gap-spec =
+    tie.close
+    (tie.spec
+    (λ c κs. search needs)
+    (λ c. rw (gap-tone (c .before .before .args .sound % 64), ← c .before .tone-before .ensures, c .if1 .taken))
+    (λ c. rw (gap-tone (c .before .before .args .sound % 64), ← c .before .tone-before .ensures, ne-eqb (c .before .tone-before .result) 32 (c .if1 .left))))

@@ -7,17 +7,10 @@ use borrow.Author.Needs.{needs}
 use Rattle.transcriber.proofs.consonants.tone_before.Statement.{statement}
 use Rattle.transcriber.proofs.consonants.tone_before.Tie as tie
 
-add-result : tie.Need-add-result
-add-result c = search needs
-
-element-copy-out-result : tie.Need-element-copy-out-result
-element-copy-out-result c = search needs
-
-cast-result : tie.Need-cast-result
-cast-result c = let s = c .before in omega (arith, table-small (s .args .s .now) (128 + s .args .code) (s .pre .0) (omega arith))
-
-returns : tie.Need-returns
-returns c = let s = c .before in tone-read (s .args .s .now) (s .args .code) (s .pre .0) (s .pre .1)
-
 pub tone-before-spec : {M : Type 1} → statement M
-tone-before-spec = tie.close (tie.spec add-result element-copy-out-result cast-result returns)
+tone-before-spec =
+    tie.close
+    (tie.spec
+    (search needs) (search needs)
+    (λ c. let s = c .before in omega (arith, table-small (s .args .s .now) (128 + s .args .code) (s .pre .0) (omega arith)))
+    (λ c. let s = c .before in tone-read (s .args .s .now) (s .args .code) (s .pre .0) (s .pre .1)))

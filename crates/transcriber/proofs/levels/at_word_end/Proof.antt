@@ -4,14 +4,10 @@ use borrow.Author.Needs.{needs}
 use Rattle.transcriber.proofs.levels.at_word_end.Statement.{statement}
 use Rattle.transcriber.proofs.levels.at_word_end.Tie as tie
 
-mark-before-requires : tie.Need-mark-before-requires
-mark-before-requires c κs = search needs
-
-returns : tie.Need-returns
-returns c = rw (← c .before .mark-before .ensures, c .if1 .taken)
-
-returns-2 : tie.Need-returns-2
-returns-2 c = rw (← c .before .mark-before .ensures, c .if1 .left)
-
 pub at-word-end-spec : {M : Type 1} → statement M
-at-word-end-spec = tie.close (tie.spec mark-before-requires returns returns-2)
+at-word-end-spec =
+    tie.close
+    (tie.spec
+    (λ c κs. search needs)
+    (λ c. rw (← c .before .mark-before .ensures, c .if1 .taken))
+    (λ c. rw (← c .before .mark-before .ensures, c .if1 .left)))

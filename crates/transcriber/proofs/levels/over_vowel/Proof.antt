@@ -4,11 +4,5 @@ use borrow.Author.Needs.{needs}
 use Rattle.transcriber.proofs.levels.over_vowel.Statement.{statement}
 use Rattle.transcriber.proofs.levels.over_vowel.Tie as tie
 
-level-before-requires : tie.Need-level-before-requires
-level-before-requires c κs = search needs
-
-returns : tie.Need-returns
-returns c = rw (c .level-before .ensures)
-
 pub over-vowel-spec : {M : Type 1} → statement M
-over-vowel-spec = tie.close (tie.spec level-before-requires returns)
+over-vowel-spec = tie.close (tie.spec (search needs) (λ c. rw (c .level-before .ensures)))

@@ -13,17 +13,11 @@ Inv-loop m out₀ n t i₀ at v₀ out i v = Naming m out₀ out n i v
 abbrev μ-loop : tie.MeasureT-loop
 μ-loop m out₀ n t i₀ at v₀ out i v = i
 
-class-table-requires : tie.Need-class-table-requires Inv-loop μ-loop
-class-table-requires c κs = tt
-
 put-end-requires : tie.Need-put-end-requires Inv-loop μ-loop
 put-end-requires c κs =
     let a = c .before .before in
     let s = a .before .before .before in
     (a .class-table .ensures, record { within = omega arith; steady = s .pre .0; room = end-room (s .pre .0) (s .pre .1); place = s .pre .2 })
-
-at-word-end-requires : tie.Need-at-word-end-requires Inv-loop μ-loop
-at-word-end-requires c κs = (c .before .before .before .before .before .before .before .before .pre .0, omega arith)
 
 loop-holds : tie.Need-loop-holds Inv-loop μ-loop
 loop-holds c =
@@ -31,17 +25,11 @@ loop-holds c =
     let s = e .before .before .before .before .before .before in
     naming-none (s .pre .0) (s .pre .1) (s .pre .2) (e .put-end .ensures) (c .at-word-end .ensures)
 
-sub-i : tie.Need-sub-i Inv-loop μ-loop
-sub-i c = omega arith
-
 step-requires : tie.Need-step-requires Inv-loop μ-loop
 step-requires c κs =
     let b = c .before .before in
     let e = b .before .before .before .before .before in
     (e .before .before .before .class-table .ensures, naming-ready (naming-before (b .loop-test .taken) (b .before .loop .inv)))
-
-loop-less : tie.Need-loop-less Inv-loop μ-loop
-loop-less c = omega arith
 
 loop-again : tie.Need-loop-again Inv-loop μ-loop
 loop-again c =
@@ -66,13 +54,13 @@ fill-names-spec =
     (tie.spec
     Inv-loop
     μ-loop
-    class-table-requires
+    (λ c κs. tt)
     put-end-requires
-    at-word-end-requires
+    (λ c κs. (c .before .before .before .before .before .before .before .before .pre .0, omega arith))
     loop-holds
-    sub-i
+    (λ c. omega arith)
     step-requires
-    loop-less
+    (λ c. omega arith)
     loop-again
     same-length
     returns)

@@ -22,56 +22,20 @@ accepted c = sym (c .before .before .check .ensures .answer) ∙ c .checked .giv
 counted : (c : tie.After-checked) → c .checked .given .0 .0 .names ≡ length (names (c .before .before .before .before .before .args .m .now))
 counted c = accepted-counts (c .before .before .before .before .before .args .m .now) (c .checked .given .0 .0) (accepted c) .1
 
-check-requires : tie.Need-check-requires
-check-requires c κs = search needs
-
-enum-known-checked : tie.Need-enum-known-checked
-enum-known-checked c = search needs
-
-enum-told : tie.Need-enum-told
-enum-told c = search needs
-
-refused-requires : tie.Need-refused-requires
-refused-requires c κs = search needs
-
-returns : tie.Need-returns
-unfolding nameAnswer
-returns c =
-    let k = c .before .before .before in
-    rw (c .refused .ensures, k .check .ensures .answer) (answered-refused _ _ _ _ _ _ (sym (k .check .ensures .answer) ∙ c .before .enum-told .given .1))
-
-returns-2 : tie.Need-returns-2
-unfolding nameAnswer
-returns-2 c =
-    let k = c .before .before in
-    answered-short _ _ (accepted k) _ _ _ (counted k) _ _ (c .if1 .taken)
-
 fill-names-requires : tie.Need-fill-names-requires
 fill-names-requires c κs =
     let k = c .before .before .before in
     let s = k .before .before .before .before .before in
     (accepted-steady (s .args .m .now) _ (accepted k) (λ j. omega (arith, k .before .before .before .before .shared-slice-known .given j)), counted k, c .before .if1 .left)
 
-same-length : tie.Need-same-length
-same-length c = search needs
-
-returns-3 : tie.Need-returns-3
-unfolding nameAnswer
-returns-3 c =
-    let f = c .before .before in
-    let k = f .before .before .before .before in
-    answered-written _ _ (accepted k) _ _ _ (counted k) _ _ _ (f .before .before .if1 .left) (f .fill-names .ensures)
-
 pub name-spec : {M : Type 1} → statement M
+unfolding nameAnswer
 name-spec =
     tie.close
     (tie.spec
-    check-requires
-    enum-known-checked
-    enum-told
-    refused-requires
-    returns
-    returns-2
+    (search needs) (search needs) (search needs) (search needs)
+    (λ c. let k = c .before .before .before in rw (c .refused .ensures, k .check .ensures .answer) (answered-refused _ _ (sym (k .check .ensures .answer) ∙ c .before .enum-told .given .1)))
+    (λ c. let k = c .before .before in answered-short (accepted k) (counted k) (c .if1 .taken))
     fill-names-requires
-    same-length
-    returns-3)
+    (search needs)
+    (λ c. let f = c .before .before in let e = f .before .before in answered-written (accepted (e .before .before)) (counted (e .before .before)) (e .if1 .left) (f .fill-names .ensures)))

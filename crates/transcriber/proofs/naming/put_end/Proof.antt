@@ -19,27 +19,17 @@ tail c =
     let s = c .before .before .before .before in
     rw (c .is-consonant-or-sign .ensures, c .before .class-before .ensures) (incomplete-raw (s .args .m .now) (s .pre .1 .steady) (s .args .i) (s .pre .1 .within))
 
-class-before-requires : tie.Need-class-before-requires
-class-before-requires c κs = search needs
-
-is-consonant-or-sign-requires : tie.Need-is-consonant-or-sign-requires
-is-consonant-or-sign-requires c κs = search needs
-
 put-requires : tie.Need-put-requires
 put-requires c κs =
     let w = c .before .before .before .before .before .before .pre .1 in
     (omega (arith, w .room, rw (c .before .if1 .taken) at (ap length (tail (c .before .before)))), w .place)
 
-same-length : tie.Need-same-length
-same-length c = search needs
-
-returns : tie.Need-returns
-returns c =
-    let t = c .before .before .before .before in
-    rw (tail (t .before), t .if1 .taken) (c .before .before .put .ensures)
-
-returns-2 : tie.Need-returns-2
-returns-2 c = rw (tail (c .before), c .if1 .left) (put-none _ _)
-
 pub put-end-spec : {M : Type 1} → statement M
-put-end-spec = tie.close (tie.spec class-before-requires is-consonant-or-sign-requires put-requires same-length returns returns-2)
+put-end-spec =
+    tie.close
+    (tie.spec
+    (λ c κs. search needs) (search needs)
+    put-requires
+    (search needs)
+    (λ c. let t = c .before .before .before .before in rw (tail (t .before), t .if1 .taken) (c .before .before .put .ensures))
+    (λ c. rw (tail (c .before), c .if1 .left) (put-none _ _)))

@@ -22,30 +22,15 @@ low c = omega (arith, c .before .before .before .class-of .ensures, c .before .i
 unmarked : (c : tie.Else3) → class (c .before .before .before) ≡ 1 → ⊥
 unmarked c e = c .if3 .left (c .before .before .before .class-of .ensures ∙ e)
 
-shared-slice-read-class-of : tie.Need-shared-slice-read-class-of
-shared-slice-read-class-of c = search needs
-
-class-of-requires : tie.Need-class-of-requires
-class-of-requires c κs = search needs
-
 put-name-requires : tie.Need-put-name-requires
 put-name-requires c κs =
     let s = c .before .before .before .before .before .before in
     (s .pre .0, record { ready = s .pre .1; vowel = vowel-class (s .pre .1) (omega (arith, c .before .before .class-of .ensures, c .before .if1 .taken)) })
 
-same-length : tie.Need-same-length
-same-length c = search needs
-
-returns : tie.Need-returns
-returns c = search needs
-
 returns-2 : tie.Need-returns-2
 returns-2 c =
     let k = c .before .before in
     named-letter (k .before .before .before .before .pre .1) (omega (arith, k .class-of .ensures, c .if2 .taken)) (omega (arith, k .class-of .ensures, c .before .if1 .left))
-
-over-mark-requires : tie.Need-over-mark-requires
-over-mark-requires c κs = search needs
 
 returns-3 : tie.Need-returns-3
 returns-3 c =
@@ -58,12 +43,6 @@ put-end-requires c κs =
     let r = s .pre .1 in
     (s .pre .0, record { within = omega (arith, r .within); steady = r .steady; room = break-room r (low (c .before)) (unmarked (c .before)); place = r .place })
 
-at-word-end-requires : tie.Need-at-word-end-requires
-at-word-end-requires c κs = search needs
-
-same-length-2 : tie.Need-same-length-2
-same-length-2 c = search needs
-
 returns-4 : tie.Need-returns-4
 returns-4 c =
     let e = c .before .before .before in
@@ -74,15 +53,12 @@ pub step-spec : {M : Type 1} → statement M
 step-spec =
     tie.close
     (tie.spec
-    shared-slice-read-class-of
-    class-of-requires
+    (search needs) (λ c κs. search needs)
     put-name-requires
-    same-length
-    returns
+    (search needs) (λ c. search needs)
     returns-2
-    over-mark-requires
+    (search needs)
     returns-3
     put-end-requires
-    at-word-end-requires
-    same-length-2
+    (λ c κs. search needs) (search needs)
     returns-4)

@@ -5,20 +5,9 @@ use Rattle.transcriber.proofs.Putting.{put-one}
 use Rattle.transcriber.proofs.output.put.Statement.{statement}
 use Rattle.transcriber.proofs.output.put.Tie as tie
 
-sub-out : tie.Need-sub-out
-sub-out c = search needs
-
-slice-write-out : tie.Need-slice-write-out
-slice-write-out c = search needs
-
-sub-result : tie.Need-sub-result
-sub-result c = search needs
-
-same-length : tie.Need-same-length
-same-length c = search needs
-
-returns : tie.Need-returns
-returns c = put-one (c .args .out .now) (c .args .at) (c .args .code) (c .pre .0) (c .pre .1)
-
 pub put-spec : {M : Type 1} → statement M
-put-spec = tie.close (tie.spec sub-out slice-write-out sub-result same-length returns)
+put-spec =
+    tie.close
+    (tie.spec
+    (search needs) (search needs) (search needs) (search needs)
+    (λ c. put-one (c .args .out .now) (c .args .at) (c .args .code) (c .pre .0) (c .pre .1)))

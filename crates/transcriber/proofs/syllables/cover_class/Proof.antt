@@ -4,14 +4,10 @@ use borrow.Author.Needs.{needs}
 use Rattle.transcriber.proofs.syllables.cover_class.Statement.{statement}
 use Rattle.transcriber.proofs.syllables.cover_class.Tie as tie
 
-is-consonant-or-sign-requires : tie.Need-is-consonant-or-sign-requires
-is-consonant-or-sign-requires c κs = search needs
-
-returns : tie.Need-returns
-returns c = rw (← c .before .is-consonant-or-sign .ensures, c .if1 .taken)
-
-returns-2 : tie.Need-returns-2
-returns-2 c = rw (← c .before .is-consonant-or-sign .ensures, c .if1 .left)
-
 pub cover-class-spec : {M : Type 1} → statement M
-cover-class-spec = tie.close (tie.spec is-consonant-or-sign-requires returns returns-2)
+cover-class-spec =
+    tie.close
+    (tie.spec
+    (search needs)
+    (λ c. rw (← c .before .is-consonant-or-sign .ensures, c .if1 .taken))
+    (λ c. rw (← c .before .is-consonant-or-sign .ensures, c .if1 .left)))

@@ -6,9 +6,6 @@ use Rattle.transcriber.specs.Sounds.{toneNo, tonedCode, letterGroup, sou
 use Rattle.transcriber.proofs.tables.sound_table.Statement.{statement}
 use Rattle.transcriber.proofs.tables.sound_table.Tie as tie
 
-returns : tie.Need-returns
-unfolding everything toneNo tonedCode letterGroup soundGroup groupOf softIn softNo soundTable
-returns c = refl
-
 pub sound-table-spec : {M : Type 1} → statement M
-sound-table-spec = tie.close (tie.spec returns)
+unfolding everything toneNo tonedCode letterGroup soundGroup groupOf softIn softNo soundTable
+sound-table-spec = tie.close (tie.spec (λ c. refl))

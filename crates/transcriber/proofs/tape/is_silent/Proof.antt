@@ -17,20 +17,12 @@ after-others : (m : List ℕ) (i : ℕ) → ((j : ℕ) → getD m j 0 < 256) →
 unfolding byteBefore
 after-others m i h n = before-spoken m i h (λ j e k. n (rw (e, k)))
 
-returns : tie.Need-returns
-returns c = let s = c .before .before in let a = s .pre .1 in sym (class-spoken (s .args .m .now) _ (a .bytes _) (λ e. c .if1 .taken (a .class ∙ e)))
-
-class-before-requires : tie.Need-class-before-requires
-class-before-requires c κs = search needs
-
-returns-2 : tie.Need-returns-2
-returns-2 c = let s = c .before .before .before .before in sym (after-others (s .args .m .now) _ (s .pre .1 .bytes) (λ e. c .if2 .taken (c .before .class-before .ensures ∙ e)))
-
-is-elided-requires : tie.Need-is-elided-requires
-is-elided-requires c κs = search needs
-
-returns-3 : tie.Need-returns-3
-returns-3 c = search needs
-
 pub is-silent-spec : {M : Type 1} → statement M
-is-silent-spec = tie.close (tie.spec returns class-before-requires returns-2 is-elided-requires returns-3)
+is-silent-spec =
+    tie.close
+    (tie.spec
+    (λ c. let s = c .before .before in let a = s .pre .1 in sym (class-spoken (s .args .m .now) _ (a .bytes _) (λ e. c .if1 .taken (a .class ∙ e))))
+    (λ c κs. search needs)
+    (λ c. let s = c .before .before .before .before in sym (after-others (s .args .m .now) _ (s .pre .1 .bytes) (λ e. c .if2 .taken (c .before .class-before .ensures ∙ e))))
+    (search needs)
+    (λ c. search needs))

@@ -10,15 +10,6 @@ use Rattle.transcriber.proofs.Walking.{ready-break, break-room, break-s
 use Rattle.transcriber.proofs.tape.put_break.Statement.{statement}
 use Rattle.transcriber.proofs.tape.put_break.Tie as tie
 
-at-word-end-requires : tie.Need-at-word-end-requires
-at-word-end-requires c κs = search needs
-
-put-requires : tie.Need-put-requires
-put-requires c κs = let a = c .before .before .before .before .before .pre .1 in (break-room _ _ _ _ (a .ready) (ready-break a), a .ready .place)
-
-same-length : tie.Need-same-length
-same-length c = search needs
-
 returns : tie.Need-returns
 returns c = let p = c .before .before in
     let k = p .before .before in
@@ -27,15 +18,6 @@ returns c = let p = c .before .before in
     let a = s .pre .1 in
     break-steps _ _ _ _ (a .ready) (p .put .last .0) (p .put .result) 64 (w .at-word-end .result) true (ready-break a)
     (eq-eqb (classOf (getD (s .args .m .now) (s .args .i) 0)) 3 (sym (a .class) ∙ k .if1 .taken)) refl (w .at-word-end .ensures) (p .put .ensures)
-
-tone-at-gap-requires : tie.Need-tone-at-gap-requires
-tone-at-gap-requires c κs = c .before .before .before .before .pre .0
-
-put-requires-2 : tie.Need-put-requires-2
-put-requires-2 c κs = let a = c .before .before .before .before .before .before .pre .1 in (break-room _ _ _ _ (a .ready) (ready-break a), a .ready .place)
-
-same-length-2 : tie.Need-same-length-2
-same-length-2 c = search needs
 
 returns-2 : tie.Need-returns-2
 returns-2 c = let p = c .before .before in
@@ -51,11 +33,11 @@ pub put-break-spec : {M : Type 1} → statement M
 put-break-spec =
     tie.close
     (tie.spec
-    at-word-end-requires
-    put-requires
-    same-length
+    (λ c κs. search needs)
+    (λ c κs. let a = c .before .before .before .before .before .pre .1 in (break-room _ _ _ _ (a .ready) (ready-break a), a .ready .place))
+    (search needs)
     returns
-    tone-at-gap-requires
-    put-requires-2
-    same-length-2
+    (λ c κs. c .before .before .before .before .pre .0)
+    (λ c κs. let a = c .before .before .before .before .before .before .pre .1 in (break-room _ _ _ _ (a .ready) (ready-break a), a .ready .place))
+    (search needs)
     returns-2)

@@ -1,7 +1,7 @@
 -- The code that the table gives is the consonant's, and it is what stands right of the letter before; a silent letter puts nothing.
 -- Assumes nothing.
 use Prim.Native.Nat.{suc, _%_, _<_}
-use mathlib.Core.Path.{_≡_, refl, sym, _∙_}
+use mathlib.Core.Path.{_≡_, refl, sym, ap, _∙_}
 use mathlib.Core.Bool.{false}
 use mathlib.Core.List.{[], _∷_}
 use native.Mathlib.Omega.{arith}
@@ -10,9 +10,9 @@ use lib.ListN.{getD}
 use borrow.Author.Needs.{needs}
 use Rattle.spec.specs.Letters.{small}
 use Rattle.message.specs.Places.{toneAt, codesAt}
-use Rattle.transcriber.specs.Sounds.{toneBy}
+use Rattle.transcriber.specs.Sounds.{toneNo, toneBy}
 use Rattle.transcriber.proofs.Raw.{consonant-small}
-use Rattle.transcriber.proofs.Walking.{Spelt, spelt-consonant, consonant-softens, consonant-codes, ready-consonant, elided-steps, letter-room, right-sound, tone-no, plain-levels, letter-steps}
+use Rattle.transcriber.proofs.Walking.{Spelt, spelt-consonant, consonant-softens, consonant-codes, ready-consonant, elided-steps, letter-room, right-sound, tone-by, plain-levels, letter-steps}
 use Rattle.transcriber.proofs.tape.put_consonant.Statement.{statement}
 use Rattle.transcriber.proofs.tape.put_consonant.Tie as tie
 
@@ -38,38 +38,19 @@ is-silent-requires c κs = let s = c .before .before .before in
     let a = s .pre .1 in
     (s .pre .0 .byte, record { within = a .ready .within; bytes = a .ready .steady .bytes; class = a .class })
 
-seen-over-requires : tie.Need-seen-over-requires
-seen-over-requires c κs = search needs
-
-pass-over-requires : tie.Need-pass-over-requires
-pass-over-requires c κs = search needs
-
 returns : tie.Need-returns
 returns c = let k = c .before .before in
     let s = k .before .before .before .before .before in
     rw (c .pass-over .ensures) (elided-steps (s .pre .1) (sym (k .before .is-silent .ensures) ∙ k .if1 .taken) (c .before .seen-over .ensures))
 
-shared-slice-read-consonant-code : tie.Need-shared-slice-read-consonant-code
-shared-slice-read-consonant-code c = search needs
-
 consonant-code-requires : tie.Need-consonant-code-requires
 consonant-code-requires c κs = let s = c .before .before .before .before .before .before in
     let a = s .pre .1 in
-    (s .pre .0 .sound, record { letter = ready-consonant a; tone = rw (a .ready .stands .tone) (tone-no (toneAt (s .args .m .now) (suc (s .args .i)))); sound = right-sound _ _ _ _ (a .ready) .2 })
-
-cast-put : tie.Need-cast-put
-cast-put c = omega (arith, code-small (c .before))
+    (s .pre .0 .sound, record { letter = ready-consonant a; tone = rw (a .ready .stands .tone) (ap toneNo (tone-by (toneAt (s .args .m .now) (suc (s .args .i))))); sound = right-sound _ _ _ _ (a .ready) .2 })
 
 put-requires : tie.Need-put-requires
 put-requires c κs = let s = c .before .before .before .before .before .before .before .before in
     (letter-room _ _ _ _ (s .pre .1 .ready) (c .before .consonant-code .result ∷ []) (spelt s) (code-put (c .before)), s .pre .1 .ready .place)
-
-tone-before-requires : tie.Need-tone-before-requires
-tone-before-requires c κs = let k = c .before .before .before .before in
-    (k .before .before .before .before .before .before .before .pre .0 .sound, code-small k)
-
-same-length : tie.Need-same-length
-same-length c = search needs
 
 returns-2 : tie.Need-returns-2
 returns-2 c = let p = c .before .before .before in
@@ -85,13 +66,12 @@ put-consonant-spec =
     tie.close
     (tie.spec
     is-silent-requires
-    seen-over-requires
-    pass-over-requires
+    (search needs) (search needs)
     returns
-    shared-slice-read-consonant-code
+    (search needs)
     consonant-code-requires
-    cast-put
+    (λ c. omega (arith, code-small (c .before)))
     put-requires
-    tone-before-requires
-    same-length
+    (λ c κs. let k = c .before .before .before .before in (k .before .before .before .before .before .before .before .pre .0 .sound, code-small k))
+    (search needs)
     returns-2)

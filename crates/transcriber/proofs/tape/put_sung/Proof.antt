@@ -21,18 +21,12 @@ some v = by (v .glide)
     by true = omega arith
     by false = omega arith
 
-put-requires : tie.Need-put-requires
-put-requires c κs = let s = c .before .before in (omega (arith, some (s .args .v), s .pre .0), s .pre .1)
-
 put-requires-2 : tie.Need-put-requires-2
 put-requires-2 c κs =
     let p = c .before .before .before .before in
     let s = p .before .before .before in
     let n = put-length _ _ _ _ _ (s .pre .1) (p .put .ensures) in
     (omega (arith, rw (c .before .if1 .taken) at (s .pre .0), p .put .ensures .place), omega (arith, n, p .put .ensures .place, s .pre .1))
-
-same-length : tie.Need-same-length
-same-length c = search needs
 
 returns : tie.Need-returns
 returns c =
@@ -41,11 +35,13 @@ returns c =
     let s = p .before .before .before in
     rw (g .before .before .if1 .taken) (put-over (s .args .v .sound ∷ []) (J ∷ []) _ _ _ _ _ _ (s .pre .1) (p .put .ensures) (g .put2 .ensures))
 
-same-length-2 : tie.Need-same-length-2
-same-length-2 c = search needs
-
-returns-2 : tie.Need-returns-2
-returns-2 c = rw (c .if1 .left) (c .before .before .before .put .ensures)
-
 pub put-sung-spec : {M : Type 1} → statement M
-put-sung-spec = tie.close (tie.spec put-requires put-requires-2 same-length returns same-length-2 returns-2)
+put-sung-spec =
+    tie.close
+    (tie.spec
+    (λ c κs. let s = c .before .before in (omega (arith, some (s .args .v), s .pre .0), s .pre .1))
+    put-requires-2
+    (search needs)
+    returns
+    (search needs)
+    (λ c. rw (c .if1 .left) (c .before .before .before .put .ensures)))

@@ -25,26 +25,6 @@ spelt s = spelt-vowel (getD (s .args .m .now) (s .args .i) 0) (s .pre .1 .ready 
 codes : (c : tie.After-vowel-at) → let s = c .before .before .before .before in codesAt (s .args .m .now) (s .args .i) ≡ sungCodes (c .vowel-at .result)
 codes c = sung-codes _ _ _ _ (vowel (c .before .before .before .before)) _ (c .vowel-at .ensures)
 
-vowel-at-requires : tie.Need-vowel-at-requires
-vowel-at-requires c κs = let s = c .before .before .before in (s .pre .0, vowel s)
-
-put-sung-requires : tie.Need-put-sung-requires
-put-sung-requires c κs =
-    let s = c .before .before .before .before .before in
-    (letter-room _ _ _ _ (s .pre .1 .ready) _ (spelt s) (codes (c .before)), s .pre .1 .ready .place)
-
-first-code-requires : tie.Need-first-code-requires
-first-code-requires c κs = search needs
-
-sound-of-requires : tie.Need-sound-of-requires
-sound-of-requires c κs = search needs
-
-over-vowel-requires : tie.Need-over-vowel-requires
-over-vowel-requires c κs = search needs
-
-same-length : tie.Need-same-length
-same-length c = search needs
-
 returns : tie.Need-returns
 returns c =
     let w = c .before in
@@ -56,7 +36,7 @@ returns c =
     let i = s .args .i in
     let sings = vowel-sings _ _ _ _ (vowel s) in
     letter-steps _ _ _ _ (s .pre .1 .ready) (p .put-sung .last .0) (sungCodes (v .vowel-at .result)) (p .put-sung .result) 0 (f .first-code .result) (w .sound-of .result) (not (eqb (s .args .c) 10)) (spelt s) (codes v)
-    (sym (sung-tone m i (v .vowel-at .result) (v .vowel-at .ensures) (toneAt m (suc i)))) (f .first-code .ensures ∙ sung-first (v .vowel-at .result) (soundAt m (suc i)))
+    (sung-tone (v .vowel-at .ensures) (toneAt m (suc i))) (f .first-code .ensures ∙ sung-first (v .vowel-at .result) (soundAt m (suc i)))
     (rw (s .pre .1 .class) (sym (vowel-softens (getD m i 0) (s .pre .1 .ready .steady .bytes i) sings))) (w .sound-of .ensures)
     (rw (c .over-vowel .ensures) (levels-vowel m (s .pre .1 .ready .steady) i (s .pre .1 .ready .within) sings (s .pre .1 .ready .stands .levels))) (p .put-sung .ensures)
 
@@ -64,10 +44,7 @@ pub put-vowel-spec : {M : Type 1} → statement M
 put-vowel-spec =
     tie.close
     (tie.spec
-    vowel-at-requires
-    put-sung-requires
-    first-code-requires
-    sound-of-requires
-    over-vowel-requires
-    same-length
+    (λ c κs. let s = c .before .before .before in (s .pre .0, vowel s))
+    (λ c κs. let s = c .before .before .before .before .before in (letter-room _ _ _ _ (s .pre .1 .ready) _ (spelt s) (codes (c .before)), s .pre .1 .ready .place))
+    (search needs) (search needs) (search needs) (search needs)
     returns)

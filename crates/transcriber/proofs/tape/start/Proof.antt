@@ -6,11 +6,9 @@ use Rattle.transcriber.proofs.Filling.{stands-end}
 use Rattle.transcriber.proofs.tape.start.Statement.{statement}
 use Rattle.transcriber.proofs.tape.start.Tie as tie
 
-at-word-end-requires : tie.Need-at-word-end-requires
-at-word-end-requires c κs = search needs
-
-returns : tie.Need-returns
-returns c = let s = c .before .before in rw (c .at-word-end .ensures) (refl, stands-end (s .args .m .now) (s .pre) (s .args .end))
-
 pub start-spec : {M : Type 1} → statement M
-start-spec = tie.close (tie.spec at-word-end-requires returns)
+start-spec =
+    tie.close
+    (tie.spec
+    (λ c κs. search needs)
+    (λ c. let s = c .before .before in rw (c .at-word-end .ensures) (refl, stands-end (s .args .m .now) (s .pre) (s .args .end))))

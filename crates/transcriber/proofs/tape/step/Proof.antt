@@ -20,51 +20,21 @@ class s = by-class (getD (s .args .m .now) (s .args .i) 0) (s .pre .1 .steady .b
 above : (c : ℕ) → (c ≡ 0 → ⊥) → (c ≡ 1 → ⊥) → 2 ≤ c
 above c z o = omega arith
 
-shared-slice-read-class-of : tie.Need-shared-slice-read-class-of
-shared-slice-read-class-of c = search needs
-
-class-of-requires : tie.Need-class-of-requires
-class-of-requires c κs = search needs
-
 put-vowel-requires : tie.Need-put-vowel-requires
 put-vowel-requires c κs = let k = c .before .before in
     let s = k .before .before .before .before in
     (s .pre .0 .byte, ready-for 10 12 (s .pre .1) (k .class-of .ensures) (c .before .if1 .taken) (omega (arith, k .class-of .ensures, class s .class)))
-
-same-length : tie.Need-same-length
-same-length c = search needs
-
-returns : tie.Need-returns
-returns c = search needs
 
 put-consonant-requires : tie.Need-put-consonant-requires
 put-consonant-requires c κs = let k = c .before .before .before in
     let s = k .before .before .before .before in
     (s .pre .0, ready-for 6 9 (s .pre .1) (k .class-of .ensures) (c .before .if2 .taken) (omega (arith, c .before .before .if1 .left)))
 
-same-length-2 : tie.Need-same-length-2
-same-length-2 c = search needs
-
-returns-2 : tie.Need-returns-2
-returns-2 c = search needs
-
-seen-over-requires : tie.Need-seen-over-requires
-seen-over-requires c κs = search needs
-
-pass-over-requires : tie.Need-pass-over-requires
-pass-over-requires c κs = search needs
-
 returns-3 : tie.Need-returns-3
 returns-3 c = let t = c .before .before in
     let k = t .before .before .before .before in
     let s = k .before .before .before .before in
     rw (c .pass-over .ensures) (sign-steps (ready-for 4 5 (s .pre .1) (k .class-of .ensures) (t .if3 .taken) (omega (arith, t .before .before .if2 .left))) (c .before .seen-over .ensures))
-
-over-mark-requires : tie.Need-over-mark-requires
-over-mark-requires c κs = search needs
-
-pass-over-requires-2 : tie.Need-pass-over-requires-2
-pass-over-requires-2 c κs = search needs
 
 returns-4 : tie.Need-returns-4
 returns-4 c = let t = c .before .before in
@@ -80,30 +50,18 @@ put-break-requires c κs = let e = c .before in
     let n = s .pre .1 .steady .named (s .args .i) (s .pre .1 .within) in
     (s .pre .0 .sound, ready-for 2 3 (s .pre .1) (k .class-of .ensures) (above (k .class-of .result) (λ z. n (sym (k .class-of .ensures) ∙ z)) (e .if4 .left)) (omega (arith, e .before .if3 .left)))
 
-same-length-3 : tie.Need-same-length-3
-same-length-3 c = search needs
-
-returns-5 : tie.Need-returns-5
-returns-5 c = search needs
-
 pub step-spec : {M : Type 1} → statement M
 step-spec =
     tie.close
     (tie.spec
-    shared-slice-read-class-of
-    class-of-requires
+    (search needs) (λ c κs. search needs)
     put-vowel-requires
-    same-length
-    returns
+    (search needs) (λ c. search needs)
     put-consonant-requires
-    same-length-2
-    returns-2
-    seen-over-requires
-    pass-over-requires
+    (search needs) (λ c. search needs) (search needs) (search needs)
     returns-3
-    over-mark-requires
-    pass-over-requires-2
+    (search needs) (search needs)
     returns-4
     put-break-requires
-    same-length-3
-    returns-5)
+    (search needs)
+    (λ c. search needs))

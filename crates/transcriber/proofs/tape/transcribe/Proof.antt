@@ -23,39 +23,6 @@ accepted c = sym (c .before .before .check .ensures .answer) ∙ c .checked .giv
 counted : (c : tie.After-checked) → c .checked .given .0 .0 .codes ≡ length (tape (c .before .before .before .before .before .args .m .now))
 counted c = accepted-counts (c .before .before .before .before .before .args .m .now) (c .checked .given .0 .0) (accepted c) .0
 
-check-requires : tie.Need-check-requires
-check-requires c κs = search needs
-
-enum-known-checked : tie.Need-enum-known-checked
-enum-known-checked c = search needs
-
-enum-told : tie.Need-enum-told
-enum-told c = search needs
-
-refused-requires : tie.Need-refused-requires
-refused-requires c κs = search needs
-
-returns : tie.Need-returns
-unfolding tapeAnswer
-returns c =
-    let k = c .before .before .before in
-    let s = k .before .before .before in
-    rw (c .refused .ensures, k .check .ensures .answer)
-    (answered-refused (checkOf (s .args .m .now)) _ _ _ (tape (s .args .m .now)) (s .args .out .now) (sym (k .check .ensures .answer) ∙ c .before .enum-told .given .1))
-
-returns-2 : tie.Need-returns-2
-unfolding tapeAnswer
-returns-2 c =
-    let k = c .before .before in
-    let s = k .before .before .before .before .before in
-    answered-short (checkOf (s .args .m .now)) (k .checked .given .0 .0) (accepted k) (length (tape (s .args .m .now))) (k .checked .given .0 .0 .codes) 0 (counted k) (tape (s .args .m .now)) (s .args .out .now) (c .if1 .taken)
-
-class-table-requires : tie.Need-class-table-requires
-class-table-requires c κs = search needs
-
-sound-table-requires : tie.Need-sound-table-requires
-sound-table-requires c κs = search needs
-
 write-tape-requires : tie.Need-write-tape-requires
 write-tape-requires c κs =
     let a = c .before .before .before in
@@ -70,33 +37,23 @@ write-tape-requires c κs =
       e .if1 .left,
     )
 
-same-length : tie.Need-same-length
-same-length c = search needs
-
 returns-3 : tie.Need-returns-3
 unfolding tapeAnswer
 returns-3 c =
     let f = c .before .before in
     let e = f .before .before .before .before .before .before in
     let k = e .before .before in
-    let s = k .before .before .before .before .before in
-    let n = k .checked .given .0 .0 .codes in
-    answered-written (checkOf (s .args .m .now)) (k .checked .given .0 .0) (accepted k) (length (tape (s .args .m .now))) n 0 (counted k) (tape (s .args .m .now)) (s .args .out .now)
-    (f .write-tape .last .1 .0) (e .if1 .left)
-    (put-first (tape (s .args .m .now)) (s .args .out .now) (f .write-tape .last .1 .0) n (f .write-tape .result) (counted k) (f .write-tape .ensures))
+    answered-written (accepted k) (counted k) (e .if1 .left) (put-first _ _ _ _ _ (counted k) (f .write-tape .ensures))
 
 pub transcribe-spec : {M : Type 1} → statement M
+unfolding tapeAnswer
 transcribe-spec =
     tie.close
     (tie.spec
-    check-requires
-    enum-known-checked
-    enum-told
-    refused-requires
-    returns
-    returns-2
-    class-table-requires
-    sound-table-requires
+    (search needs) (search needs) (search needs) (search needs)
+    (λ c. let k = c .before .before .before in rw (c .refused .ensures, k .check .ensures .answer) (answered-refused _ _ (sym (k .check .ensures .answer) ∙ c .before .enum-told .given .1)))
+    (λ c. let k = c .before .before in answered-short (accepted k) (counted k) (c .if1 .taken))
+    (search needs) (search needs)
     write-tape-requires
-    same-length
+    (search needs)
     returns-3)

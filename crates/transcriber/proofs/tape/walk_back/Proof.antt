@@ -24,20 +24,11 @@ inside c =
     let e : suc (c .before .loop .i - 1) ≡ c .before .loop .i = omega (arith, c .loop-test .taken) in
     rw e (c .before .loop .inv .2)
 
-loop-holds : tie.Need-loop-holds Inv-loop μ-loop
-loop-holds c = let s = c .before .before in (s .pre .2 .order, omega arith, walked-none _ _ _ _ (s .pre .2 .stands))
-
-sub-i : tie.Need-sub-i Inv-loop μ-loop
-sub-i c = omega arith
-
 step-requires : tie.Need-step-requires Inv-loop μ-loop
 step-requires c κs = let l = c .before .before in
     let s = l .before .before .before in
     let w = inside (c .before) in
     (record { byte = s .pre .0; sound = s .pre .1 }, walked-ready _ (s .pre .2 .steady) _ _ _ (s .pre .2 .place) _ _ _ (omega (arith, s .pre .2 .within)) (s .pre .2 .room) w)
-
-loop-less : tie.Need-loop-less Inv-loop μ-loop
-loop-less c = omega arith
 
 loop-again : tie.Need-loop-again Inv-loop μ-loop
 loop-again c = let n = c .before .before in
@@ -46,11 +37,6 @@ loop-again c = let n = c .before .before in
     let s = l .before .before .before in
     let h : l .loop .i - 1 < length (s .args .m .now) = omega (arith, s .pre .2 .within, l .loop .inv .1, i .loop-test .taken) in
     (omega (arith, i .loop-test .taken), omega (arith, l .loop .inv .1), walked-more _ (s .pre .2 .steady) _ _ _ (s .pre .2 .place) _ _ _ _ _ h (inside i) (n .step .ensures))
-
-same-length : tie.Need-same-length Inv-loop μ-loop
-same-length c = let l = c .before in
-    let s = l .before .before .before in
-    walked-length _ (s .pre .2 .steady) _ _ _ (s .pre .2 .place) _ _ _ (l .loop .inv .2)
 
 returns : tie.Need-returns Inv-loop μ-loop
 returns c = let l = c .before in
@@ -63,10 +49,10 @@ walk-back-spec =
     (tie.spec
     Inv-loop
     μ-loop
-    loop-holds
-    sub-i
+    (λ c. let s = c .before .before in (s .pre .2 .order, omega arith, walked-none _ _ _ _ (s .pre .2 .stands)))
+    (λ c. omega arith)
     step-requires
-    loop-less
+    (λ c. omega arith)
     loop-again
-    same-length
+    (λ c. let l = c .before in let s = l .before .before .before in walked-length _ (s .pre .2 .steady) _ _ _ (s .pre .2 .place) _ _ _ (l .loop .inv .2))
     returns)

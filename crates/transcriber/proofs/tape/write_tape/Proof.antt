@@ -6,9 +6,6 @@ use borrow.Author.Needs.{needs}
 use Rattle.transcriber.proofs.tape.write_tape.Statement.{statement}
 use Rattle.transcriber.proofs.tape.write_tape.Tie as tie
 
-start-requires : tie.Need-start-requires
-start-requires c κs = search needs
-
 walk-back-requires : tie.Need-walk-back-requires
 walk-back-requires c κs = let n = c .before in
     let s = n .before .before .before in
@@ -25,9 +22,6 @@ walk-back-requires c κs = let n = c .before in
       },
     )
 
-same-length : tie.Need-same-length
-same-length c = search needs
-
 returns : tie.Need-returns
 returns c = let w = c .before .before in
     let n = w .before .before in
@@ -35,4 +29,4 @@ returns c = let w = c .before .before in
     rw (← n .start .ensures .0) (walked-all _ (s .pre .2) _ _ _ _ (w .walk-back .ensures))
 
 pub write-tape-spec : {M : Type 1} → statement M
-write-tape-spec = tie.close (tie.spec start-requires walk-back-requires same-length returns)
+write-tape-spec = tie.close (tie.spec (λ c κs. search needs) walk-back-requires (search needs) returns)

@@ -5,26 +5,12 @@ use Rattle.spec.specs.Vowels.{byStress}
 use Rattle.transcriber.proofs.vowels.by_stress.Statement.{statement}
 use Rattle.transcriber.proofs.vowels.by_stress.Tie as tie
 
-enum-told : tie.Need-enum-told
-enum-told c = search needs
-
-enum-told-2 : tie.Need-enum-told-2
-enum-told-2 c = search needs
-
-enum-told-3 : tie.Need-enum-told-3
-enum-told-3 c = search needs
-
-returns : tie.Need-returns
-unfolding byStress
-returns c = rw (c .enum-told .given .1)
-
-returns-2 : tie.Need-returns-2
-unfolding byStress
-returns-2 c = rw (c .enum-told2 .given .1)
-
-returns-3 : tie.Need-returns-3
-unfolding byStress
-returns-3 c = rw (c .enum-told3 .given .1)
-
 pub by-stress-spec : {M : Type 1} → statement M
-by-stress-spec = tie.close (tie.spec enum-told enum-told-2 enum-told-3 returns returns-2 returns-3)
+unfolding byStress
+by-stress-spec =
+    tie.close
+    (tie.spec
+    (search needs) (λ c. search needs) (λ c. search needs)
+    (λ c. rw (c .enum-told .given .1))
+    (λ c. rw (c .enum-told2 .given .1))
+    (λ c. rw (c .enum-told3 .given .1)))

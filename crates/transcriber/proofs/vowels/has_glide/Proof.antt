@@ -8,41 +8,14 @@ use borrow.Author.Needs.{needs}
 use Rattle.transcriber.proofs.vowels.has_glide.Statement.{statement}
 use Rattle.transcriber.proofs.vowels.has_glide.Tie as tie
 
-is-sign-class-requires : tie.Need-is-sign-class-requires
-is-sign-class-requires c κs = search needs
-
-returns : tie.Need-returns
-returns c = rw (c .before .if1 .taken) (c .is-sign-class .ensures)
-
-returns-2 : tie.Need-returns-2
-returns-2 c = rw (ne-eqb _ _ (c .before .if1 .left), ne-eqb _ _ (c .if2 .taken))
-
-enum-told : tie.Need-enum-told
-enum-told c = search needs
-
-enum-told-2 : tie.Need-enum-told-2
-enum-told-2 c = search needs
-
-is-sign-class-requires-2 : tie.Need-is-sign-class-requires-2
-is-sign-class-requires-2 c κs = search needs
-
-returns-3 : tie.Need-returns-3
-unfolding bare
-returns-3 c = rw (c .before .before .if2 .left, c .enum-told .given .1)
-
-returns-4 : tie.Need-returns-4
-unfolding bare
-returns-4 c = rw (c .before .before .before .if2 .left, c .before .enum-told2 .given .1, or-false (isSignClass (c .before .before .before .before .before .args .k))) (c .is-sign-class2 .ensures)
-
 pub has-glide-spec : {M : Type 1} → statement M
+unfolding bare
 has-glide-spec =
     tie.close
     (tie.spec
-    is-sign-class-requires
-    returns
-    returns-2
-    enum-told
-    enum-told-2
-    is-sign-class-requires-2
-    returns-3
-    returns-4)
+    (search needs)
+    (λ c. rw (c .before .if1 .taken) (c .is-sign-class .ensures))
+    (λ c. rw (ne-eqb _ _ (c .before .if1 .left), ne-eqb _ _ (c .if2 .taken)))
+    (search needs) (search needs) (search needs)
+    (λ c. rw (c .before .before .if2 .left, c .enum-told .given .1))
+    (λ c. rw (c .before .before .before .if2 .left, c .before .enum-told2 .given .1, or-false (isSignClass (c .before .before .before .before .before .args .k))) (c .is-sign-class2 .ensures)))

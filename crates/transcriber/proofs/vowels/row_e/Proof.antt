@@ -6,52 +6,15 @@ use Rattle.transcriber.proofs.Raw.{boundary-initial}
 use Rattle.transcriber.proofs.vowels.row_e.Statement.{statement}
 use Rattle.transcriber.proofs.vowels.row_e.Tie as tie
 
-enum-told : tie.Need-enum-told
-enum-told c = search needs
-
-enum-told-2 : tie.Need-enum-told-2
-enum-told-2 c = search needs
-
-hard-before-requires : tie.Need-hard-before-requires
-hard-before-requires c κs = search needs
-
-returns : tie.Need-returns
-unfolding rowЭ byLevel
-returns c q t = let s = c .before .before .before .before .before in rw (c .before .before .enum-told2 .given .1, boundary-initial (s .args .m .now) (s .args .i) _ q (s .pre .byte) t, ← c .before .hard-before .ensures, c .if1 .taken)
-
-enum-told-3 : tie.Need-enum-told-3
-enum-told-3 c = search needs
-
-hard-before-requires-2 : tie.Need-hard-before-requires-2
-hard-before-requires-2 c κs = search needs
-
-returns-2 : tie.Need-returns-2
-unfolding rowЭ byLevel
-returns-2 c q t = let s = c .before .before .before .before .before in rw (c .before .before .enum-told3 .given .1, boundary-initial (s .args .m .now) (s .args .i) _ q (s .pre .byte) t, ← c .before .hard-before2 .ensures, c .if2 .taken)
-
-returns-3 : tie.Need-returns-3
-unfolding rowЭ byLevel
-returns-3 c q t = rw (c .enum-told .given .1)
-
-returns-4 : tie.Need-returns-4
-unfolding rowЭ byLevel
-returns-4 c q t = let s = c .before .before .before .before .before in rw (c .before .before .enum-told2 .given .1, boundary-initial (s .args .m .now) (s .args .i) _ q (s .pre .byte) t, ← c .before .hard-before .ensures, c .if1 .left)
-
-returns-5 : tie.Need-returns-5
-unfolding rowЭ byLevel
-returns-5 c q t = let s = c .before .before .before .before .before in rw (c .before .before .enum-told3 .given .1, boundary-initial (s .args .m .now) (s .args .i) _ q (s .pre .byte) t, ← c .before .hard-before2 .ensures, c .if2 .left)
-
 pub row-e-spec : {M : Type 1} → statement M
+unfolding rowЭ byLevel
 row-e-spec =
     tie.close
     (tie.spec
-    enum-told
-    enum-told-2
-    hard-before-requires
-    returns
-    enum-told-3
-    hard-before-requires-2
-    returns-2
-    returns-3
-    returns-4
-    returns-5)
+    (search needs) (search needs) (search needs)
+    (λ c q t. let h = c .before in rw (h .before .enum-told2 .given .1, boundary-initial (h .before .before .before .before .pre) t, ← h .hard-before .ensures, c .if1 .taken))
+    (search needs) (search needs)
+    (λ c q t. let h = c .before in rw (h .before .enum-told3 .given .1, boundary-initial (h .before .before .before .before .pre) t, ← h .hard-before2 .ensures, c .if2 .taken))
+    (λ c q t. rw (c .enum-told .given .1))
+    (λ c q t. let h = c .before in rw (h .before .enum-told2 .given .1, boundary-initial (h .before .before .before .before .pre) t, ← h .hard-before .ensures, c .if1 .left))
+    (λ c q t. let h = c .before in rw (h .before .enum-told3 .given .1, boundary-initial (h .before .before .before .before .pre) t, ← h .hard-before2 .ensures, c .if2 .left)))

@@ -5,61 +5,17 @@ use Rattle.spec.specs.Vowels.{byLevel, rowЕ}
 use Rattle.transcriber.proofs.vowels.row_ie.Statement.{statement}
 use Rattle.transcriber.proofs.vowels.row_ie.Tie as tie
 
-enum-told : tie.Need-enum-told
-enum-told c = search needs
-
-enum-told-2 : tie.Need-enum-told-2
-enum-told-2 c = search needs
-
-is-hard-only-requires : tie.Need-is-hard-only-requires
-is-hard-only-requires c κs = search needs
-
-returns : tie.Need-returns
-unfolding rowЕ byLevel
-returns c hard q t = rw (c .before .before .enum-told2 .given .1, t .hardOnly, ← c .before .is-hard-only .ensures, c .if1 .taken)
-
-enum-told-3 : tie.Need-enum-told-3
-enum-told-3 c = search needs
-
-is-initial-requires : tie.Need-is-initial-requires
-is-initial-requires c κs = search needs
-
-returns-2 : tie.Need-returns-2
-unfolding rowЕ byLevel
-returns-2 c hard q t = rw (c .before .before .enum-told3 .given .1, t .first, ← c .before .is-initial .ensures, c .if2 .taken)
-
-is-hard-only-requires-2 : tie.Need-is-hard-only-requires-2
-is-hard-only-requires-2 c κs = search needs
-
-returns-3 : tie.Need-returns-3
-unfolding rowЕ byLevel
-returns-3 c hard q t = let k = c .before .before in rw (k .before .before .enum-told3 .given .1, t .first, ← k .before .is-initial .ensures, k .if2 .left, t .hardOnly, ← c .before .is-hard-only2 .ensures, c .if3 .taken)
-
-returns-4 : tie.Need-returns-4
-unfolding rowЕ byLevel
-returns-4 c hard q t = rw (c .enum-told .given .1)
-
-returns-5 : tie.Need-returns-5
-unfolding rowЕ byLevel
-returns-5 c hard q t = rw (c .before .before .enum-told2 .given .1, t .hardOnly, ← c .before .is-hard-only .ensures, c .if1 .left)
-
-returns-6 : tie.Need-returns-6
-unfolding rowЕ byLevel
-returns-6 c hard q t = let k = c .before .before in rw (k .before .before .enum-told3 .given .1, t .first, ← k .before .is-initial .ensures, k .if2 .left, t .hardOnly, ← c .before .is-hard-only2 .ensures, c .if3 .left)
-
 pub row-ie-spec : {M : Type 1} → statement M
+unfolding rowЕ byLevel
 row-ie-spec =
     tie.close
     (tie.spec
-    enum-told
-    enum-told-2
-    is-hard-only-requires
-    returns
-    enum-told-3
-    is-initial-requires
-    returns-2
-    is-hard-only-requires-2
-    returns-3
-    returns-4
-    returns-5
-    returns-6)
+    (search needs) (search needs) (search needs)
+    (λ c hard q t. rw (c .before .before .enum-told2 .given .1, t .hardOnly, ← c .before .is-hard-only .ensures, c .if1 .taken))
+    (search needs) (search needs)
+    (λ c hard q t. rw (c .before .before .enum-told3 .given .1, t .first, ← c .before .is-initial .ensures, c .if2 .taken))
+    (search needs)
+    (λ c hard q t. let k = c .before .before in rw (k .before .before .enum-told3 .given .1, t .first, ← k .before .is-initial .ensures, k .if2 .left, t .hardOnly, ← c .before .is-hard-only2 .ensures, c .if3 .taken))
+    (λ c hard q t. rw (c .enum-told .given .1))
+    (λ c hard q t. rw (c .before .before .enum-told2 .given .1, t .hardOnly, ← c .before .is-hard-only .ensures, c .if1 .left))
+    (λ c hard q t. let k = c .before .before in rw (k .before .before .enum-told3 .given .1, t .first, ← k .before .is-initial .ensures, k .if2 .left, t .hardOnly, ← c .before .is-hard-only2 .ensures, c .if3 .left)))

@@ -5,29 +5,12 @@ use Rattle.spec.specs.Vowels.{byLevel, rowО}
 use Rattle.transcriber.proofs.vowels.row_o.Statement.{statement}
 use Rattle.transcriber.proofs.vowels.row_o.Tie as tie
 
-enum-told : tie.Need-enum-told
-enum-told c = search needs
-
-enum-told-2 : tie.Need-enum-told-2
-enum-told-2 c = search needs
-
-enum-told-3 : tie.Need-enum-told-3
-enum-told-3 c = search needs
-
-second-a-requires : tie.Need-second-a-requires
-second-a-requires c κs = search needs
-
-returns : tie.Need-returns
-unfolding rowО byLevel
-returns c hard q t = rw (c .enum-told .given .1)
-
-returns-2 : tie.Need-returns-2
-unfolding rowО byLevel
-returns-2 c hard q t = rw (c .enum-told2 .given .1)
-
-returns-3 : tie.Need-returns-3
-unfolding rowО byLevel
-returns-3 c hard q t = rw (c .before .enum-told3 .given .1) (c .second-a .ensures q t)
-
 pub row-o-spec : {M : Type 1} → statement M
-row-o-spec = tie.close (tie.spec enum-told enum-told-2 enum-told-3 second-a-requires returns returns-2 returns-3)
+unfolding rowО byLevel
+row-o-spec =
+    tie.close
+    (tie.spec
+    (search needs) (search needs) (search needs) (search needs)
+    (λ c hard q t. rw (c .enum-told .given .1))
+    (λ c hard q t. rw (c .enum-told2 .given .1))
+    (λ c hard q t. rw (c .before .enum-told3 .given .1) (c .second-a .ensures q t)))

@@ -5,33 +5,13 @@ use Rattle.spec.specs.Vowels.{byLevel, rowЯ}
 use Rattle.transcriber.proofs.vowels.row_ya.Statement.{statement}
 use Rattle.transcriber.proofs.vowels.row_ya.Tie as tie
 
-enum-told : tie.Need-enum-told
-enum-told c = search needs
-
-enum-told-2 : tie.Need-enum-told-2
-enum-told-2 c = search needs
-
-enum-told-3 : tie.Need-enum-told-3
-enum-told-3 c = search needs
-
-is-initial-requires : tie.Need-is-initial-requires
-is-initial-requires c κs = search needs
-
-returns : tie.Need-returns
-unfolding rowЯ byLevel
-returns c hard q t = rw (c .before .before .enum-told3 .given .1, t .first, ← c .before .is-initial .ensures, c .if1 .taken)
-
-returns-2 : tie.Need-returns-2
-unfolding rowЯ byLevel
-returns-2 c hard q t = rw (c .enum-told .given .1)
-
-returns-3 : tie.Need-returns-3
-unfolding rowЯ byLevel
-returns-3 c hard q t = rw (c .enum-told2 .given .1)
-
-returns-4 : tie.Need-returns-4
-unfolding rowЯ byLevel
-returns-4 c hard q t = rw (c .before .before .enum-told3 .given .1, t .first, ← c .before .is-initial .ensures, c .if1 .left)
-
 pub row-ya-spec : {M : Type 1} → statement M
-row-ya-spec = tie.close (tie.spec enum-told enum-told-2 enum-told-3 is-initial-requires returns returns-2 returns-3 returns-4)
+unfolding rowЯ byLevel
+row-ya-spec =
+    tie.close
+    (tie.spec
+    (search needs) (search needs) (search needs) (search needs)
+    (λ c hard q t. rw (c .before .before .enum-told3 .given .1, t .first, ← c .before .is-initial .ensures, c .if1 .taken))
+    (λ c hard q t. rw (c .enum-told .given .1))
+    (λ c hard q t. rw (c .enum-told2 .given .1))
+    (λ c hard q t. rw (c .before .before .enum-told3 .given .1, t .first, ← c .before .is-initial .ensures, c .if1 .left)))

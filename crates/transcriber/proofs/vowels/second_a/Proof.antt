@@ -4,20 +4,12 @@ use borrow.Author.Needs.{needs}
 use Rattle.transcriber.proofs.vowels.second_a.Statement.{statement}
 use Rattle.transcriber.proofs.vowels.second_a.Tie as tie
 
-is-initial-requires : tie.Need-is-initial-requires
-is-initial-requires c κs = search needs
-
-returns : tie.Need-returns
-returns c q t = rw (t .first, ← c .before .is-initial .ensures, c .if1 .taken)
-
-is-soft-only-requires : tie.Need-is-soft-only-requires
-is-soft-only-requires c κs = search needs
-
-returns-2 : tie.Need-returns-2
-returns-2 c q t = rw (t .first, ← c .before .before .before .is-initial .ensures, c .before .before .if1 .left, t .softOnly, ← c .before .is-soft-only .ensures, c .if2 .taken)
-
-returns-3 : tie.Need-returns-3
-returns-3 c q t = rw (t .first, ← c .before .before .before .is-initial .ensures, c .before .before .if1 .left, t .softOnly, ← c .before .is-soft-only .ensures, c .if2 .left)
-
 pub second-a-spec : {M : Type 1} → statement M
-second-a-spec = tie.close (tie.spec is-initial-requires returns is-soft-only-requires returns-2 returns-3)
+second-a-spec =
+    tie.close
+    (tie.spec
+    (search needs)
+    (λ c q t. rw (t .first, ← c .before .is-initial .ensures, c .if1 .taken))
+    (search needs)
+    (λ c q t. rw (t .first, ← c .before .before .before .is-initial .ensures, c .before .before .if1 .left, t .softOnly, ← c .before .is-soft-only .ensures, c .if2 .taken))
+    (λ c q t. rw (t .first, ← c .before .before .before .is-initial .ensures, c .before .before .if1 .left, t .softOnly, ← c .before .is-soft-only .ensures, c .if2 .left)))

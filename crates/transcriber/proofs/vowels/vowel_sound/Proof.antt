@@ -1,116 +1,43 @@
 -- Each arm is its letter's row, by computation at the small letter and at the capital; a vowel has an arm.
 -- Assumes nothing.
 use mathlib.Core.Path.{refl, sym, _∙_}
-use mathlib.Core.Bool.{false≢true}
-use mathlib.Core.List.{[], _∷_}
-use mathlib.Core.Logic.{⊎-elim, inl, inr}
+use mathlib.Core.Bool.{Bool, false≢true}
+use mathlib.Core.Logic.{⊎-elim}
 use native.Mathlib.Omega.{arith}
 use borrow.Author.Needs.{needs}
-use borrow.Author.Tests.{ne-eqb}
 use Rattle.spec.specs.Refusals.{vowelByte}
 use Rattle.message.proofs.Computed.{everything}
 use Rattle.transcriber.specs.Sounds.{hardBefore}
-use Rattle.transcriber.proofs.Raw.{outside}
+use Rattle.transcriber.proofs.Raw.{none, neither, outside}
 use Rattle.transcriber.proofs.vowels.vowel_sound.Statement.{statement}
 use Rattle.transcriber.proofs.vowels.vowel_sound.Tie as tie
 
-row-a-requires : tie.Need-row-a-requires
-row-a-requires c κs = search needs
-
-row-o-requires : tie.Need-row-o-requires
-row-o-requires c κs = search needs
-
-by-stress-requires : tie.Need-by-stress-requires
-by-stress-requires c κs = search needs
-
-by-stress-requires-2 : tie.Need-by-stress-requires-2
-by-stress-requires-2 c κs = search needs
-
-row-e-requires : tie.Need-row-e-requires
-row-e-requires c κs = search needs
-
-row-ie-requires : tie.Need-row-ie-requires
-row-ie-requires c κs = search needs
-
-by-stress-requires-3 : tie.Need-by-stress-requires-3
-by-stress-requires-3 c κs = search needs
-
-row-ya-requires : tie.Need-row-ya-requires
-row-ya-requires c κs = search needs
-
-row-i-requires : tie.Need-row-i-requires
-row-i-requires c κs = search needs
-
-returns : tie.Need-returns
-unfolding everything
-returns c q t = ⊎-elim (λ e. rw e (c .row-a .ensures (hardBefore (c .before .before .before .args .m .now) (c .before .before .before .args .i)) q t)) (λ e. rw e (c .row-a .ensures (hardBefore (c .before .before .before .args .m .now) (c .before .before .before .args .i)) q t)) (c .before .match .keys1)
-
-returns-2 : tie.Need-returns-2
-unfolding everything
-returns-2 c q t = ⊎-elim (λ e. rw e (c .row-o .ensures (hardBefore (c .before .before .before .args .m .now) (c .before .before .before .args .i)) q t)) (λ e. rw e (c .row-o .ensures (hardBefore (c .before .before .before .args .m .now) (c .before .before .before .args .i)) q t)) (c .before .match .keys2)
-
-returns-3 : tie.Need-returns-3
-unfolding everything
-returns-3 c q t = ⊎-elim (λ e. rw e (c .by-stress .ensures)) (λ e. rw e (c .by-stress .ensures)) (c .before .match .keys3)
-
-returns-4 : tie.Need-returns-4
-unfolding everything
-returns-4 c q t = ⊎-elim (λ e. rw e (c .by-stress2 .ensures)) (λ e. rw e (c .by-stress2 .ensures)) (c .before .match .keys4)
-
-returns-5 : tie.Need-returns-5
-unfolding everything
-returns-5 c q t = ⊎-elim (λ e. rw e (c .row-e .ensures q t)) (λ e. rw e (c .row-e .ensures q t)) (c .before .match .keys5)
-
-returns-6 : tie.Need-returns-6
-unfolding everything
-returns-6 c q t = ⊎-elim (λ e. rw e (c .row-ie .ensures (hardBefore (c .before .before .before .args .m .now) (c .before .before .before .args .i)) q t)) (λ e. rw e (c .row-ie .ensures (hardBefore (c .before .before .before .args .m .now) (c .before .before .before .args .i)) q t)) (c .before .match .keys6)
-
-returns-7 : tie.Need-returns-7
-unfolding everything
-returns-7 c q t = ⊎-elim (λ e. rw e) (λ e. rw e) (c .match .keys7)
-
-returns-8 : tie.Need-returns-8
-unfolding everything
-returns-8 c q t = ⊎-elim (λ e. rw e (c .by-stress3 .ensures)) (λ e. rw e (c .by-stress3 .ensures)) (c .before .match .keys8)
-
-returns-9 : tie.Need-returns-9
-unfolding everything
-returns-9 c q t = ⊎-elim (λ e. rw e (c .row-ya .ensures (hardBefore (c .before .before .before .args .m .now) (c .before .before .before .args .i)) q t)) (λ e. rw e (c .row-ya .ensures (hardBefore (c .before .before .before .args .m .now) (c .before .before .before .args .i)) q t)) (c .before .match .keys9)
-
-returns-10 : tie.Need-returns-10
-unfolding everything
-returns-10 c q t = ⊎-elim (λ e. rw e (c .row-i .ensures q t)) (λ e. rw e (c .row-i .ensures q t)) (c .before .match .keys10)
+-- is the boundary before the vowel a hard one?
+abbrev hard : tie.Start → Bool
+hard s = hardBefore (s .args .m .now) (s .args .i)
 
 returns-11 : tie.Need-returns-11
 unfolding everything
 returns-11 c q t =
     let r = c .match .rest in
     let s = c .before .before in
-    absurd (false≢true (sym (outside (0xC0 ∷ 0xE0 ∷ 0xCE ∷ 0xEE ∷ 0xD3 ∷ 0xF3 ∷ 0xDB ∷ 0xFB ∷ 0xDD ∷ 0xFD ∷ 0xC5 ∷ 0xE5 ∷ 0xA8 ∷ 0xB8 ∷ 0xDE ∷ 0xFE ∷ 0xDF ∷ 0xFF ∷ 0xC8 ∷ 0xE8 ∷ []) vowelByte (s .args .b) (omega (arith, s .fits .b)) refl
-    (rw (ne-eqb _ _ (λ e. r .0 .0 .0 .0 .0 .0 .0 .0 .0 .1 (inl e)), ne-eqb _ _ (λ e. r .0 .0 .0 .0 .0 .0 .0 .0 .0 .1 (inr e)), ne-eqb _ _ (λ e. r .0 .0 .0 .0 .0 .0 .0 .0 .1 (inl e)), ne-eqb _ _ (λ e. r .0 .0 .0 .0 .0 .0 .0 .0 .1 (inr e)), ne-eqb _ _ (λ e. r .0 .0 .0 .0 .0 .0 .0 .1 (inl e)), ne-eqb _ _ (λ e. r .0 .0 .0 .0 .0 .0 .0 .1 (inr e)), ne-eqb _ _ (λ e. r .0 .0 .0 .0 .0 .0 .1 (inl e)), ne-eqb _ _ (λ e. r .0 .0 .0 .0 .0 .0 .1 (inr e)), ne-eqb _ _ (λ e. r .0 .0 .0 .0 .0 .1 (inl e)), ne-eqb _ _ (λ e. r .0 .0 .0 .0 .0 .1 (inr e)), ne-eqb _ _ (λ e. r .0 .0 .0 .0 .1 (inl e)), ne-eqb _ _ (λ e. r .0 .0 .0 .0 .1 (inr e)), ne-eqb _ _ (λ e. r .0 .0 .0 .1 (inl e)), ne-eqb _ _ (λ e. r .0 .0 .0 .1 (inr e)), ne-eqb _ _ (λ e. r .0 .0 .1 (inl e)), ne-eqb _ _ (λ e. r .0 .0 .1 (inr e)), ne-eqb _ _ (λ e. r .0 .1 (inl e)), ne-eqb _ _ (λ e. r .0 .1 (inr e)), ne-eqb _ _ (λ e. r .1 (inl e)), ne-eqb _ _ (λ e. r .1 (inr e)))))
-    ∙ s .pre .0))
+    let other = neither (r .0 .0 .0 .0 .0 .0 .0 .0 .0 .1) (neither (r .0 .0 .0 .0 .0 .0 .0 .0 .1) (neither (r .0 .0 .0 .0 .0 .0 .0 .1) (neither (r .0 .0 .0 .0 .0 .0 .1) (neither (r .0 .0 .0 .0 .0 .1) (neither (r .0 .0 .0 .0 .1) (neither (r .0 .0 .0 .1) (neither (r .0 .0 .1) (neither (r .0 .1) (neither (r .1) none))))))))) in
+    absurd (false≢true (sym (outside vowelByte other refl (omega (arith, s .fits .b))) ∙ s .pre .0))
 
 pub vowel-sound-spec : {M : Type 1} → statement M
+unfolding everything
 vowel-sound-spec =
     tie.close
     (tie.spec
-    row-a-requires
-    row-o-requires
-    by-stress-requires
-    by-stress-requires-2
-    row-e-requires
-    row-ie-requires
-    by-stress-requires-3
-    row-ya-requires
-    row-i-requires
-    returns
-    returns-2
-    returns-3
-    returns-4
-    returns-5
-    returns-6
-    returns-7
-    returns-8
-    returns-9
-    returns-10
+    (search needs) (search needs) (search needs) (search needs) (search needs) (search needs) (search needs) (search needs) (search needs)
+    (λ c q t. let e = c .row-a .ensures (hard (c .before .before .before)) q t in ⊎-elim (λ k. rw k e) (λ k. rw k e) (c .before .match .keys1))
+    (λ c q t. let e = c .row-o .ensures (hard (c .before .before .before)) q t in ⊎-elim (λ k. rw k e) (λ k. rw k e) (c .before .match .keys2))
+    (λ c q t. ⊎-elim (λ e. rw e (c .by-stress .ensures)) (λ e. rw e (c .by-stress .ensures)) (c .before .match .keys3))
+    (λ c q t. ⊎-elim (λ e. rw e (c .by-stress2 .ensures)) (λ e. rw e (c .by-stress2 .ensures)) (c .before .match .keys4))
+    (λ c q t. ⊎-elim (λ e. rw e (c .row-e .ensures q t)) (λ e. rw e (c .row-e .ensures q t)) (c .before .match .keys5))
+    (λ c q t. let e = c .row-ie .ensures (hard (c .before .before .before)) q t in ⊎-elim (λ k. rw k e) (λ k. rw k e) (c .before .match .keys6))
+    (λ c q t. ⊎-elim (λ e. rw e) (λ e. rw e) (c .match .keys7))
+    (λ c q t. ⊎-elim (λ e. rw e (c .by-stress3 .ensures)) (λ e. rw e (c .by-stress3 .ensures)) (c .before .match .keys8))
+    (λ c q t. let e = c .row-ya .ensures (hard (c .before .before .before)) q t in ⊎-elim (λ k. rw k e) (λ k. rw k e) (c .before .match .keys9))
+    (λ c q t. ⊎-elim (λ e. rw e (c .row-i .ensures q t)) (λ e. rw e (c .row-i .ensures q t)) (c .before .match .keys10))
     returns-11)
