@@ -204,11 +204,8 @@ fn is_sign_class(k: usize) -> bool
 fn has_glide(c: usize, s: Syllable, k: usize) -> bool
     ensures { λ r. ⌜ r ≡ glideBy c (s .cover) k ⌝ }
 {
-    if c == classes::VOWEL_I {
-        return is_sign_class(k);
-    }
     if c != classes::GLIDE_VOWEL {
-        return false;
+        return (c == classes::VOWEL_I) & is_sign_class(k);
     }
     let cover = s.cover;
     match cover {

@@ -14,8 +14,7 @@ has-glide-spec =
     tie.close
     (tie.spec
     (search needs)
-    (λ c. rw (c .before .if1 .taken) (c .is-sign-class .ensures))
-    (λ c. rw (ne-eqb _ _ (c .before .if1 .left), ne-eqb _ _ (c .if2 .taken)))
+    (λ c. rw (ne-eqb _ _ (c .before .if1 .taken), c .is-sign-class .ensures))
     (search needs) (search needs) (search needs)
-    (λ c. rw (c .before .before .if2 .left, c .enum-told .given .1))
-    (λ c. rw (c .before .before .before .if2 .left, c .before .enum-told2 .given .1, or-false (isSignClass (c .before .before .before .before .before .args .k))) (c .is-sign-class2 .ensures)))
+    (λ c. rw (c .before .before .if1 .left, c .enum-told .given .1))
+    (λ c. rw (c .before .before .before .if1 .left, c .before .enum-told2 .given .1, or-false (isSignClass (c .before .before .before .before .args .k))) (c .is-sign-class2 .ensures)))
