@@ -24,11 +24,11 @@ abbrev spoken : Tone → ℕ → ℕ
 spoken tone b = cond (isObstruent b) (toned tone b (writtenCode b)) (writtenCode b)
 
 -- a palatalized sound voices or devoices what its hard sound does
-pub steady : (tone : Tone) (b : ℕ) → isPaired b ≡ true → toneBefore (palatalized (spoken tone b)) ≡ toneBefore (spoken tone b)
+tone-kept : (tone : Tone) (b : ℕ) → isPaired b ≡ true → toneBefore (palatalized (spoken tone b)) ≡ toneBefore (spoken tone b)
 unfolding everything
-steady voiced b h = among-same (λ x. toneBefore (palatalized (spoken voiced x))) (λ x. toneBefore (spoken voiced x)) paired b refl h
-steady voiceless b h = among-same (λ x. toneBefore (palatalized (spoken voiceless x))) (λ x. toneBefore (spoken voiceless x)) paired b refl h
-steady asWritten b h = among-same (λ x. toneBefore (palatalized (spoken asWritten x))) (λ x. toneBefore (spoken asWritten x)) paired b refl h
+tone-kept voiced b h = among-same (λ x. toneBefore (palatalized (spoken voiced x))) (λ x. toneBefore (spoken voiced x)) paired b refl h
+tone-kept voiceless b h = among-same (λ x. toneBefore (palatalized (spoken voiceless x))) (λ x. toneBefore (spoken voiceless x)) paired b refl h
+tone-kept asWritten b h = among-same (λ x. toneBefore (palatalized (spoken asWritten x))) (λ x. toneBefore (spoken asWritten x)) paired b refl h
 
 -- so a consonant's finished code voices or devoices what its code after pass 4 does
 pub consonant-tone : (b : ℕ) (soft : Bool) (tone : Tone) (c : ℕ) → toneBefore (spoken tone b) ≡ toneBefore (consonantCode b soft tone c)
@@ -36,7 +36,7 @@ unfolding consonantCode isSoft
 consonant-tone b soft tone c = by (isPaired b) refl _
   where
     by : (t : Bool) → isPaired b ≡ t → (s : Bool) → toneBefore (spoken tone b) ≡ toneBefore (cond (t && s) (palatalized (spoken tone b)) (spoken tone b))
-    by true h true = sym (steady tone b h)
+    by true h true = sym (tone-kept tone b h)
     by true h false = refl
     by false h s = refl
 

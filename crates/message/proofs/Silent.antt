@@ -29,11 +29,11 @@ unfolding elides elidesAmong elidesT elidesD
 elides-beside p b w = refl
 
 -- no difference between two bytes for a test of consonants
-abbrev pub Alike : ℕ → ℕ → Type 0
-Alike p q = (x : ℕ) → isConsonant x ≡ true → eqb p x ≡ eqb q x
+abbrev pub SameConsonant : ℕ → ℕ → Type 0
+SameConsonant p q = (x : ℕ) → isConsonant x ≡ true → eqb p x ≡ eqb q x
 
 -- so it is with two that are no consonants
-pub alike-none : (p q : ℕ) → isConsonant p ≡ false → isConsonant q ≡ false → Alike p q
+pub alike-none : (p q : ℕ) → isConsonant p ≡ false → isConsonant q ≡ false → SameConsonant p q
 unfolding isConsonant
 alike-none p q n o x h = let l = hardOnly ++ paired ++ softOnly in among-none l p x n h ∙ sym (among-none l q x o h)
 
@@ -43,7 +43,7 @@ unfolding elidesAmong isConsonant among
 plain-stays p b c d n = let l = hardOnly ++ paired ++ softOnly in rw (among-none l b «т» n refl, among-none l b «д» n refl)
 
 -- a letter is as silent beside alike bytes; the second after it counts only where a consonant stands between
-pub alike-elides : (p q b c c′ d d′ : ℕ) → Alike p q → Alike c c′ → (isConsonant c ≡ true → Alike d d′) → elidesAmong p b c d ≡ elidesAmong q b c′ d′
+pub alike-elides : (p q b c c′ d d′ : ℕ) → SameConsonant p q → SameConsonant c c′ → (isConsonant c ≡ true → SameConsonant d d′) → elidesAmong p b c d ≡ elidesAmong q b c′ d′
 unfolding elidesAmong elidesT elidesD everything
 alike-elides p q b c c′ d d′ f g h =
     rw (two «с» «к» refl refl, two «ш» «т» refl refl, f «с» refl, f «н» refl, f «р» refl, f «з» refl, g «с» refl, g «н» refl, g «ч» refl, g «ц» refl)
@@ -67,7 +67,7 @@ vowel-plain p h = among-same isConsonant (λ _. false) (plainVowels ++ softening
 
 module _ (m : List ℕ) (steady : Steady m) where
   -- the letter before a letter, and the byte before it
-  pub alike-before : (i : ℕ) → i ≤ length m → Alike (leftAt m i .p) (letterBefore m i)
+  pub alike-before : (i : ℕ) → i ≤ length m → SameConsonant (leftAt m i .p) (letterBefore m i)
   unfolding leftAt letterBefore letterAt letterOf consonantByte
   alike-before zero h = λ x c. refl
   alike-before (suc i) h = by (isBreak b) refl (isMark b) refl
@@ -75,7 +75,7 @@ module _ (m : List ℕ) (steady : Steady m) where
       b : ℕ
       b = getD m i 0
 
-      by : (s : Bool) → isBreak b ≡ s → (k : Bool) → isMark b ≡ k → Alike (leftAt m (suc i) .p) (small b)
+      by : (s : Bool) → isBreak b ≡ s → (k : Bool) → isMark b ≡ k → SameConsonant (leftAt m (suc i) .p) (small b)
       by true s k e = rw (left-break m i h s) (alike-none 0 (small b) none-plain (break-consonant b s))
       by false s true e = rw (left-mark m i h e) (alike-none (leftAt m i .p) (small b) (vowel-plain (leftAt m i .p) (vowel-before m steady i h e)) (mark-consonant b (steady .bytes i) e))
       by false s false e = rw (left-letter m i h s e) (λ x c. refl)
@@ -100,19 +100,19 @@ module _ (m : List ℕ) (steady : Steady m) where
   letter-past j o = rw (List·getD-eq-default m 0 o)
 
   -- the first letter from a place on, and the byte there
-  pub alike-at : (j : ℕ) → isMark (getD m j 0) ≡ false → Alike (firstByte (wordAt m j)) (letterAt m j)
+  pub alike-at : (j : ℕ) → isMark (getD m j 0) ≡ false → SameConsonant (firstByte (wordAt m j)) (letterAt m j)
   unfolding letterAt letterOf firstByte consonantByte
   alike-at j k =
-      place (Alike (firstByte (wordAt m j)) (letterAt m j)) j
+      place (SameConsonant (firstByte (wordAt m j)) (letterAt m j)) j
       (λ o. rw (word-past j o, letter-past j o) (λ x c. refl))
       (λ h s. rw (word-break m steady j h s) (alike-none 0 (small (getD m j 0)) none-plain (break-consonant (getD m j 0) s)))
       (λ h s. rw (word-letter m steady j h s k) (λ x c. refl))
 
   -- the second letter from a place on, and the byte after it, where the first is a consonant
-  pub alike-second : (j : ℕ) → isMark (getD m j 0) ≡ false → isConsonant (firstByte (wordAt m j)) ≡ true → Alike (secondByte (wordAt m j)) (letterAt m (suc j))
+  pub alike-second : (j : ℕ) → isMark (getD m j 0) ≡ false → isConsonant (firstByte (wordAt m j)) ≡ true → SameConsonant (secondByte (wordAt m j)) (letterAt m (suc j))
   unfolding letterOf firstByte secondByte
   alike-second j k c =
-      place (Alike (secondByte (wordAt m j)) (letterAt m (suc j))) j
+      place (SameConsonant (secondByte (wordAt m j)) (letterAt m (suc j))) j
       (λ o. absurd (false≢true (sym none-plain ∙ rw (word-past j o) at c)))
       (λ h s. absurd (false≢true (sym none-plain ∙ rw (word-break m steady j h s) at c)))
       (λ h s. rw (word-letter m steady j h s k) (alike-at (suc j) (unmarked-after m steady j (consonant-vowel (getD m j 0) (steady .bytes j) (rw (word-letter m steady j h s k) at c)))))

@@ -87,11 +87,11 @@ pub record Demand2 (m : List ℕ) : Type 0 where
   pub joiner : (cuts out out′ : List ℕ) (r : Answer) → JoinPromise m cuts out out′ r
       → Exactly (NoneFits m × Rising m cuts) (Due m cuts (length (joined m cuts)) (length out)) (joined m cuts) (liveCount m cuts) out out′ r
 
--- The first tape is the whole message's, `tape m`; the second is its parts', laid end to end with the marks of the cuts, `joined m cuts`.
+-- The first tape is the whole message's, `tape m`; the second its parts' and the marks of the cuts between them, `joined m cuts`.
 pub record TwoTapes (m cuts : List ℕ) : Type 0 where
   -- each part is an accepted message of its own
   pub parts : EachPart NoneFits m cuts
-  -- the two have equal length, whatever the list
+  -- whatever the list, there are as many codes on the one as on the other
   pub lengths : length (joined m cuts) ≡ length (tape m)
   -- a live cut of the list makes them differ, and nothing else does
   pub equal : (joined m cuts ≡ tape m) ↔ NoneLive m cuts
@@ -101,7 +101,7 @@ pub record TwoTapes (m cuts : List ℕ) : Type 0 where
   -- and a live one is heard there: a code beside that mark is another
   pub differs : (c : ℕ) → CutOf c cuts → isLive m c ≡ true → DiffersAt (tape m) (joined m cuts) (markIndex m c)
 
--- The joiner writes exactly the second tape, and the two tapes are equal exactly when the count that it gives is 0.
+-- The output begins with the second tape, and a count of 0 tells that the first would be no other.
 pub record Joins (m cuts out out′ : List ℕ) (r : Answer) : Type 0 where
   pub written : CarriedOut (joined m cuts) (liveCount m cuts) out out′ r
   pub equal : (joined m cuts ≡ tape m) ↔ (liveOf r ≡ 0)

@@ -28,12 +28,6 @@ accepted c = sym (c .before .before .check .ensures .answer) ∙ c .counts .give
 refused : (c : tie.After-r) → checkOf (c .before .before .before .before .args .m .now) ≡ Refused (c .r .given .0 .0)
 refused c = sym (c .before .before .check .ensures .answer) ∙ c .r .given .1
 
-check-requires : tie.Need-check-requires
-check-requires c κs = search needs
-
-enum-known-counts : tie.Need-enum-known-counts
-enum-known-counts c = search needs
-
 cast-t6 : tie.Need-cast-t6
 unfolding checkedCodes checkedNames
 cast-t6 c = let a = c .before .before in let f = rw (accepted a) at (small (a .before .before)) in omega (arith, f .codes, f .names)
@@ -41,12 +35,6 @@ cast-t6 c = let a = c .before .before in let f = rw (accepted a) at (small (a .b
 cast-t7 : tie.Need-cast-t7
 unfolding checkedCodes checkedNames
 cast-t7 c = let a = c .before .before .before in let f = rw (accepted a) at (small (a .before .before)) in omega (arith, f .codes, f .names)
-
-enum-known-r : tie.Need-enum-known-r
-enum-known-r c = search needs
-
-cast-t8 : tie.Need-cast-t8
-cast-t8 c = search needs
 
 cast-t9 : tie.Need-cast-t9
 unfolding checkedPlace
@@ -64,12 +52,12 @@ pub govorun-check-spec : {M : Type 1} → statement M
 govorun-check-spec =
     tie.close
     (tie.spec
-    check-requires
-    enum-known-counts
+    (λ c κs. search needs)
+    (λ c. search needs)
     cast-t6
     cast-t7
-    enum-known-r
-    cast-t8
+    (λ c. search needs)
+    (λ c. search needs)
     cast-t9
     returns
     returns-2)

@@ -6,20 +6,14 @@ use borrow.Author.Needs.{needs}
 use Rattle.capi.proofs.govorun_join.Statement.{statement}
 use Rattle.capi.proofs.govorun_join.Tie as tie
 
-join-requires : tie.Need-join-requires
-join-requires c κs = search needs
-
 say-requires : tie.Need-say-requires
 say-requires c κs =
     let r = c .before .before in
     let s = r .before .before .before .before in
     rw (r .join .ensures .answer) (join-small (s .before .args .m .now) (s .before .args .cuts .now) (length (s .before .args .out .now)))
 
-same-length : tie.Need-same-length
-same-length c = search needs
-
 returns : tie.Need-returns
 returns c = let r = c .before .before .before in record { answer = r .join .result; promise = r .join .ensures; said = c .say .ensures }
 
 pub govorun-join-spec : {M : Type 1} → statement M
-govorun-join-spec = tie.close (tie.spec join-requires say-requires same-length returns)
+govorun-join-spec = tie.close (tie.spec (λ c κs. search needs) say-requires (λ c. search needs) returns)

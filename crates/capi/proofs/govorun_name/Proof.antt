@@ -6,20 +6,14 @@ use borrow.Author.Needs.{needs}
 use Rattle.capi.proofs.govorun_name.Statement.{statement}
 use Rattle.capi.proofs.govorun_name.Tie as tie
 
-name-requires : tie.Need-name-requires
-name-requires c κs = search needs
-
 say-requires : tie.Need-say-requires
 say-requires c κs =
     let r = c .before .before in
     let s = r .before .before .before in
     rw (r .name .ensures .answer) (name-small (s .before .args .m .now) (length (s .before .args .out .now)))
 
-same-length : tie.Need-same-length
-same-length c = search needs
-
 returns : tie.Need-returns
 returns c = let r = c .before .before .before in record { answer = r .name .result; promise = r .name .ensures; said = c .say .ensures }
 
 pub govorun-name-spec : {M : Type 1} → statement M
-govorun-name-spec = tie.close (tie.spec name-requires say-requires same-length returns)
+govorun-name-spec = tie.close (tie.spec (λ c κs. search needs) say-requires (λ c. search needs) returns)

@@ -6,20 +6,14 @@ use borrow.Author.Needs.{needs}
 use Rattle.capi.proofs.govorun_transcribe.Statement.{statement}
 use Rattle.capi.proofs.govorun_transcribe.Tie as tie
 
-transcribe-requires : tie.Need-transcribe-requires
-transcribe-requires c κs = search needs
-
 say-requires : tie.Need-say-requires
 say-requires c κs =
     let r = c .before .before in
     let s = r .before .before .before in
     rw (r .transcribe .ensures .answer) (tape-small (s .before .args .m .now) (length (s .before .args .out .now)))
 
-same-length : tie.Need-same-length
-same-length c = search needs
-
 returns : tie.Need-returns
 returns c = let r = c .before .before .before in record { answer = r .transcribe .result; promise = r .transcribe .ensures; said = c .say .ensures }
 
 pub govorun-transcribe-spec : {M : Type 1} → statement M
-govorun-transcribe-spec = tie.close (tie.spec transcribe-requires say-requires same-length returns)
+govorun-transcribe-spec = tie.close (tie.spec (λ c κs. search needs) say-requires (λ c. search needs) returns)

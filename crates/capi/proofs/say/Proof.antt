@@ -7,9 +7,6 @@ use borrow.Author.Needs.{needs}
 use Rattle.capi.proofs.say.Statement.{statement}
 use Rattle.capi.proofs.say.Tie as tie
 
-enum-known-a : tie.Need-enum-known-a
-enum-known-a c = search needs
-
 cast-t6 : tie.Need-cast-t6
 unfolding lengthOf liveOf
 cast-t6 c = let f = rw (c .before .a .given .1) at (c .before .before .before .pre) in omega (arith, f .length, f .live)
@@ -17,12 +14,6 @@ cast-t6 c = let f = rw (c .before .a .given .1) at (c .before .before .before .p
 cast-t7 : tie.Need-cast-t7
 unfolding lengthOf liveOf
 cast-t7 c = let f = rw (c .before .a .given .1) at (c .before .before .before .pre) in omega (arith, f .length, f .live)
-
-enum-known-a-2 : tie.Need-enum-known-a-2
-enum-known-a-2 c = search needs
-
-cast-t8 : tie.Need-cast-t8
-cast-t8 c = search needs
 
 cast-t9 : tie.Need-cast-t9
 unfolding placeOf
@@ -37,6 +28,4 @@ unfolding numberOf placeOf lengthOf liveOf
 returns-2 c = rw (c .before .before .before .a2 .given .1) (record { number = refl; place = refl; length = refl; live = refl })
 
 pub say-spec : {M : Type 1} → statement M
-say-spec =
-    tie.close
-    (tie.spec enum-known-a cast-t6 cast-t7 enum-known-a-2 cast-t8 cast-t9 returns returns-2)
+say-spec = tie.close (tie.spec (λ c. search needs) cast-t6 cast-t7 (λ c. search needs) (λ c. search needs) cast-t9 returns returns-2)

@@ -11,15 +11,6 @@ use Rattle.govorun.proofs.Texts.{put-over}
 use Rattle.govorun.proofs.text.print_message.Statement.{statement}
 use Rattle.govorun.proofs.text.print_message.Tie as tie
 
-put-answer-requires : tie.Need-put-answer-requires
-put-answer-requires c κs = search needs
-
-slice-aggregate-put-bytes : tie.Need-slice-aggregate-put-bytes
-slice-aggregate-put-bytes c = search needs
-
-put-bytes-requires : tie.Need-put-bytes-requires
-put-bytes-requires c κs = search needs
-
 returns : tie.Need-returns
 unfolding printed ascii
 returns c =
@@ -29,5 +20,4 @@ returns c =
     ((h, sym (length-take-le _ _ h)), p .bytes)
 
 pub print-message-spec : {M : Type 1} → statement M
-print-message-spec =
-    tie.close (tie.spec put-answer-requires slice-aggregate-put-bytes put-bytes-requires returns)
+print-message-spec = tie.close (tie.spec (λ c κs. search needs) (λ c. search needs) (λ c κs. search needs) returns)

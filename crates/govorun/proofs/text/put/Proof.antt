@@ -5,17 +5,8 @@ use Rattle.govorun.proofs.Texts.{put-one}
 use Rattle.govorun.proofs.text.put.Statement.{statement}
 use Rattle.govorun.proofs.text.put.Tie as tie
 
-slice-write-text : tie.Need-slice-write-text
-slice-write-text c = search needs
-
-add-result : tie.Need-add-result
-add-result c = search needs
-
-same-length : tie.Need-same-length
-same-length c = search needs
-
 returns : tie.Need-returns
 returns c = put-one (c .args .text .now) (c .args .at) (c .args .byte) (c .pre)
 
 pub put-spec : {M : Type 1} → statement M
-put-spec = tie.close (tie.spec slice-write-text add-result same-length returns)
+put-spec = tie.close (tie.spec (λ c. search needs) (λ c. search needs) (λ c. search needs) returns)

@@ -36,15 +36,6 @@ refused c =
     let t = c .before .before .before in
     answer-refused (t .before .before .before .before .args .m .now) _ (sym (c .r .given .1) ∙ t .transcribe .ensures .answer)
 
-slice-aggregate-transcribe : tie.Need-slice-aggregate-transcribe
-slice-aggregate-transcribe c = search needs
-
-transcribe-requires : tie.Need-transcribe-requires
-transcribe-requires c κs = search needs
-
-enum-known-length : tie.Need-enum-known-length
-enum-known-length c = search needs
-
 array-share-prefix-codes : tie.Need-array-share-prefix-codes
 array-share-prefix-codes c = omega (arith, written (c .before) .0, c .before .before .before .before .transcribe .kept .1 .0)
 
@@ -56,23 +47,14 @@ put-codes-requires c κs =
     let w = written (c .before .before .before) in
     omega (arith, w .0, w .1)
 
-enum-known-r : tie.Need-enum-known-r
-enum-known-r c = search needs
-
 put-refusal-requires : tie.Need-put-refusal-requires
 put-refusal-requires c κs = omega (arith, refused (c .before .before) .1)
-
-same-length : tie.Need-same-length
-same-length c = search needs
 
 returns : tie.Need-returns
 returns c =
     let p = c .before .before in
     let w = written (p .before .before .before .before) in
     (rw (w .2) (p .put-codes .ensures .0), omega (arith, p .put-codes .ensures .1, w .0, w .1))
-
-same-length-2 : tie.Need-same-length-2
-same-length-2 c = search needs
 
 returns-2 : tie.Need-returns-2
 returns-2 c =
@@ -84,15 +66,15 @@ pub put-answer-spec : {M : Type 1} → statement M
 put-answer-spec =
     tie.close
     (tie.spec
-    slice-aggregate-transcribe
-    transcribe-requires
-    enum-known-length
+    (λ c. search needs)
+    (λ c κs. search needs)
+    (λ c. search needs)
     array-share-prefix-codes
     slice-aggregate-put-codes
     put-codes-requires
-    enum-known-r
+    (λ c. search needs)
     put-refusal-requires
-    same-length
+    (λ c. search needs)
     returns
-    same-length-2
+    (λ c. search needs)
     returns-2)

@@ -8,9 +8,6 @@ use Rattle.govorun.proofs.Texts.{put-over, code-more, code-last, code-s
 use Rattle.govorun.proofs.text.put_code.Statement.{statement}
 use Rattle.govorun.proofs.text.put_code.Tie as tie
 
-shared-slice-read-put-decimal : tie.Need-shared-slice-read-put-decimal
-shared-slice-read-put-decimal c = search needs
-
 cast-put-decimal : tie.Need-cast-put-decimal
 cast-put-decimal c = omega (arith, c .shared-slice-known2 .given (c .before .before .before .before .args .i))
 
@@ -19,18 +16,12 @@ put-decimal-requires c κs =
     let s = c .before .before .before .before in
     omega (arith, code-size (s .args .codes .now) (s .args .i))
 
-add-if1 : tie.Need-add-if1
-add-if1 c = search needs
-
 put-requires : tie.Need-put-requires
 put-requires c κs =
     let i = c .before in
     let d = i .before .before .before in
     let s = d .before .before .before .before .before in
     omega (arith, d .put-decimal .ensures .place, simp length-append at (ap length (code-more (s .args .codes .now) (s .args .i) (i .if1 .taken))))
-
-same-length : tie.Need-same-length
-same-length c = search needs
 
 returns : tie.Need-returns
 returns c =
@@ -39,9 +30,6 @@ returns c =
     let d = i .before .before .before in
     rw (code-more _ _ (i .if1 .taken)) (put-over (d .put-decimal .ensures) (p .put .ensures))
 
-same-length-2 : tie.Need-same-length-2
-same-length-2 c = search needs
-
 returns-2 : tie.Need-returns-2
 returns-2 c = rw (code-last _ _ (c .if1 .left)) (c .before .before .before .put-decimal .ensures)
 
@@ -49,12 +37,12 @@ pub put-code-spec : {M : Type 1} → statement M
 put-code-spec =
     tie.close
     (tie.spec
-    shared-slice-read-put-decimal
+    (λ c. search needs)
     cast-put-decimal
     put-decimal-requires
-    add-if1
+    (λ c. search needs)
     put-requires
-    same-length
+    (λ c. search needs)
     returns
-    same-length-2
+    (λ c. search needs)
     returns-2)

@@ -27,21 +27,12 @@ put-code-requires c κs =
     let z = codes-size (s .args .codes .now) (λ j. omega (arith, l .before .before .shared-slice-known .given j)) in
     (i .loop-test .taken, omega (arith, r, z, l .loop .inv .1, s .pre))
 
-add-i : tie.Need-add-i Inv-loop μ-loop
-add-i c = omega arith
-
-loop-less : tie.Need-loop-less Inv-loop μ-loop
-loop-less c = omega arith
-
 loop-again : tie.Need-loop-again Inv-loop μ-loop
 loop-again c =
     let p = c .before .before in
     let i = p .before .before in
     let l = i .before in
     (omega arith, omega arith, rw (add-one (l .loop .i)) (printed-more _ _ _ _ (l .loop .inv .2) _ _ (i .loop-test .taken) (p .put-code .ensures)))
-
-same-length : tie.Need-same-length Inv-loop μ-loop
-same-length c = omega arith
 
 returns : tie.Need-returns Inv-loop μ-loop
 returns c =
@@ -58,8 +49,8 @@ put-codes-spec =
     μ-loop
     loop-holds
     put-code-requires
-    add-i
-    loop-less
+    (λ c. omega arith)
+    (λ c. omega arith)
     loop-again
-    same-length
+    (λ c. omega arith)
     returns)

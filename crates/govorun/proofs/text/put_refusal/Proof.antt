@@ -8,12 +8,6 @@ use Rattle.govorun.proofs.Texts.{put-over, refusal-length}
 use Rattle.govorun.proofs.text.put_refusal.Statement.{statement}
 use Rattle.govorun.proofs.text.put_refusal.Tie as tie
 
-cast-number : tie.Need-cast-number
-cast-number c = search needs
-
-slice-aggregate-put-bytes : tie.Need-slice-aggregate-put-bytes
-slice-aggregate-put-bytes c = search needs
-
 put-bytes-requires : tie.Need-put-bytes-requires
 put-bytes-requires c κs =
     let s = c .before .before .before .before in
@@ -24,9 +18,6 @@ put-decimal-requires c κs =
     let b = c .before .before .before in
     let s = b .before .before .before .before .before in
     omega (arith, s .pre, refusal-length (s .args .r) [], b .put-bytes .ensures .place)
-
-slice-aggregate-put-bytes-2 : tie.Need-slice-aggregate-put-bytes-2
-slice-aggregate-put-bytes-2 c = search needs
 
 put-bytes-requires-2 : tie.Need-put-bytes-requires-2
 put-bytes-requires-2 c κs =
@@ -43,9 +34,6 @@ put-decimal-requires-2 c κs =
     let s = b .before .before .before .before .before in
     omega (arith, s .pre, refusal-length (s .args .r) [], b .put-bytes .ensures .place, d .put-decimal .ensures .place, a .put-bytes2 .ensures .place)
 
-same-length : tie.Need-same-length
-same-length c = search needs
-
 returns : tie.Need-returns
 unfolding printedAnswer ascii
 returns c =
@@ -59,12 +47,12 @@ pub put-refusal-spec : {M : Type 1} → statement M
 put-refusal-spec =
     tie.close
     (tie.spec
-    cast-number
-    slice-aggregate-put-bytes
+    (λ c. search needs)
+    (λ c. search needs)
     put-bytes-requires
     put-decimal-requires
-    slice-aggregate-put-bytes-2
+    (λ c. search needs)
     put-bytes-requires-2
     put-decimal-requires-2
-    same-length
+    (λ c. search needs)
     returns)

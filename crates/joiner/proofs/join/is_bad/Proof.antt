@@ -17,15 +17,9 @@ returns-2 : tie.Need-returns-2
 unfolding row12
 returns-2 c = rw (lt-leb _ _ (c .if2 .taken), or-true)
 
-shared-slice-read-is-break : tie.Need-shared-slice-read-is-break
-shared-slice-read-is-break c = search needs
-
-is-break-requires : tie.Need-is-break-requires
-is-break-requires c κs = search needs
-
 returns-3 : tie.Need-returns-3
 unfolding row12
 returns-3 c = rw (c .is-break .ensures, le-leb _ _ (c .before .before .if2 .left), or-false)
 
 pub is-bad-spec : {M : Type 1} → statement M
-is-bad-spec = tie.close (tie.spec returns returns-2 shared-slice-read-is-break is-break-requires returns-3)
+is-bad-spec = tie.close (tie.spec returns returns-2 (λ c. search needs) (λ c κs. search needs) returns-3)

@@ -4,9 +4,6 @@ use Rattle.spec.specs.Letters.{isBreak}
 use Rattle.joiner.proofs.join.is_break.Statement.{statement}
 use Rattle.joiner.proofs.join.is_break.Tie as tie
 
-returns : tie.Need-returns
-unfolding isBreak
-returns c = cc
-
 pub is-break-spec : {M : Type 1} → statement M
-is-break-spec = tie.close (tie.spec returns)
+unfolding isBreak
+is-break-spec = tie.close (tie.spec (λ c. cc))

@@ -10,26 +10,11 @@ use Rattle.joiner.proofs.Answering.{join-refused, join-cut, join-short,
 use Rattle.joiner.proofs.join.join.Statement.{statement}
 use Rattle.joiner.proofs.join.join.Tie as tie
 
-check-requires : tie.Need-check-requires
-check-requires c κs = search needs
-
-enum-known-checked : tie.Need-enum-known-checked
-enum-known-checked c = search needs
-
-enum-told : tie.Need-enum-told
-enum-told c = search needs
-
-refused-requires : tie.Need-refused-requires
-refused-requires c κs = search needs
-
 returns : tie.Need-returns
 unfolding afterCheck
 returns c =
     let e = c .before .enum-told .given .1 in
     rw (c .refused .ensures, e) (join-refused _ _ _ (sym (c .before .before .before .check .ensures .answer) ∙ e))
-
-bad-cut-requires : tie.Need-bad-cut-requires
-bad-cut-requires c κs = search needs
 
 -- the check accepted
 accepted : (c : tie.After-bad-cut) → checkOf (c .before .before .before .before .before .before .before .before .args .m .now) ≡ Accepted (c .before .before .checked .given .0 .0)
@@ -43,15 +28,6 @@ returns-2 c =
 returns-3 : tie.Need-returns-3
 returns-3 c = let b = c .before .before in join-short _ _ _ (accepted b) (sym (b .bad-cut .ensures) ∙ c .before .if1 .left) (c .if2 .taken)
 
-class-table-requires : tie.Need-class-table-requires
-class-table-requires c κs = search needs
-
-sound-table-requires : tie.Need-sound-table-requires
-sound-table-requires c κs = search needs
-
-slice-relend-prefix-write-joined : tie.Need-slice-relend-prefix-write-joined
-slice-relend-prefix-write-joined c = search needs
-
 slice-aggregate-write-joined : tie.Need-slice-aggregate-write-joined
 slice-aggregate-write-joined c = sym (length-take-le _ _ (c .before .before .before .if2 .left))
 
@@ -61,9 +37,6 @@ write-joined-requires c κs =
     let f = a .before .before in
     let b = f .before .before in
     (a .before .class-table .ensures, a .sound-table .ensures, tape-due _ _ _ (accepted b) (sym (b .bad-cut .ensures) ∙ f .before .if1 .left) (f .if2 .left))
-
-same-length : tie.Need-same-length
-same-length c = search needs
 
 returns-4 : tie.Need-returns-4
 returns-4 c =
@@ -76,18 +49,18 @@ pub join-spec : {M : Type 1} → statement M
 join-spec =
     tie.close
     (tie.spec
-    check-requires
-    enum-known-checked
-    enum-told
-    refused-requires
+    (λ c κs. search needs)
+    (λ c. search needs)
+    (λ c. search needs)
+    (λ c κs. search needs)
     returns
-    bad-cut-requires
+    (λ c κs. search needs)
     returns-2
     returns-3
-    class-table-requires
-    sound-table-requires
-    slice-relend-prefix-write-joined
+    (λ c κs. search needs)
+    (λ c κs. search needs)
+    (λ c. search needs)
     slice-aggregate-write-joined
     write-joined-requires
-    same-length
+    (λ c. search needs)
     returns-4)

@@ -28,9 +28,6 @@ loop-holds c = looks-first (c .before .pre)
 shared-slice-read-is-between : tie.Need-shared-slice-read-is-between Inv-loop μ-loop
 shared-slice-read-is-between c = looks-within (c .before .loop .inv)
 
-is-between-requires : tie.Need-is-between-requires Inv-loop μ-loop
-is-between-requires c κs = tt
-
 sub-j-2 : tie.Need-sub-j-2 Inv-loop μ-loop
 sub-j-2 c = looks-positive (c .before .before .before .loop .inv) (fails c)
 
@@ -52,7 +49,7 @@ last-outside-spec =
     sub-j
     loop-holds
     shared-slice-read-is-between
-    is-between-requires
+    (λ c κs. tt)
     sub-j-2
     loop-less
     loop-again

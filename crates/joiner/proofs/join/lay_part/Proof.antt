@@ -14,12 +14,6 @@ use Rattle.joiner.proofs.join.lay_part.Tie as tie
 abbrev entry : tie.After-changes-at → tie.Start
 entry c = c .before .before .before .before .before .before .before .before
 
-mul-c : tie.Need-mul-c
-mul-c c = search needs
-
-shared-slice-read-c : tie.Need-shared-slice-read-c
-shared-slice-read-c c = search needs
-
 mark-of-requires : tie.Need-mark-of-requires
 mark-of-requires c κs = cut-reach (c .before .before .before .before .before .pre .2)
 
@@ -43,12 +37,6 @@ write-part-requires c κs = let h = c .before .before in
     let d = entry h in
     (d .pre .0, d .pre .1, cut-part (d .pre .2) (h .before .before .mark-of .ensures) (h .changes-at .ensures))
 
-cast-live : tie.Need-cast-live
-cast-live c = search needs
-
-same-length : tie.Need-same-length
-same-length c = search needs
-
 returns : tie.Need-returns
 returns c = let w = c .before .before .before in
     let h = w .before .before .before in
@@ -67,8 +55,8 @@ pub lay-part-spec : {M : Type 1} → statement M
 lay-part-spec =
     tie.close
     (tie.spec
-    mul-c
-    shared-slice-read-c
+    (λ c. search needs)
+    (λ c. search needs)
     mark-of-requires
     changes-at-requires
     add-write-part
@@ -76,7 +64,7 @@ lay-part-spec =
     part-write-part-start
     part-write-part-end
     write-part-requires
-    cast-live
+    (λ c. search needs)
     add-live
-    same-length
+    (λ c. search needs)
     returns)

@@ -54,18 +54,12 @@ write-tape-requires c κs = let k = c .before .before .before in
 loop-holds : tie.Need-loop-holds Inv-loop μ-loop
 loop-holds c = laid-none _ _ _ _ _ (c .before .before .before .before .before .before .before .pre .2 .fits) (c .before .before .write-tape .ensures)
 
-sub-k : tie.Need-sub-k Inv-loop μ-loop
-sub-k c = omega arith
-
 lay-part-requires : tie.Need-lay-part-requires Inv-loop μ-loop
 lay-part-requires c κs =
     let i = c .before in
     let k = i .before .before .before .before .before .before .before .before in
     let d = k .before .pre in
     (d .0, d .1, record { counts = d .2 .counts; accepted = d .2 .accepted; rising = d .2 .rising; steady = steady k; laid = inside i })
-
-loop-less : tie.Need-loop-less Inv-loop μ-loop
-loop-less c = omega arith
 
 loop-again : tie.Need-loop-again Inv-loop μ-loop
 loop-again c = c .before .before .lay-part .ensures
@@ -100,9 +94,9 @@ write-joined-spec =
     μ-loop
     write-tape-requires
     loop-holds
-    sub-k
+    (λ c. omega arith)
     lay-part-requires
-    loop-less
+    (λ c. omega arith)
     loop-again
     slice-aggregate-write-part
     write-part-requires

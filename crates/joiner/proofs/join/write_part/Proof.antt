@@ -9,12 +9,6 @@ use Rattle.spec.specs.Tape.{tape}
 use Rattle.joiner.proofs.join.write_part.Statement.{statement}
 use Rattle.joiner.proofs.join.write_part.Tie as tie
 
-write-tape-requires : tie.Need-write-tape-requires
-write-tape-requires c κs = search needs
-
-same-length : tie.Need-same-length
-same-length c = search needs
-
 returns : tie.Need-returns
 returns c =
     let w = c .before .before in
@@ -26,4 +20,4 @@ returns-2 : tie.Need-returns-2
 returns-2 c = c .before .before .before .pre .2 .stands (c .if1 .left)
 
 pub write-part-spec : {M : Type 1} → statement M
-write-part-spec = tie.close (tie.spec write-tape-requires same-length returns returns-2)
+write-part-spec = tie.close (tie.spec (λ c κs. search needs) (λ c. search needs) returns returns-2)

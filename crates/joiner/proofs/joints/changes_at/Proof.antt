@@ -22,33 +22,9 @@ hardness : (c : tie.After-is-high) → let s = c .before .before .before .before
     (c .is-high .result && isIOrE (letterAt (s .m .now) (s .c + 1))) ≡ changedAfter (s .m .now) (suc (s .c))
 hardness c = rw (c .is-high .ensures) (hardness-told (c .before .before .before .before .before .before .pre))
 
-sub-is-voiced : tie.Need-sub-is-voiced
-sub-is-voiced c = search needs
-
-shared-slice-read-is-voiced : tie.Need-shared-slice-read-is-voiced
-shared-slice-read-is-voiced c = search needs
-
-is-voiced-requires : tie.Need-is-voiced-requires
-is-voiced-requires c κs = search needs
-
-add-is-high : tie.Need-add-is-high
-add-is-high c = search needs
-
-shared-slice-read-is-high : tie.Need-shared-slice-read-is-high
-shared-slice-read-is-high c = search needs
-
-is-high-requires : tie.Need-is-high-requires
-is-high-requires c κs = search needs
-
 add-letter-at : tie.Need-add-letter-at
 add-letter-at c = let s = c .before .before .before .before .before .before .before in
     omega (arith, break-within (s .args .m .now) (s .args .c) (s .pre .break))
-
-letter-at-requires : tie.Need-letter-at-requires
-letter-at-requires c κs = search needs
-
-is-i-or-e-requires : tie.Need-is-i-or-e-requires
-is-i-or-e-requires c κs = search needs
 
 returns : tie.Need-returns
 returns c = record { before = voice (c .before .before .before .before .before); after = c .is-i-or-e .ensures ∙ rw (c .before .letter-at .ensures) (rw (c .before .before .if1 .taken) at (hardness (c .before .before .before))) }
@@ -60,14 +36,14 @@ pub changes-at-spec : {M : Type 1} → statement M
 changes-at-spec =
     tie.close
     (tie.spec
-    sub-is-voiced
-    shared-slice-read-is-voiced
-    is-voiced-requires
-    add-is-high
-    shared-slice-read-is-high
-    is-high-requires
+    (λ c. search needs)
+    (λ c. search needs)
+    (λ c κs. search needs)
+    (λ c. search needs)
+    (λ c. search needs)
+    (λ c κs. search needs)
     add-letter-at
-    letter-at-requires
-    is-i-or-e-requires
+    (λ c κs. search needs)
+    (λ c κs. search needs)
     returns
     returns-2)

@@ -13,14 +13,14 @@ use Rattle.laws.proofs.Classes.{among-same}
 use Rattle.message.specs.Classes.{followsElided, foldOf}
 use Rattle.message.proofs.Bytes.{below-same}
 use Rattle.message.proofs.Elided.{afterSilent, before-other}
-use Rattle.message.proofs.Silent.{Alike, alike-elides}
+use Rattle.message.proofs.Silent.{SameConsonant, alike-elides}
 use Rattle.message.proofs.Computed.{everything}
 use borrow.Author.Needs.{needs}
 use Rattle.message.proofs.letters.elides_byte.Statement.{statement}
 use Rattle.message.proofs.letters.elides_byte.Tie as tie
 
 -- each consonant is told alike, by one computation
-same : (b : ℕ) → b < 256 → Alike (foldOf b) (small b)
+same : (b : ℕ) → b < 256 → SameConsonant (foldOf b) (small b)
 unfolding everything
 same b h x i =
     let l = hardOnly ++ paired ++ softOnly in
