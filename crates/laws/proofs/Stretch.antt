@@ -1,12 +1,12 @@
 -- The tape of a stretch of a message: a break splits it in two, since nothing but the two bits crosses a break; and what the bits change, by its first and last word.
 -- Assumes nothing.
-use Prim.Native.Nat.{ℕ, zero, suc}
-use mathlib.Core.Path.{_≡_, refl, ap, _∙_}
+use Prim.Native.Nat.{ℕ}
+use mathlib.Core.Path.{_≡_, refl, ap}
 use mathlib.Core.Bool.{Bool, true, false, _&&_}
 use mathlib.Core.List.{List, [], _∷_, _++_, append-assoc}
 use native.Mathlib.Omega.{arith}
 use lib.Dec.{eqb}
-use lib.ListN.{length, drop, getD, length-append}
+use lib.ListN.{length, length-append}
 use Rattle.spec.specs.Alphabet.{pause}
 use Rattle.spec.specs.Tables.{among}
 use Rattle.spec.specs.Letters.{Letter, Message, last, more, read, putLetter, beginsWithMark, firstWord, lastWord, isGap, isBreak}
@@ -65,17 +65,6 @@ pub voices-first : (t : List ℕ) → voices t ≡ isVoicing (firstCode t)
 unfolding voices firstCode isVoicing among
 voices-first [] = refl
 voices-first (c ∷ t) = refl
-
--- so do the sounds from an index on
-pub voices-at : (t : List ℕ) (k : ℕ) → voices (drop k t) ≡ isVoicing (getD t k 0)
-unfolding firstCode
-voices-at t k = voices-first (drop k t) ∙ ap isVoicing (at t k)
-  where
-    at : (t : List ℕ) (k : ℕ) → firstCode (drop k t) ≡ getD t k 0
-    at [] zero = refl
-    at [] (suc k) = refl
-    at (c ∷ t) zero = refl
-    at (c ∷ t) (suc k) = at t k
 
 -- The tape of two stretches with a break between them: each with the bits that come from the other, and the mark of the break.
 pub segment-join : (h n : Bool) (a : Message) (x : ℕ) (b : Message)

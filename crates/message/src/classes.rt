@@ -1,8 +1,6 @@
 // The numbers that code and tables agree on: classes of bytes, sizes of tables, units of their entries.
 
-// The class of each byte (specs/Classes.antt, classOf). Signs, consonants and vowels are ranges, so a test of them is two comparisons.
-pub const UNNAMED: usize = 0;
-
+// The class of each byte (specs/Classes.antt, classOf), 0 for one that no message may have. Signs, consonants and vowels are ranges, so a test of them is two comparisons.
 pub const MARK: usize = 1;
 
 pub const GAP: usize = 2;

@@ -4,7 +4,7 @@ ghost use Prim.Native.Nat.{_<_};
 ghost use lib.ListN.{length};
 ghost use Rattle.spec.specs.Letters.{small};
 ghost use Rattle.spec.specs.Elision.{elidesT, elidesD, elidesAmong};
-ghost use Rattle.message.specs.Classes.{letterAt, letterBefore, elidedAt, followsElided, foldOf, isTOrD};
+ghost use Rattle.message.specs.Classes.{letterAt, elidedAt, followsElided, foldOf, isTOrD};
 use crate::alphabet::CAPITAL_DE;
 use crate::alphabet::CAPITAL_IO;
 use crate::alphabet::CAPITAL_TE;
@@ -40,16 +40,6 @@ pub fn letter_at(m: &[u8], i: usize) -> u8
     ensures { λ r. ⌜ r ≡ letterAt (now (m .entry)) i ⌝ }
 {
     if i < m.len() { small_letter(m[i]) } else { 0 }
-}
-
-// The small letter before place i, or 0 at the start.
-pub fn letter_before(m: &[u8], i: usize) -> u8
-    ensures { λ r. ⌜ r ≡ letterBefore (now (m .entry)) i ⌝ }
-{
-    if i == 0 {
-        return 0;
-    }
-    letter_at(m, i - 1)
 }
 
 // т after p and before c and d: after с before ск or н; after н before ск.

@@ -8,7 +8,7 @@ use native.Mathlib.Omega.{arith}
 use lib.Dec.{eqb}
 use borrow.Author.Needs.{needs}
 use borrow.Author.Tests.{ne-eqb}
-use Rattle.spec.specs.Alphabet.{pause}
+use Rattle.spec.specs.Alphabet.{gap, pause}
 use Rattle.spec.specs.Letters.{small, isGap, isHardOnly}
 use Rattle.spec.specs.Vowels.{hardEnd}
 use Rattle.message.proofs.Bytes.{below-same}
@@ -38,7 +38,10 @@ ends : (c : tie.After-byte-before)
     hardBefore (s .args .m .now) (s .args .i)
     ≡ cond (isSoftSign (c .byte-before .result)) (isHardOnly (small (byteBefore (s .args .m .now) (s .args .i - 2)))) (isHardOrPaired (small (c .byte-before .result)))
 unfolding hardBefore isGap
-ends c = let s = c .before .before .before in rw (← s .pre .byte, c .before .if1 .left, ← c .byte-before .ensures) (end-by _ (c .byte-before .result) (omega (arith, c .byte-before .ok)))
+ends c =
+    let s = c .before .before .before in
+    let g : s .args .p ≡ gap = c .before .if1 .left in
+    rw (← s .pre .byte, g, ← c .byte-before .ensures) (end-by _ (c .byte-before .result) (omega (arith, c .byte-before .ok)))
 
 sub-byte-before-2 : tie.Need-sub-byte-before-2
 sub-byte-before-2 c =
