@@ -1,23 +1,9 @@
 -- The text grows at its end: what is put after other bytes and those bytes together were put at the place of the latter. How long a number, the codes and an answer are in it.
--- Assumes nothing.
-use Prim.Native.Nat.{ℕ, zero, suc, _+_, _-_, _*_, _/_, _%_, _^_, _<_, _≤_}
-use native.Mathlib.Omega.{arith}
-use native.Mathlib.Nat.{pow-suc}
-use native.Mathlib.Numerals.{add-one}
-use mathlib.Core.Path.{_≡_, refl, sym, ap, _∙_}
-use mathlib.Core.Logic.{⊎-elim}
-use mathlib.Core.List.{List, [], _∷_, _++_, append-assoc, append-nil}
-use lib.ListN.{length, take, drop, set, getD, length-append, length-drop, drop-of-length-le}
-use lib.Seq.{take-suc-set, take-at, drop-cons}
-use borrow.Author.Tests.{le-leb, lt-leb, lt-ltb, le-ltb}
-use Rattle.spec.specs.Printed.{ascii, lastDigits, decimal, printedCodes, printedAnswer}
-use Rattle.spec.specs.Tape.{tape}
-use Rattle.spec.specs.Answers.{numberOf, placeOf, lengthOf, outputAfter, tapeAnswer}
-use Rattle.spec.specs.declared.Refusal.{Refusal}
-use Rattle.spec.specs.declared.Answer.the-variants.{Written, Refused}
-use Rattle.laws.proofs.Bounds.{tape-small}
-use Rattle.laws.proofs.Classes.{below-or}
+use Rattle.laws.proofs.Kit.{ℕ, zero, suc, _+_, _-_, _*_, _/_, _%_, _^_, _<_, _≤_, arith, add-one, _≡_, refl, sym, ap, _∙_, ⊎-elim, List, [], _∷_, _++_, append-assoc, append-nil, length, take, drop, set, getD, length-append, length-drop, drop-of-length-le, take-suc-set, take-at, drop-cons, le-leb, lt-leb, lt-ltb, le-ltb}
+use Rattle.spec.specs.{Printed.ascii, Printed.lastDigits, Printed.decimal, Printed.printedCodes, Printed.printedAnswer, Tape.tape, Answers.numberOf, Answers.placeOf, Answers.lengthOf, Answers.outputAfter, Answers.tapeAnswer, declared.Refusal.Refusal, declared.Answer.the-variants.Written, declared.Answer.the-variants.Refused}
+use Rattle.laws.proofs.{Bounds.tape-small, Classes.below-or}
 use Rattle.govorun.specs.Putting.{Put, codeAt}
+use native.Mathlib.Nat.{pow-suc}
 
 -- nothing put leaves the text as it is
 pub put-none : (text : List ℕ) (at : ℕ) → Put [] text text at at

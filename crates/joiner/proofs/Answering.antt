@@ -1,24 +1,9 @@
 -- What is answered in each case: the check's refusal, then number 12, then 11, and else the tape and then the output's own bytes.
--- Assumes nothing.
-use Prim.Native.Nat.{ℕ, _<_, _≤_}
-use mathlib.Core.Path.{_≡_, refl, sym, _∙_}
-use mathlib.Core.List.{List, _++_}
-use native.Mathlib.Omega.{arith}
-use borrow.Author.Tests.{eq-eqb, ne-eqb, le-leb, lt-leb}
-use lib.ListN.{length, take, drop}
-use lib.Seq.{length-take-le}
-use Rattle.spec.specs.Refusals.{refusal, checkOf}
-use Rattle.spec.specs.Joints.{joined, liveCount, badCut}
-use Rattle.spec.specs.Answers.{within, afterCheck, outputAfter, joinAnswer, JoinPromise}
-use Rattle.spec.specs.declared.Counts.{Counts}
-use Rattle.spec.specs.declared.Refusal.{Refusal}
-use Rattle.spec.specs.declared.Checked.the-variants as checked
-use Rattle.spec.specs.declared.Answer.the-variants.{Written, Refused}
-use Rattle.laws.proofs.Accepted.{accepted-counts}
-use Rattle.laws.proofs.Cuts.{rising-of}
-use Rattle.laws.proofs.Cutting.{equal-lengths}
-use Rattle.laws.proofs.Promises.{promised}
+use Rattle.laws.proofs.Kit.{ℕ, _<_, _≤_, _≡_, refl, sym, _∙_, List, _++_, arith, eq-eqb, ne-eqb, le-leb, lt-leb, length, take, drop, length-take-le}
+use Rattle.spec.specs.{Refusals.refusal, Refusals.checkOf, Joints.joined, Joints.liveCount, Joints.badCut, Answers.within, Answers.afterCheck, Answers.outputAfter, Answers.joinAnswer, Answers.JoinPromise, declared.Counts.Counts, declared.Refusal.Refusal, declared.Answer.the-variants.Written, declared.Answer.the-variants.Refused}
+use Rattle.laws.proofs.{Accepted.accepted-counts, Cuts.rising-of, Cutting.equal-lengths, Promises.promised}
 use Rattle.joiner.specs.Writing.{TapeDue}
+use Rattle.spec.specs.declared.Checked.the-variants as checked
 
 module _ (m cuts out : List ℕ) where
   -- the check refuses

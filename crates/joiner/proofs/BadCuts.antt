@@ -1,15 +1,6 @@
 -- The walk over the list of cuts: number 12 is asked at each cut in turn, and the definition goes on where it does not fit.
--- Assumes nothing.
-use Prim.Native.Nat.{ℕ, _+_, _<_, _≤_}
-use mathlib.Core.Path.{_≡_, refl, sym}
-use mathlib.Core.Bool.{Bool, true, false, not, _||_}
-use mathlib.Core.List.{List}
-use native.Mathlib.Numerals.{add-one}
-use native.Mathlib.Omega.{arith}
-use lib.ListN.{length, drop, getD, drop-of-length-le}
-use lib.Seq.{drop-cons}
-use Rattle.spec.specs.Letters.{isBreak}
-use Rattle.spec.specs.Joints.{row12, badCutFrom, badCut}
+use Rattle.laws.proofs.Kit.{ℕ, _+_, _<_, _≤_, _≡_, refl, sym, Bool, true, false, not, _||_, List, add-one, arith, length, drop, getD, drop-of-length-le, drop-cons}
+use Rattle.spec.specs.{Letters.isBreak, Joints.row12, Joints.badCutFrom, Joints.badCut}
 use Rattle.laws.proofs.Cuts.{break-within}
 
 -- no cut before index k is bad, and least is the least place that the next one may have

@@ -1,17 +1,9 @@
 -- The live cuts of a list, counted from its last one: each cut of a rising list is a break, and it is live just when it changes a code beside its mark.
--- Assumes nothing.
-use Prim.Native.Nat.{ℕ, zero, suc, _+_, _<_}
-use mathlib.Core.Path.{_≡_}
-use mathlib.Core.Bool.{Bool, true, false, cond, _||_}
-use mathlib.Core.List.{List, [], _∷_}
-use native.Mathlib.Omega.{arith}
-use lib.ListN.{length, drop, getD}
-use mir.Val.{boolByte}
-use Rattle.spec.specs.Letters.{isBreak}
-use Rattle.spec.specs.Joints.{RisingFrom, liveCount}
+use Rattle.laws.proofs.Kit.{ℕ, zero, suc, _+_, _<_, _≡_, Bool, true, false, cond, _||_, List, [], _∷_, arith, length, drop, getD}
+use Rattle.spec.specs.{Letters.isBreak, Joints.RisingFrom, Joints.liveCount}
 use Rattle.laws.proofs.Parts.{live-here}
-use Rattle.joiner.specs.Writing.{Changing}
-use Rattle.joiner.specs.declared.Changes.{Changes}
+use Rattle.joiner.specs.{Writing.Changing, declared.Changes.Changes}
+use mir.Val.{boolByte}
 
 -- each cut of a rising list is the place of a break, and those after it rise from there
 pub rising-at : (m : List ℕ) (least : ℕ) (cuts : List ℕ) (j : ℕ) → RisingFrom m least cuts → j < length cuts

@@ -1,39 +1,14 @@
 -- The second tape is laid from the right over the whole message's: a part's codes there are as many as its own, and they are its own where no cut changes the first or the last of them.
--- Assumes nothing.
-use Prim.Native.Nat.{ℕ, suc, _+_, _-_, _<_, _≤_}
-use mathlib.Core.Path.{_≡_, refl, sym, ap, _∙_}
-use mathlib.Core.Bool.{Bool, true, false, _||_}
-use mathlib.Core.Logic.{inl, inr}
-use mathlib.Core.List.{List, [], _∷_, _++_, append-nil, append-assoc}
-use native.Mathlib.Omega.{arith}
-use native.Mathlib.Numerals.{add-one}
-use borrow.Author.Tests.{leb-true, leb-false}
-use lib.Dec.{leb}
-use mir.Val.{boolByte}
-use lib.ListN.{length, take, drop, getD, length-append, length-take, length-drop, List·getD-append, List·getD-eq-default}
-use lib.Seq.{take-all, take-length, take-at, take-suc, drop-at, drop-length, drop-cons, append-snoc, getD-take, getD-drop}
-use Rattle.spec.specs.Letters.{isBreak}
-use Rattle.spec.specs.Tape.{tape}
-use Rattle.spec.specs.Refusals.{checkOf}
-use Rattle.spec.specs.Joints.{RisingFrom, Rising, joinedFrom, joined, liveCount, markIndex}
-use Rattle.spec.specs.declared.Counts.{Counts}
-use Rattle.spec.specs.declared.Checked.the-variants.{Accepted}
+use Rattle.laws.proofs.Kit.{ℕ, suc, _+_, _-_, _<_, _≤_, _≡_, refl, sym, ap, _∙_, Bool, true, false, _||_, inl, inr, List, [], _∷_, _++_, append-nil, append-assoc, arith, add-one, leb-true, leb-false, leb, length, take, drop, getD, length-append, length-take, length-drop, List·getD-append, List·getD-eq-default, take-all, take-length, take-at, take-suc, drop-at, drop-length, drop-cons, append-snoc, getD-take, getD-drop}
+use Rattle.spec.specs.{Letters.isBreak, Tape.tape, Refusals.checkOf, Joints.RisingFrom, Joints.Rising, Joints.joinedFrom, Joints.joined, Joints.liveCount, Joints.markIndex, declared.Counts.Counts, declared.Checked.the-variants.Accepted}
 use Rattle.message.specs.Places.{Steady}
 use Rattle.message.proofs.Steadiness.{accepted-steady}
 use Rattle.transcriber.specs.Walk.{Put}
 use Rattle.transcriber.proofs.Putting.{put-first}
-use Rattle.laws.proofs.Accepted.{countsOf, accepted-passes}
-use Rattle.laws.proofs.Cuts.{rising-of, rising-length, break-within}
-use Rattle.laws.proofs.Parts.{part, Begins, changedAfter, or-false, mark-there, part-first, first-own}
-use Rattle.laws.proofs.PartsAccepted.{part-accepted}
-use Rattle.laws.proofs.Bounds.{live-bound}
-use Rattle.laws.proofs.Heard.{tape-heard}
-use Rattle.laws.proofs.Marks.{mark-first, mark-next, mark-last}
-use Rattle.laws.proofs.MarkIndex.{Ends, Placed, stretch, end-own, placed, own-length, own-codes}
-use Rattle.joiner.specs.Writing.{PartDue, Whole, Reach, Beside, Changing, endOf, restOf, Laid, CutDue}
-use Rattle.joiner.specs.declared.Changes.{Changes}
-use Rattle.joiner.specs.declared.Progress.{Progress}
+use Rattle.laws.proofs.{Accepted.countsOf, Accepted.accepted-passes, Cuts.rising-of, Cuts.rising-length, Cuts.break-within, Parts.part, Parts.Begins, Parts.changedAfter, Parts.or-false, Parts.mark-there, Parts.part-first, Parts.first-own, PartsAccepted.part-accepted, Bounds.live-bound, Heard.tape-heard, Marks.mark-first, Marks.mark-next, Marks.mark-last, MarkIndex.Ends, MarkIndex.Placed, MarkIndex.stretch, MarkIndex.end-own, MarkIndex.placed, MarkIndex.own-length, MarkIndex.own-codes}
+use Rattle.joiner.specs.{Writing.PartDue, Writing.Whole, Writing.Reach, Writing.Beside, Writing.Changing, Writing.endOf, Writing.restOf, Writing.Laid, Writing.CutDue, declared.Changes.Changes, declared.Progress.Progress}
 use Rattle.joiner.proofs.Counting.{rising-at, count-more}
+use mir.Val.{boolByte}
 
 -- the second tape from a place on: the first part's, and what follows it
 joined-part : (m : List ℕ) (a : ℕ) (cuts : List ℕ) → joinedFrom m a cuts ≡ tape (part m a (endOf m cuts)) ++ restOf m cuts

@@ -1,21 +1,8 @@
 -- The looks back: from an index down to the first element that passes a test, and from the mark of a place, break by break and mark by mark, to that of a cut.
--- Assumes nothing.
-use Prim.Native.Nat.{ℕ, _-_, _<_, _≤_}
-use mathlib.Core.Path.{_≡_, refl, sym, ap, _∙_}
-use mathlib.Core.Bool.{Bool, true, false, cond, true≢false}
-use mathlib.Core.Logic.{inl}
-use mathlib.Core.List.{List}
-use native.Mathlib.Omega.{arith}
-use lib.Dec.{eqb}
-use lib.ListN.{length, getD}
-use borrow.Author.Tests.{eqb-true, eqb-false, ne-eqb}
-use Rattle.spec.specs.Letters.{isBreak}
-use Rattle.spec.specs.Tape.{tape}
-use Rattle.spec.specs.Joints.{markIndex}
-use Rattle.message.specs.Classes.{classOf}
-use Rattle.message.specs.Places.{Steady}
-use Rattle.message.proofs.Bytes.{below-same}
-use Rattle.message.proofs.Computed.{everything}
+use Rattle.laws.proofs.Kit.{ℕ, _-_, _<_, _≤_, _≡_, refl, sym, ap, _∙_, Bool, true, false, cond, true≢false, inl, List, arith, eqb, length, getD, eqb-true, eqb-false, ne-eqb}
+use Rattle.spec.specs.{Letters.isBreak, Tape.tape, Joints.markIndex}
+use Rattle.message.specs.{Classes.classOf, Places.Steady}
+use Rattle.message.proofs.{Bytes.below-same, Computed.everything}
 use Rattle.laws.proofs.MarkIndex.{Last, isNoSound, last-above, last-once, last-mark}
 use Rattle.joiner.specs.Writing.{outside, Behind, Reach}
 

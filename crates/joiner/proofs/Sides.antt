@@ -1,26 +1,9 @@
 -- The two sides of a cut's mark: the codes beside it are the whole tape's, which tell the bits that come from over the cut, and the word after it begins with the letter of the next byte.
--- Assumes nothing.
-use Prim.Native.Nat.{ℕ, suc, _+_, _-_}
-use mathlib.Core.Path.{_≡_, refl, sym, ap, _∙_}
-use mathlib.Core.Bool.{Bool, true, false, cond, _&&_, _||_, true≢false}
-use mathlib.Core.List.{List, [], _∷_}
-use native.Mathlib.Omega.{arith}
-use native.Mathlib.Numerals.{add-one}
-use lib.Dec.{eqb}
-use lib.ListN.{getD, drop}
-use lib.Seq.{getD-drop}
-use borrow.Author.Tests.{eqb-true}
-use Rattle.spec.specs.Alphabet.{gap, pause}
-use Rattle.spec.specs.Letters.{Letter, more, read, putLetter, firstByte, firstWord, beginsWithMark, small, isMark, isBreak}
-use Rattle.spec.specs.Tape.{tape}
-use Rattle.spec.specs.Joints.{markIndex, wordAfter}
-use Rattle.message.specs.Classes.{letterAt}
-use Rattle.message.specs.Places.{Steady}
+use Rattle.laws.proofs.Kit.{ℕ, suc, _+_, _-_, _≡_, refl, sym, ap, _∙_, Bool, true, false, cond, _&&_, _||_, true≢false, List, [], _∷_, arith, add-one, eqb, getD, drop, getD-drop, eqb-true}
+use Rattle.spec.specs.{Alphabet.gap, Alphabet.pause, Letters.Letter, Letters.more, Letters.read, Letters.putLetter, Letters.firstByte, Letters.firstWord, Letters.beginsWithMark, Letters.small, Letters.isMark, Letters.isBreak, Tape.tape, Joints.markIndex, Joints.wordAfter}
+use Rattle.message.specs.{Classes.letterAt, Places.Steady}
 use Rattle.message.proofs.Left.{word-put, unmarked-after}
-use Rattle.laws.proofs.Classes.{break-vowel}
-use Rattle.laws.proofs.Parts.{changedAfter, changedBefore}
-use Rattle.laws.proofs.Beside.{isVoiced, isHigh, isIOrE}
-use Rattle.laws.proofs.MarkIndex.{before-told, after-told}
+use Rattle.laws.proofs.{Classes.break-vowel, Parts.changedAfter, Parts.changedBefore, Beside.isVoiced, Beside.isHigh, Beside.isIOrE, MarkIndex.before-told, MarkIndex.after-told}
 use Rattle.joiner.specs.Writing.{Beside}
 
 -- a break is neither и nor э

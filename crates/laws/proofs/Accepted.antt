@@ -1,20 +1,6 @@
 -- The message check gives a number exactly where its condition holds and none earlier does, and accepts exactly what no number fits: the scan goes on over a byte only where no row fits, and at a byte the first row of the list that fits is given.
--- Assumes nothing.
-use Prim.Native.Nat.{ℕ, zero, suc, _<_, _≤_}
-use mathlib.Core.Path.{_≡_, refl, sym, ap, _∙_}
-use mathlib.Core.Logic.{_⊎_, inl, inr, ⊎-elim}
-use mathlib.Core.Bool.{Bool, true, false, cond, _&&_, not, and-eq-true-iff, and-false, true≢false, false≢true}
-use mathlib.Core.List.{List, [], _∷_}
-use native.Mathlib.Omega.{arith}
-use lib.Dec.{eqb, leb}
-use lib.ListN.{length, getD, drop, length-drop}
-use lib.Seq.{drop-cons}
-use borrow.Author.Tests.{eqb-true, eqb-false, eq-eqb, ne-eqb, leb-true, leb-false, le-leb, lt-leb}
-use Rattle.spec.specs.Tape.{tape, names}
-use Rattle.spec.specs.Refusals.{Row, _when_, rows, firstFit, faultAt, refusal, scan, checkOf, fitsIn, beforeAt, fits, indexIn, rank, NoneFits, Earlier, Given}
-use Rattle.spec.specs.declared.Counts.{Counts}
-use Rattle.spec.specs.declared.Checked.{Checked}
-use Rattle.spec.specs.declared.Checked.the-variants.{Accepted, Refused}
+use Rattle.laws.proofs.Kit.{ℕ, zero, suc, _<_, _≤_, _≡_, refl, sym, ap, _∙_, _⊎_, inl, inr, ⊎-elim, Bool, true, false, cond, _&&_, not, and-eq-true-iff, and-false, true≢false, false≢true, List, [], _∷_, arith, eqb, leb, length, getD, drop, length-drop, drop-cons, eqb-true, eqb-false, eq-eqb, ne-eqb, leb-true, leb-false, le-leb, lt-leb}
+use Rattle.spec.specs.{Tape.tape, Tape.names, Refusals.Row, Refusals._when_, Refusals.rows, Refusals.firstFit, Refusals.faultAt, Refusals.refusal, Refusals.scan, Refusals.checkOf, Refusals.fitsIn, Refusals.beforeAt, Refusals.fits, Refusals.indexIn, Refusals.rank, Refusals.NoneFits, Refusals.Earlier, Refusals.Given, declared.Counts.Counts, declared.Checked.Checked, declared.Checked.the-variants.Accepted, declared.Checked.the-variants.Refused}
 use Rattle.spec.proofs.Computed.{everything}
 use Rattle.laws.proofs.Classes.{cond-app, cond-same, yes-or, refuted, below-or}
 

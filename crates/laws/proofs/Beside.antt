@@ -1,30 +1,10 @@
 -- What the codes at the two ends of a stretch tell of the bits that come from its neighbours: the last one is voiced just where the bit of what follows voices an obstruent, and at the
 -- start и and э sound Ы just behind a hard boundary. Why: only pass 4's last step looks at what follows, and only the first letter's row at what stands before.
--- Assumes nothing.
-use Prim.Native.Nat.{ℕ, suc}
-use mathlib.Core.Path.{_≡_, refl, sym, _∙_}
-use mathlib.Core.Bool.{Bool, true, false, cond, not, _&&_, _||_, and-true, and-false}
-use mathlib.Core.List.{List, [], _∷_, _++_, append-assoc}
-use lib.Dec.{eqb}
-use Rattle.spec.specs.Alphabet.{pause}
-use Rattle.spec.specs.Letters.{Letter, Message, last, more, between, firstByte, firstWord, lastWord, hardOnly, paired, softOnly, obstruents, isConsonant, isVowel, isObstruent}
-use Rattle.spec.specs.Codes.{Б, З', J, Ц1, Ч1, markOf}
-use Rattle.spec.specs.Elision.{elideFrom, elide}
-use Rattle.spec.specs.Syllables.{Facts, factsOf}
-use Rattle.spec.specs.Vowels.{Phone, vowelSound, writtenCode, phonesFrom}
-use Rattle.spec.specs.Voicing.{voiced, voiceless, voicedCode, voicelessCode, toneOf, toned, voiceOne, voice}
-use Rattle.spec.specs.Palatalization.{isSoft, firstCode, palatalize}
-use Rattle.spec.specs.Tape.{wordTape, segment}
-use Rattle.spec.specs.Joints.{endsInObstruent, beginsWithIOrE}
-use Rattle.spec.specs.declared.Cover.{Cover}
-use Rattle.spec.specs.declared.Level.{Level}
-use Rattle.spec.specs.declared.Level.the-variants.{Stressed, First, Second}
+use Rattle.laws.proofs.Kit.{ℕ, suc, _≡_, refl, sym, _∙_, Bool, true, false, cond, not, _&&_, _||_, and-true, and-false, List, [], _∷_, _++_, append-assoc, eqb}
+use Rattle.spec.specs.{Alphabet.pause, Letters.Letter, Letters.Message, Letters.last, Letters.more, Letters.between, Letters.firstByte, Letters.firstWord, Letters.lastWord, Letters.hardOnly, Letters.paired, Letters.softOnly, Letters.obstruents, Letters.isConsonant, Letters.isVowel, Letters.isObstruent, Codes.Б, Codes.З', Codes.J, Codes.Ц1, Codes.Ч1, Codes.markOf, Elision.elideFrom, Elision.elide, Syllables.Facts, Syllables.factsOf, Vowels.Phone, Vowels.vowelSound, Vowels.writtenCode, Vowels.phonesFrom, Voicing.voiced, Voicing.voiceless, Voicing.voicedCode, Voicing.voicelessCode, Voicing.toneOf, Voicing.toned, Voicing.voiceOne, Voicing.voice, Palatalization.isSoft, Palatalization.firstCode, Palatalization.palatalize, Tape.wordTape, Tape.segment, Joints.endsInObstruent, Joints.beginsWithIOrE, declared.Cover.Cover, declared.Level.Level, declared.Level.the-variants.Stressed, declared.Level.the-variants.First, declared.Level.the-variants.Second}
 use Rattle.spec.proofs.Computed.{everything}
-use Rattle.laws.proofs.Codes.{Spelled, Spells, EachPhone, both, elide-spelled, phones-each, soft-both}
-use Rattle.laws.proofs.Classes.{cond-both, cond-app, cond-same, among-same, vowel-single, vowel-quiet}
-use Rattle.laws.proofs.Word.{lastCodeFrom, endsToned, word-toned, word-starts}
+use Rattle.laws.proofs.{Codes.Spelled, Codes.Spells, Codes.EachPhone, Codes.both, Codes.elide-spelled, Codes.phones-each, Codes.soft-both, Classes.cond-both, Classes.cond-app, Classes.cond-same, Classes.among-same, Classes.vowel-single, Classes.vowel-quiet, Word.lastCodeFrom, Word.endsToned, Word.word-toned, Word.word-starts, Stretch.last-append}
 pub use Rattle.laws.proofs.Word.{isHigh, isIOrE}
-use Rattle.laws.proofs.Stretch.{last-append}
 
 -- codes of voiced obstruents: the set D, В and В'
 abbrev pub isVoiced : ℕ → Bool

@@ -1,30 +1,9 @@
 -- How large an answer's numbers can be, whatever the bytes and the cuts: no place is past 4,096 bytes, a byte makes at most two codes and one name, and each good cut takes a break of its own.
--- Assumes nothing.
-use Prim.Native.Nat.{ℕ, suc, _+_, _-_, _≤_}
-use mathlib.Core.Path.{_≡_, refl}
-use mathlib.Core.Bool.{Bool, true, false, cond, _&&_, and-eq-true-iff}
-use mathlib.Core.Logic.{⊎-elim}
-use mathlib.Core.List.{List, [], _∷_}
-use native.Mathlib.Omega.{arith}
-use lib.Dec.{eqb, leb}
-use lib.ListN.{length, getD}
-use borrow.Author.Tests.{eqb-true, leb-true}
-use Rattle.spec.specs.Letters.{isBreak}
-use Rattle.spec.specs.Tape.{tape, names}
-use Rattle.spec.specs.Refusals.{Row, _when_, rows, firstFit, faultAt, refusal, scan, checkOf}
-use Rattle.spec.specs.Joints.{joined, isLive, liveCount, row12, badCutFrom, badCut}
-use Rattle.spec.specs.Answers.{numberOf, placeOf, lengthOf, liveOf, checkedNumber, checkedPlace, checkedCodes, checkedNames, within, afterCheck, nameAnswer, tapeAnswer, joinAnswer}
-use Rattle.spec.specs.declared.Counts.{Counts}
-use Rattle.spec.specs.declared.Checked.{Checked}
-use Rattle.spec.specs.declared.Answer.{Answer}
-use Rattle.spec.specs.declared.Checked.the-variants.{Accepted, Refused}
-use Rattle.spec.specs.declared.Answer.the-variants as answer
+use Rattle.laws.proofs.Kit.{ℕ, suc, _+_, _-_, _≤_, _≡_, refl, Bool, true, false, cond, _&&_, and-eq-true-iff, ⊎-elim, List, [], _∷_, arith, eqb, leb, length, getD, eqb-true, leb-true}
+use Rattle.spec.specs.{Letters.isBreak, Tape.tape, Tape.names, Refusals.Row, Refusals._when_, Refusals.rows, Refusals.firstFit, Refusals.faultAt, Refusals.refusal, Refusals.scan, Refusals.checkOf, Joints.joined, Joints.isLive, Joints.liveCount, Joints.row12, Joints.badCutFrom, Joints.badCut, Answers.numberOf, Answers.placeOf, Answers.lengthOf, Answers.liveOf, Answers.checkedNumber, Answers.checkedPlace, Answers.checkedCodes, Answers.checkedNames, Answers.within, Answers.afterCheck, Answers.nameAnswer, Answers.tapeAnswer, Answers.joinAnswer, declared.Counts.Counts, declared.Checked.Checked, declared.Answer.Answer, declared.Checked.the-variants.Accepted, declared.Checked.the-variants.Refused}
 use Rattle.spec.proofs.Computed.{everything}
-use Rattle.laws.proofs.Accepted.{accepted-counts}
-use Rattle.laws.proofs.Classes.{cond-both, yes-or}
-use Rattle.laws.proofs.Cuts.{break-within, rising-of, rising-length}
-use Rattle.laws.proofs.Cutting.{equal-lengths}
-use Rattle.laws.proofs.Sizes.{tape-size, names-size}
+use Rattle.laws.proofs.{Accepted.accepted-counts, Classes.cond-both, Classes.yes-or, Cuts.break-within, Cuts.rising-of, Cuts.rising-length, Cutting.equal-lengths, Sizes.tape-size, Sizes.names-size}
+use Rattle.spec.specs.declared.Answer.the-variants as answer
 
 -- no number of the rows is past n
 unfoldable upTo : ℕ → List Row → Bool

@@ -1,36 +1,9 @@
 -- The codes of a tape. Every letter of an accepted message is one of the alphabet, so each code of its words is a sound, 1 to 13 or 16 to 56,
 -- and the marks on its tape are those of its breaks.
--- Assumes nothing.
-use Prim.Native.Nat.{ℕ, zero, suc, _+_, _-_, _<_}
-use mathlib.Core.Path.{_≡_, refl, sym, ap, _∙_}
-use mathlib.Core.Bool.{Bool, true, false, cond, not, _&&_, _||_, and-eq-true-iff, or-false, false≢true}
-use mathlib.Core.Logic.{⊎-elim}
-use mathlib.Core.List.{List, [], _∷_, _++_, append-nil}
-use native.Mathlib.Omega.{arith}
-use lib.Dec.{eqb}
-use lib.ListN.{length, take, drop, getD, length-take, length-drop}
-use lib.Seq.{take-length, getD-take, getD-drop}
-use borrow.Author.Tests.{eqb-true}
-use Rattle.spec.specs.Alphabet.{pause}
-use Rattle.spec.specs.Letters.{Letter, Message, last, more, read, putLetter, beginsWithMark, small, hardOnly, paired, softOnly, plainVowels, softeningVowels, obstruents, isGap, isBreak, isMark, isPaired, isConsonant, isSign, isVowel, isObstruent}
-use Rattle.spec.specs.Codes.{J, markOf, isMarkCode, isSound, isCode}
-use Rattle.spec.specs.Elision.{elides, elideFrom, elide}
-use Rattle.spec.specs.Syllables.{Facts, factsOf, syllableOf, nameIn, nameOf, isName, incomplete, namesFrom}
-use Rattle.spec.specs.Vowels.{Phone, vowelSound, glides, writtenCode, vowelPhones, phonesOf, phonesFrom, endsHard}
-use Rattle.spec.specs.Voicing.{Tone, voiced, voiceless, asWritten, voicedCode, voicelessCode, voices, toneOf, toned, codesOf, voiceOne, voice}
-use Rattle.spec.specs.Palatalization.{isSoft, palatalize, firstCode}
-use Rattle.spec.specs.Tape.{wordTape, segment, tape, wordNames, namesOf, names}
-use Rattle.spec.specs.Refusals.{consonantByte, signByte, vowelByte, letterByte, row3, rows, fitsIn, NoneFits}
-use Rattle.spec.specs.Joints.{joinedFrom, joined, marksOf, breakMarks}
-use Rattle.spec.specs.declared.Cover.{Cover}
-use Rattle.spec.specs.declared.Cover.the-variants.{Bare, Covered}
-use Rattle.spec.specs.declared.Syllable.{Syllable}
-use Rattle.spec.specs.declared.Level.{Level}
-use Rattle.spec.specs.declared.Level.the-variants.{Stressed, First, Second}
+use Rattle.laws.proofs.Kit.{ℕ, zero, suc, _+_, _-_, _<_, _≡_, refl, sym, ap, _∙_, Bool, true, false, cond, not, _&&_, _||_, and-eq-true-iff, or-false, false≢true, ⊎-elim, List, [], _∷_, _++_, append-nil, arith, eqb, length, take, drop, getD, length-take, length-drop, take-length, getD-take, getD-drop, eqb-true}
+use Rattle.spec.specs.{Alphabet.pause, Letters.Letter, Letters.Message, Letters.last, Letters.more, Letters.read, Letters.putLetter, Letters.beginsWithMark, Letters.small, Letters.hardOnly, Letters.paired, Letters.softOnly, Letters.plainVowels, Letters.softeningVowels, Letters.obstruents, Letters.isGap, Letters.isBreak, Letters.isMark, Letters.isPaired, Letters.isConsonant, Letters.isSign, Letters.isVowel, Letters.isObstruent, Codes.J, Codes.markOf, Codes.isMarkCode, Codes.isSound, Codes.isCode, Elision.elides, Elision.elideFrom, Elision.elide, Syllables.Facts, Syllables.factsOf, Syllables.syllableOf, Syllables.nameIn, Syllables.nameOf, Syllables.isName, Syllables.incomplete, Syllables.namesFrom, Vowels.Phone, Vowels.vowelSound, Vowels.glides, Vowels.writtenCode, Vowels.vowelPhones, Vowels.phonesOf, Vowels.phonesFrom, Vowels.endsHard, Voicing.Tone, Voicing.voiced, Voicing.voiceless, Voicing.asWritten, Voicing.voicedCode, Voicing.voicelessCode, Voicing.voices, Voicing.toneOf, Voicing.toned, Voicing.codesOf, Voicing.voiceOne, Voicing.voice, Palatalization.isSoft, Palatalization.palatalize, Palatalization.firstCode, Tape.wordTape, Tape.segment, Tape.tape, Tape.wordNames, Tape.namesOf, Tape.names, Refusals.consonantByte, Refusals.signByte, Refusals.vowelByte, Refusals.letterByte, Refusals.row3, Refusals.rows, Refusals.fitsIn, Refusals.NoneFits, Joints.joinedFrom, Joints.joined, Joints.marksOf, Joints.breakMarks, declared.Cover.Cover, declared.Cover.the-variants.Bare, declared.Cover.the-variants.Covered, declared.Syllable.Syllable, declared.Level.Level, declared.Level.the-variants.Stressed, declared.Level.the-variants.First, declared.Level.the-variants.Second}
 use Rattle.spec.proofs.Computed.{everything}
-use Rattle.laws.proofs.Classes.{cond-both, cond-app, cond-same, yes-or, refuted, among-same, vowel-single}
-use Rattle.laws.proofs.Word.{shape}
-use Rattle.laws.proofs.Accepted.{Passes, none-passes}
+use Rattle.laws.proofs.{Classes.cond-both, Classes.cond-app, Classes.cond-same, Classes.yes-or, Classes.refuted, Classes.among-same, Classes.vowel-single, Word.shape, Accepted.Passes, Accepted.none-passes}
 
 -- a claim on each code of a tape, or on each name
 abbrev pub Each : (ℕ → Bool) → List ℕ → Type 0

@@ -1,18 +1,7 @@
 -- A list of cuts: number 12 lets through just the strictly rising lists of places of breaks, since past its end a message has no break.
--- Assumes nothing.
-use Prim.Native.Nat.{ℕ, zero, suc, _+_, _-_, _<_, _≤_}
-use mathlib.Core.Path.{_≡_, refl, sym, ap, _∙_}
-use mathlib.Core.Bool.{Bool, true, false, cond, not, _||_, true≢false, false≢true}
-use mathlib.Core.Logic.{inl, inr, ⊎-elim}
-use mathlib.Core.List.{List, [], _∷_}
-use native.Mathlib.Omega.{arith}
-use lib.Dec.{eqb, leb}
-use borrow.Author.Tests.{eqb-true, eqb-false, leb-true, le-leb}
-use lib.ListN.{length, drop, getD, length-drop, List·getD-eq-default}
-use Rattle.spec.specs.Letters.{isBreak}
-use Rattle.spec.specs.Joints.{RisingFrom, Rising, CutOf, breaksFrom, breaks, row12, badCutFrom, badCut, leastAt, FirstBadFrom, FirstBad}
-use Rattle.laws.proofs.Accepted.{rest-first}
-use Rattle.laws.proofs.Classes.{cond-app, yes-or, below-or}
+use Rattle.laws.proofs.Kit.{ℕ, zero, suc, _+_, _-_, _<_, _≤_, _≡_, refl, sym, ap, _∙_, Bool, true, false, cond, not, _||_, true≢false, false≢true, inl, inr, ⊎-elim, List, [], _∷_, arith, eqb, leb, eqb-true, eqb-false, leb-true, le-leb, length, drop, getD, length-drop, List·getD-eq-default}
+use Rattle.spec.specs.{Letters.isBreak, Joints.RisingFrom, Joints.Rising, Joints.CutOf, Joints.breaksFrom, Joints.breaks, Joints.row12, Joints.badCutFrom, Joints.badCut, Joints.leastAt, Joints.FirstBadFrom, Joints.FirstBad}
+use Rattle.laws.proofs.{Accepted.rest-first, Classes.cond-app, Classes.yes-or, Classes.below-or}
 
 -- a break stands within the message
 pub break-within : (m : List ℕ) (c : ℕ) → isBreak (getD m c 0) ≡ true → c < length m

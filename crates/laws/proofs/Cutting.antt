@@ -1,24 +1,7 @@
 -- The two tapes of a message, for every list of cuts: each cut splits both tapes at one index, and a cut is live just when a bit from over it changes a code beside its mark.
--- Assumes nothing.
-use Prim.Native.Nat.{ℕ, suc, _-_, _<_}
-use mathlib.Core.Path.{_≡_, refl, sym, ap, _∙_}
-use mathlib.Core.Bool.{Bool, true, false, cond, true≢false}
-use mathlib.Core.Logic.{inl, inr, ⊎-elim, _≢_, _↔_}
-use mathlib.Core.List.{List, [], _∷_}
-use native.Mathlib.Omega.{arith}
-use lib.ListN.{length, getD, take, drop}
-use Rattle.spec.specs.Letters.{isBreak, read}
-use Rattle.spec.specs.Tape.{tape, segment}
-use Rattle.spec.specs.Refusals.{NoneFits}
-use Rattle.spec.specs.Joints.{Rising, CutOf, SplitAt, DiffersAt, joined, isLive, NoneLive, liveCount, markIndex, wordBefore}
-use Rattle.spec.specs.Demands.{TwoTapes}
-use Rattle.laws.proofs.Accepted.{none-passes}
-use Rattle.laws.proofs.Classes.{yes-or, refuted}
-use Rattle.laws.proofs.Codes.{Spells, bytes-marks, part-spells}
-use Rattle.laws.proofs.Beside.{segment-ends}
-use Rattle.laws.proofs.Cuts.{cut-break}
-use Rattle.laws.proofs.PartsAccepted.{parts-none}
-use Rattle.laws.proofs.Parts.{onward, voicedAt, changedBefore, changedAfter, CutAt, part-first, before-mark, after-mark, tape-cut, mark-index, code-after, live-here, onward-first, first-own, joined-length, joined-dead, cut-at}
+use Rattle.laws.proofs.Kit.{ℕ, suc, _-_, _<_, _≡_, refl, sym, ap, _∙_, Bool, true, false, cond, true≢false, inl, inr, ⊎-elim, _≢_, _↔_, List, [], _∷_, arith, length, getD, take, drop}
+use Rattle.spec.specs.{Letters.isBreak, Letters.read, Tape.tape, Tape.segment, Refusals.NoneFits, Joints.Rising, Joints.CutOf, Joints.SplitAt, Joints.DiffersAt, Joints.joined, Joints.isLive, Joints.NoneLive, Joints.liveCount, Joints.markIndex, Joints.wordBefore, Demands.TwoTapes}
+use Rattle.laws.proofs.{Accepted.none-passes, Classes.yes-or, Classes.refuted, Codes.Spells, Codes.bytes-marks, Codes.part-spells, Beside.segment-ends, Cuts.cut-break, PartsAccepted.parts-none, Parts.onward, Parts.voicedAt, Parts.changedBefore, Parts.changedAfter, Parts.CutAt, Parts.part-first, Parts.before-mark, Parts.after-mark, Parts.tape-cut, Parts.mark-index, Parts.code-after, Parts.live-here, Parts.onward-first, Parts.first-own, Parts.joined-length, Parts.joined-dead, Parts.cut-at}
 
 -- one cut that is not live adds nothing to the count, and a live one does
 counts-not : (t : Bool) (n : ℕ) → (cond t (suc n) n ≡ 0) ↔ ((t ≡ false) × (n ≡ 0))

@@ -1,26 +1,7 @@
 -- The operator's three demands, from the promises alone: every operation answers the check's refusal, then number 12, then 11, and else its text, so each way of ending is one case.
--- Assumes nothing.
-use Prim.Native.Nat.{ℕ, zero, suc, _≤_}
-use mathlib.Core.Path.{_≡_, refl, sym, ap, _∙_}
-use mathlib.Core.Bool.{Bool, true, false, cond, and-false, false≢true}
-use mathlib.Core.Logic.{_⊎_, inl, inr, _↔_}
-use mathlib.Core.List.{List, []}
-use native.Mathlib.Omega.{arith}
-use lib.Dec.{eqb, leb}
-use lib.ListN.{length, length-append, length-drop}
-use borrow.Author.Tests.{eq-eqb, ne-eqb, leb-true, leb-false, le-leb, lt-leb}
-use Rattle.spec.specs.Tape.{tape, names}
-use Rattle.spec.specs.Refusals.{refusal, rows, fitsIn, fits, checkOf, NoneFits, Given}
-use Rattle.spec.specs.Joints.{Rising, joined, liveCount, badCutFrom, badCut}
-use Rattle.spec.specs.Answers.{numberOf, placeOf, lengthOf, liveOf, checkedNumber, checkedPlace, checkedCodes, checkedNames, within, afterCheck, outputAfter, nameAnswer, tapeAnswer, joinAnswer, Promise, CheckPromise}
-use Rattle.spec.specs.Demands.{Due, turnedAway, wrongCut, tooShort, CarriedOut, Settled, CheckTurnedAway, Exactly, Demand1, Demand2, Demand3}
-use Rattle.spec.specs.declared.Checked.{Checked}
-use Rattle.spec.specs.declared.Answer.{Answer}
-use Rattle.spec.specs.declared.Answer.the-variants.{Written, Refused}
-use Rattle.laws.proofs.Accepted.{Finds, nothing, fault, check-finds, passes-none, none-accepted, given-refused}
-use Rattle.laws.proofs.Cuts.{Judged, good, bad, judged, first-bad, rising-to, full-rising, full-every}
-use Rattle.laws.proofs.Cutting.{counts-none, two-tapes}
-use Rattle.laws.proofs.Bounds.{check-small}
+use Rattle.laws.proofs.Kit.{ℕ, zero, suc, _≤_, _≡_, refl, sym, ap, _∙_, Bool, true, false, cond, and-false, false≢true, _⊎_, inl, inr, _↔_, List, [], arith, eqb, leb, length, length-append, length-drop, eq-eqb, ne-eqb, leb-true, leb-false, le-leb, lt-leb}
+use Rattle.spec.specs.{Tape.tape, Tape.names, Refusals.refusal, Refusals.rows, Refusals.fitsIn, Refusals.fits, Refusals.checkOf, Refusals.NoneFits, Refusals.Given, Joints.Rising, Joints.joined, Joints.liveCount, Joints.badCutFrom, Joints.badCut, Answers.numberOf, Answers.placeOf, Answers.lengthOf, Answers.liveOf, Answers.checkedNumber, Answers.checkedPlace, Answers.checkedCodes, Answers.checkedNames, Answers.within, Answers.afterCheck, Answers.outputAfter, Answers.nameAnswer, Answers.tapeAnswer, Answers.joinAnswer, Answers.Promise, Answers.CheckPromise, Demands.Due, Demands.turnedAway, Demands.wrongCut, Demands.tooShort, Demands.CarriedOut, Demands.Settled, Demands.CheckTurnedAway, Demands.Exactly, Demands.Demand1, Demands.Demand2, Demands.Demand3, declared.Checked.Checked, declared.Answer.Answer, declared.Answer.the-variants.Written, declared.Answer.the-variants.Refused}
+use Rattle.laws.proofs.{Accepted.Finds, Accepted.nothing, Accepted.fault, Accepted.check-finds, Accepted.passes-none, Accepted.none-accepted, Accepted.given-refused, Cuts.Judged, Cuts.good, Cuts.bad, Cuts.judged, Cuts.first-bad, Cuts.rising-to, Cuts.full-rising, Cuts.full-every, Cutting.counts-none, Cutting.two-tapes, Bounds.check-small}
 
 -- the number 0 is none of the table's
 given-some : (m : List ℕ) (n p : ℕ) → Given m n p → 1 ≤ n

@@ -1,21 +1,7 @@
 -- An accepted message is heard: its first letter is no sign and is not elided, so it has a sound.
--- Assumes nothing.
-use Prim.Native.Nat.{ℕ, _<_}
-use mathlib.Core.Path.{_≡_}
-use mathlib.Core.Bool.{Bool, true, false, and-true}
-use mathlib.Core.List.{List, [], _∷_, _++_}
-use native.Mathlib.Omega.{arith}
-use lib.ListN.{length, length-append}
-use Rattle.spec.specs.Letters.{Letter, Message, last, more, read, putLetter, isSign, isVowel}
-use Rattle.spec.specs.Elision.{elideFrom, elide}
-use Rattle.spec.specs.Syllables.{coverAfter, syllableOf}
-use Rattle.spec.specs.Vowels.{Phone, glides, vowelPhones, phonesOf, phonesFrom}
-use Rattle.spec.specs.Voicing.{voice}
-use Rattle.spec.specs.Palatalization.{palatalize}
-use Rattle.spec.specs.Tape.{wordTape, segment, tape}
-use Rattle.spec.specs.Refusals.{none, first, signByte, row4, row5, row6, rows, fitsIn, beforeAt}
-use Rattle.laws.proofs.Accepted.{Passes}
-use Rattle.laws.proofs.Word.{shape, first-kept}
+use Rattle.laws.proofs.Kit.{ℕ, _<_, _≡_, Bool, true, false, and-true, List, [], _∷_, _++_, arith, length, length-append}
+use Rattle.spec.specs.{Letters.Letter, Letters.Message, Letters.last, Letters.more, Letters.read, Letters.putLetter, Letters.isSign, Letters.isVowel, Elision.elideFrom, Elision.elide, Syllables.coverAfter, Syllables.syllableOf, Vowels.Phone, Vowels.glides, Vowels.vowelPhones, Vowels.phonesOf, Vowels.phonesFrom, Voicing.voice, Palatalization.palatalize, Tape.wordTape, Tape.segment, Tape.tape, Refusals.none, Refusals.first, Refusals.signByte, Refusals.row4, Refusals.row5, Refusals.row6, Refusals.rows, Refusals.fitsIn, Refusals.beforeAt}
+use Rattle.laws.proofs.{Accepted.Passes, Word.shape, Word.first-kept}
 
 -- the sounds of a letter that is no sign
 shape-heard : (v g n : Bool) (j x c : Phone) (xs : List Phone) → 0 < length (palatalize (voice n (shape false v g j x c ++ xs)))

@@ -16,3 +16,4 @@ pub mod Demands
 pub mod Beside
 pub mod MarkIndex
 pub mod Heard
+pub mod Kit

@@ -1,32 +1,8 @@
 -- Where the codes of a part and the marks of breaks stand on a tape: before a place as many codes stand as the bytes before it make, so a part's codes in the whole tape are as many
 -- as its own, and since each code of a word is a sound the last mark before that of a place is that of the last break before it.
--- Assumes nothing.
-use Prim.Native.Nat.{ℕ, suc, _+_, _-_, _<_, _≤_}
-use mathlib.Core.Path.{_≡_, refl, sym, ap, _∙_}
-use mathlib.Core.Bool.{Bool, true, false, not, _&&_, _||_, and-eq-true-iff, true≢false}
-use mathlib.Core.Logic.{_⊎_, ⊎-elim}
-use mathlib.Core.List.{List, [], _∷_, _++_, append-nil}
-use native.Mathlib.Omega.{arith}
-use lib.Dec.{eqb, leb}
-use lib.ListN.{length, take, drop, getD, length-append, length-drop, List·getD-append, List·getD-eq-default}
-use lib.Seq.{take-all, getD-append-add}
-use borrow.Author.Tests.{leb-true, le-leb}
-use Rattle.spec.specs.Alphabet.{pause}
-use Rattle.spec.specs.Letters.{between, read, firstByte, isGap, isBreak}
-use Rattle.spec.specs.Codes.{А*, Щ, markOf, isSound}
-use Rattle.spec.specs.Tape.{segment, tape}
-use Rattle.spec.specs.Refusals.{checkOf}
-use Rattle.spec.specs.Joints.{markIndex, wordBefore, wordAfter}
-use Rattle.spec.specs.declared.Counts.{Counts}
-use Rattle.spec.specs.declared.Checked.the-variants.{Accepted}
-use Rattle.laws.proofs.Accepted.{accepted-passes}
-use Rattle.laws.proofs.Classes.{cond-both, below-or}
-use Rattle.laws.proofs.Stretch.{segment-length}
-use Rattle.laws.proofs.PartsAccepted.{part-length, part-at}
-use Rattle.laws.proofs.Codes.{Each, part-spells, read-marks, segment-sounds, unbroken, each-at}
-use Rattle.laws.proofs.Parts.{part, Begins, hardAt, onward, voicedAt, changedAfter, changedBefore, last-at, onward-cut, part-own, tape-cut, mark-index, mark-there, code-after, onward-alone}
-use Rattle.laws.proofs.Marks.{tape-from, mark-next, mark-last}
-use Rattle.laws.proofs.Beside.{isVoiced, isHigh, isIOrE, segment-ends, segment-starts}
+use Rattle.laws.proofs.Kit.{ℕ, suc, _+_, _-_, _<_, _≤_, _≡_, refl, sym, ap, _∙_, Bool, true, false, not, _&&_, _||_, and-eq-true-iff, true≢false, _⊎_, ⊎-elim, List, [], _∷_, _++_, append-nil, arith, eqb, leb, length, take, drop, getD, length-append, length-drop, List·getD-append, List·getD-eq-default, take-all, getD-append-add, leb-true, le-leb}
+use Rattle.spec.specs.{Alphabet.pause, Letters.between, Letters.read, Letters.firstByte, Letters.isGap, Letters.isBreak, Codes.А*, Codes.Щ, Codes.markOf, Codes.isSound, Tape.segment, Tape.tape, Refusals.checkOf, Joints.markIndex, Joints.wordBefore, Joints.wordAfter, declared.Counts.Counts, declared.Checked.the-variants.Accepted}
+use Rattle.laws.proofs.{Accepted.accepted-passes, Classes.cond-both, Classes.below-or, Stretch.segment-length, PartsAccepted.part-length, PartsAccepted.part-at, Codes.Each, Codes.part-spells, Codes.read-marks, Codes.segment-sounds, Codes.unbroken, Codes.each-at, Parts.part, Parts.Begins, Parts.hardAt, Parts.onward, Parts.voicedAt, Parts.changedAfter, Parts.changedBefore, Parts.last-at, Parts.onward-cut, Parts.part-own, Parts.tape-cut, Parts.mark-index, Parts.mark-there, Parts.code-after, Parts.onward-alone, Marks.tape-from, Marks.mark-next, Marks.mark-last, Beside.isVoiced, Beside.isHigh, Beside.isIOrE, Beside.segment-ends, Beside.segment-starts}
 
 -- a part may end at e: at the message's end, or at a break
 abbrev pub Ends : List ℕ → ℕ → Type 0

@@ -1,21 +1,8 @@
 -- How many codes stand before a place of a message: those that the bytes before it make, since neither bit from over a break changes their number.
--- Assumes nothing.
-use Prim.Native.Nat.{ℕ, zero, suc, _+_, _-_}
-use mathlib.Core.Path.{_≡_, refl, sym, _∙_}
-use mathlib.Core.Bool.{Bool, true, false, _&&_}
-use mathlib.Core.List.{List, [], _∷_, _++_, append-assoc}
-use native.Mathlib.Omega.{arith}
-use lib.ListN.{length, take, getD, length-append}
-use lib.Seq.{take-suc, take-length}
-use Rattle.spec.specs.Letters.{read, isGap, isBreak}
-use Rattle.spec.specs.Codes.{markOf}
-use Rattle.spec.specs.Voicing.{voices}
-use Rattle.spec.specs.Tape.{segment, tape}
-use Rattle.spec.specs.Joints.{markIndex}
+use Rattle.laws.proofs.Kit.{ℕ, zero, suc, _+_, _-_, _≡_, refl, sym, _∙_, Bool, true, false, _&&_, List, [], _∷_, _++_, append-assoc, arith, length, take, getD, length-append, take-suc, take-length}
+use Rattle.spec.specs.{Letters.read, Letters.isGap, Letters.isBreak, Codes.markOf, Voicing.voices, Tape.segment, Tape.tape, Joints.markIndex}
 use Rattle.spec.proofs.Computed.{everything}
-use Rattle.laws.proofs.Cuts.{break-within}
-use Rattle.laws.proofs.Stretch.{read-join, segment-join, segment-length}
-use Rattle.laws.proofs.Parts.{Begins, onward, voicedAt, onward-first, tape-cut, mark-index}
+use Rattle.laws.proofs.{Cuts.break-within, Stretch.read-join, Stretch.segment-join, Stretch.segment-length, Parts.Begins, Parts.onward, Parts.voicedAt, Parts.onward-first, Parts.tape-cut, Parts.mark-index}
 
 -- no bytes have no codes
 segment-none : (h n : Bool) → segment h n (read []) ≡ []

@@ -1,25 +1,7 @@
 -- A message from a place on, whole and in parts: each cut splits both tapes at its mark, and the two sides differ in the bits that come from over the cut alone.
--- Assumes nothing.
-use Prim.Native.Nat.{ℕ, zero, suc, _+_, _-_, _<_, _≤_}
-use mathlib.Core.Path.{_≡_, refl, sym, ap, _∙_}
-use mathlib.Core.Bool.{Bool, true, false, _&&_, _||_, and-comm, and-or-distrib-left, true≢false}
-use mathlib.Core.Logic.{inl, inr, ⊎-elim, _≢_}
-use mathlib.Core.List.{List, [], _∷_, _++_, append-assoc, append-nil}
-use native.Mathlib.Omega.{arith}
-use lib.ListN.{length, take, drop, getD, length-append, take-append-drop}
-use lib.Seq.{drop-cons, drop-drop, drop-append-add, take-add, getD-at}
-use Rattle.spec.specs.Letters.{Message, read, firstByte, firstWord, lastWord, isGap, isBreak}
-use Rattle.spec.specs.Codes.{markOf}
-use Rattle.spec.specs.Voicing.{voices}
-use Rattle.spec.specs.Vowels.{endsHard}
-use Rattle.spec.specs.Palatalization.{firstCode}
-use Rattle.spec.specs.Tape.{segment, tape}
-use Rattle.spec.specs.Joints.{RisingFrom, CutOf, joinedFrom, markIndex, marksOf, breakMarks, wordBefore, wordAfter, endsInObstruent, beginsWithIOrE, liveByVoice, liveByHardness, isLive, NoneLive}
-use Rattle.laws.proofs.Word.{isHigh, isIOrE, lastCodeFrom}
-use Rattle.laws.proofs.Beside.{isVoiced, mark-unvoiced, segment-ends, segment-starts}
-use Rattle.laws.proofs.Codes.{Spells, marks-mark, bytes-marks, marks-append, breaks-append}
-use Rattle.laws.proofs.Cuts.{break-within, cut-above}
-use Rattle.laws.proofs.Stretch.{first-meet, last-meet, read-join, segment-join, segment-length, segment-quiet, segment-firm, last-append}
+use Rattle.laws.proofs.Kit.{ℕ, zero, suc, _+_, _-_, _<_, _≤_, _≡_, refl, sym, ap, _∙_, Bool, true, false, _&&_, _||_, and-comm, and-or-distrib-left, true≢false, inl, inr, ⊎-elim, _≢_, List, [], _∷_, _++_, append-assoc, append-nil, arith, length, take, drop, getD, length-append, take-append-drop, drop-cons, drop-drop, drop-append-add, take-add, getD-at}
+use Rattle.spec.specs.{Letters.Message, Letters.read, Letters.firstByte, Letters.firstWord, Letters.lastWord, Letters.isGap, Letters.isBreak, Codes.markOf, Voicing.voices, Vowels.endsHard, Palatalization.firstCode, Tape.segment, Tape.tape, Joints.RisingFrom, Joints.CutOf, Joints.joinedFrom, Joints.markIndex, Joints.marksOf, Joints.breakMarks, Joints.wordBefore, Joints.wordAfter, Joints.endsInObstruent, Joints.beginsWithIOrE, Joints.liveByVoice, Joints.liveByHardness, Joints.isLive, Joints.NoneLive}
+use Rattle.laws.proofs.{Word.isHigh, Word.isIOrE, Word.lastCodeFrom, Beside.isVoiced, Beside.mark-unvoiced, Beside.segment-ends, Beside.segment-starts, Codes.Spells, Codes.marks-mark, Codes.bytes-marks, Codes.marks-append, Codes.breaks-append, Cuts.break-within, Cuts.cut-above, Stretch.first-meet, Stretch.last-meet, Stretch.read-join, Stretch.segment-join, Stretch.segment-length, Stretch.segment-quiet, Stretch.segment-firm, Stretch.last-append}
 
 -- the bytes from place a up to place c
 abbrev pub part : List ℕ → ℕ → ℕ → List ℕ

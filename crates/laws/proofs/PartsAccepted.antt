@@ -1,22 +1,7 @@
 -- A part of an accepted message, cut at its breaks, is accepted: every row looks back no further than the break before, and a break last in a part would stand before a break or last in the message.
--- Assumes nothing.
-use Prim.Native.Nat.{ℕ, zero, suc, _+_, _-_, _<_, _≤_}
-use mathlib.Core.Path.{_≡_, refl, sym, _∙_}
-use mathlib.Core.Bool.{Bool, true, false, _||_, or-true, true≢false}
-use mathlib.Core.List.{List, [], _∷_, _++_}
-use mathlib.Core.Logic.{_⊎_, inl, inr, ⊎-elim}
-use native.Mathlib.Omega.{arith}
-use lib.ListN.{length, take, drop, getD, length-take, length-drop}
-use lib.Seq.{take-all, drop-length, getD-take, getD-drop}
-use Rattle.spec.specs.Letters.{isBreak, isMark}
-use Rattle.spec.specs.Refusals.{vowelByte, signByte, hardSignByte, first, none, adjacent, vowelSign, lettersBefore, row3, row4, row5, row6, row7, row8, row9, row10, rows, fitsIn, beforeAt, checkOf, NoneFits}
-use Rattle.spec.specs.Joints.{RisingFrom, EachPartFrom}
-use Rattle.spec.specs.declared.Counts.{Counts}
-use Rattle.spec.specs.declared.Checked.the-variants.{Accepted}
-use Rattle.laws.proofs.Accepted.{countsOf, Clear, Passes, accepted-passes, passes-accepted, passes-none}
-use Rattle.laws.proofs.Classes.{cond-app, yes-or, refuted, NoBreak, break-mark, break-vowel, break-sign, break-hard-sign}
-use Rattle.laws.proofs.Cuts.{break-within}
-use Rattle.laws.proofs.Parts.{part, Begins, or-false}
+use Rattle.laws.proofs.Kit.{ℕ, zero, suc, _+_, _-_, _<_, _≤_, _≡_, refl, sym, _∙_, Bool, true, false, _||_, or-true, true≢false, List, [], _∷_, _++_, _⊎_, inl, inr, ⊎-elim, arith, length, take, drop, getD, length-take, length-drop, take-all, drop-length, getD-take, getD-drop}
+use Rattle.spec.specs.{Letters.isBreak, Letters.isMark, Refusals.vowelByte, Refusals.signByte, Refusals.hardSignByte, Refusals.first, Refusals.none, Refusals.adjacent, Refusals.vowelSign, Refusals.lettersBefore, Refusals.row3, Refusals.row4, Refusals.row5, Refusals.row6, Refusals.row7, Refusals.row8, Refusals.row9, Refusals.row10, Refusals.rows, Refusals.fitsIn, Refusals.beforeAt, Refusals.checkOf, Refusals.NoneFits, Joints.RisingFrom, Joints.EachPartFrom, declared.Counts.Counts, declared.Checked.the-variants.Accepted}
+use Rattle.laws.proofs.{Accepted.countsOf, Accepted.Clear, Accepted.Passes, Accepted.accepted-passes, Accepted.passes-accepted, Accepted.passes-none, Classes.cond-app, Classes.yes-or, Classes.refuted, Classes.NoBreak, Classes.break-mark, Classes.break-vowel, Classes.break-sign, Classes.break-hard-sign, Cuts.break-within, Parts.part, Parts.Begins, Parts.or-false}
 
 -- the bytes before a part, nearest first: none, or a break is next
 abbrev pub Opens : List ℕ → Type 0

@@ -1,22 +1,8 @@
 -- Two messages with a break between them: a pause splits the tape, any break the names, since nothing crosses them; and accepted messages with a break between, short enough, are an accepted one.
--- Assumes nothing.
-use Prim.Native.Nat.{ℕ, zero, suc, _+_, _-_, _<_, _≤_}
-use mathlib.Core.Path.{_≡_, refl, sym, _∙_}
-use mathlib.Core.Bool.{true, false, true≢false}
-use mathlib.Core.Logic.{⊎-elim}
-use mathlib.Core.List.{List, [], _∷_, _++_, append-assoc}
-use native.Mathlib.Omega.{arith}
-use lib.ListN.{length, getD, drop, length-append, List·getD-append}
-use lib.Seq.{drop-append-le, drop-append-add, drop-length, getD-append-add, getD-at}
-use Rattle.spec.specs.Alphabet.{pause}
-use Rattle.spec.specs.Letters.{Message, last, more, read, isBreak}
-use Rattle.spec.specs.Tape.{tape, wordNames, namesOf, names}
-use Rattle.spec.specs.Refusals.{letterByte, first, none, row3, row4, row5, row6, row7, row8, row9, row10, rows, fitsIn, beforeAt, NoneFits}
+use Rattle.laws.proofs.Kit.{ℕ, zero, suc, _+_, _-_, _<_, _≤_, _≡_, refl, sym, _∙_, true, false, true≢false, ⊎-elim, List, [], _∷_, _++_, append-assoc, arith, length, getD, drop, length-append, List·getD-append, drop-append-le, drop-append-add, drop-length, getD-append-add, getD-at}
+use Rattle.spec.specs.{Alphabet.pause, Letters.Message, Letters.last, Letters.more, Letters.read, Letters.isBreak, Tape.tape, Tape.wordNames, Tape.namesOf, Tape.names, Refusals.letterByte, Refusals.first, Refusals.none, Refusals.row3, Refusals.row4, Refusals.row5, Refusals.row6, Refusals.row7, Refusals.row8, Refusals.row9, Refusals.row10, Refusals.rows, Refusals.fitsIn, Refusals.beforeAt, Refusals.NoneFits}
 use Rattle.spec.proofs.Computed.{everything}
-use Rattle.laws.proofs.Accepted.{Clear, ClearAt, Passes, passes-none, none-accepted, accepted-passes}
-use Rattle.laws.proofs.Stretch.{meet, read-join, segment-join}
-use Rattle.laws.proofs.Classes.{cond-same, refuted, below-or, break-mark, break-vowel, break-sign, break-consonant}
-use Rattle.laws.proofs.PartsAccepted.{Opens, rows-over, rows-after, clear-followed}
+use Rattle.laws.proofs.{Accepted.Clear, Accepted.ClearAt, Accepted.Passes, Accepted.passes-none, Accepted.none-accepted, Accepted.accepted-passes, Stretch.meet, Stretch.read-join, Stretch.segment-join, Classes.cond-same, Classes.refuted, Classes.below-or, Classes.break-mark, Classes.break-vowel, Classes.break-sign, Classes.break-consonant, PartsAccepted.Opens, PartsAccepted.rows-over, PartsAccepted.rows-after, PartsAccepted.clear-followed}
 
 -- A pause splits a tape.
 pub tape-pause : (a b : List ℕ) → tape (a ++ (pause ∷ b)) ≡ tape a ++ (63 ∷ tape b)

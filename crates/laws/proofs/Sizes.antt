@@ -1,19 +1,6 @@
 -- How long a tape and a naming can be: a letter makes at most two codes and one name, a break one code, and a message has no more letters and breaks than bytes.
--- Assumes nothing.
-use Prim.Native.Nat.{ℕ, suc, _+_, _*_, _≤_}
-use mathlib.Core.Path.{_≡_, refl, ap}
-use mathlib.Core.Bool.{Bool, true, false, _&&_, _||_}
-use mathlib.Core.Logic.{⊎-elim}
-use mathlib.Core.List.{List, [], _∷_, _++_}
-use native.Mathlib.Omega.{arith}
-use lib.ListN.{length, length-append}
-use Rattle.spec.specs.Letters.{Letter, Message, last, more, read, putLetter, beginsWithMark, small, isGap, isBreak, isMark, isSign, isVowel, isConsonant, plainVowels, softeningVowels}
-use Rattle.spec.specs.Elision.{elides, elideFrom, elide}
-use Rattle.spec.specs.Syllables.{Facts, factsOf, syllableOf, incomplete, namesFrom}
-use Rattle.spec.specs.Vowels.{Phone, glides, vowelPhones, phonesOf, phonesFrom, endsHard}
-use Rattle.spec.specs.Voicing.{voices, voice}
-use Rattle.spec.specs.Palatalization.{palatalize}
-use Rattle.spec.specs.Tape.{wordTape, segment, tape, wordNames, namesOf, names}
+use Rattle.laws.proofs.Kit.{ℕ, suc, _+_, _*_, _≤_, _≡_, refl, ap, Bool, true, false, _&&_, _||_, ⊎-elim, List, [], _∷_, _++_, arith, length, length-append}
+use Rattle.spec.specs.{Letters.Letter, Letters.Message, Letters.last, Letters.more, Letters.read, Letters.putLetter, Letters.beginsWithMark, Letters.small, Letters.isGap, Letters.isBreak, Letters.isMark, Letters.isSign, Letters.isVowel, Letters.isConsonant, Letters.plainVowels, Letters.softeningVowels, Elision.elides, Elision.elideFrom, Elision.elide, Syllables.Facts, Syllables.factsOf, Syllables.syllableOf, Syllables.incomplete, Syllables.namesFrom, Vowels.Phone, Vowels.glides, Vowels.vowelPhones, Vowels.phonesOf, Vowels.phonesFrom, Vowels.endsHard, Voicing.voices, Voicing.voice, Palatalization.palatalize, Tape.wordTape, Tape.segment, Tape.tape, Tape.wordNames, Tape.namesOf, Tape.names}
 use Rattle.spec.proofs.Computed.{everything}
 use Rattle.laws.proofs.Classes.{cond-both, yes-or, among-same}
 

@@ -1,23 +1,7 @@
 -- The tape of a stretch of a message: a break splits it in two, since nothing but the two bits crosses a break; and what the bits change, by its first and last word.
--- Assumes nothing.
-use Prim.Native.Nat.{ℕ}
-use mathlib.Core.Path.{_≡_, refl, ap}
-use mathlib.Core.Bool.{Bool, true, false, _&&_}
-use mathlib.Core.List.{List, [], _∷_, _++_, append-assoc}
-use native.Mathlib.Omega.{arith}
-use lib.Dec.{eqb}
-use lib.ListN.{length, length-append}
-use Rattle.spec.specs.Alphabet.{pause}
-use Rattle.spec.specs.Tables.{among}
-use Rattle.spec.specs.Letters.{Letter, Message, last, more, read, putLetter, beginsWithMark, firstWord, lastWord, isGap, isBreak}
-use Rattle.spec.specs.Codes.{markOf, isVoicing}
-use Rattle.spec.specs.Vowels.{endsHard}
-use Rattle.spec.specs.Palatalization.{firstCode}
-use Rattle.spec.specs.Voicing.{voices}
-use Rattle.spec.specs.Tape.{segment}
-use Rattle.spec.specs.Joints.{endsInObstruent, beginsWithIOrE}
-use Rattle.laws.proofs.Classes.{cond-both, cond-app, break-mark}
-use Rattle.laws.proofs.Word.{lastCodeFrom, word-length, word-quiet, word-firm}
+use Rattle.laws.proofs.Kit.{ℕ, _≡_, refl, ap, Bool, true, false, _&&_, List, [], _∷_, _++_, append-assoc, arith, eqb, length, length-append}
+use Rattle.spec.specs.{Alphabet.pause, Tables.among, Letters.Letter, Letters.Message, Letters.last, Letters.more, Letters.read, Letters.putLetter, Letters.beginsWithMark, Letters.firstWord, Letters.lastWord, Letters.isGap, Letters.isBreak, Codes.markOf, Codes.isVoicing, Vowels.endsHard, Palatalization.firstCode, Voicing.voices, Tape.segment, Joints.endsInObstruent, Joints.beginsWithIOrE}
+use Rattle.laws.proofs.{Classes.cond-both, Classes.cond-app, Classes.break-mark, Word.lastCodeFrom, Word.word-length, Word.word-quiet, Word.word-firm}
 
 -- the message a, the break x, and the message b, read as one
 unfoldable pub meet : Message → ℕ → Message → Message

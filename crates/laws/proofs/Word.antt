@@ -1,29 +1,7 @@
 -- The tape of a word and the two bits that come from its neighbours: what each bit changes, for a word and a letter in general.
 -- Why: pass 4 reads the bit of what follows only at the last sound, and pass 3 reads the bit of what stands before only at the first letter, in the rows of э and и.
--- Assumes nothing.
-use Prim.Native.Nat.{ℕ, suc}
-use native.Mathlib.Omega.{arith}
-use mathlib.Core.Path.{_≡_, refl, sym, ap, subst, _∙_}
-use mathlib.Core.Bool.{Bool, true, false, cond, not, _&&_, _||_, true≢false, false≢true, and-true, and-false}
-use mathlib.Core.Logic.{⊎-elim}
-use mathlib.Core.List.{List, [], _∷_, _++_, append-nil, map}
-use lib.ListN.{length}
-use lib.Dec.{eqb}
-use borrow.Author.Tests.{eqb-true, eqb-false}
-use Rattle.spec.specs.Alphabet.{«и», «н», «с», «ц», «ч», «ш», «э»}
-use Rattle.spec.specs.Tables.{among, entry}
-use Rattle.spec.specs.Letters.{Letter, firstByte, obstruents, signs, isSign, isVowel, isObstruent}
-use Rattle.spec.specs.Codes.{Ы*, Ы1}
-use Rattle.spec.specs.Elision.{elidesT, elidesD, elides, elideFrom, elide, elidesAmong}
-use Rattle.spec.specs.Syllables.{Facts, factsOf, coverAfter, hasMark, nextStressed, levelOf, syllableOf}
-use Rattle.spec.specs.Vowels.{Phone, byStress, byLevel, glides, vowelSound, vowelPhones, phonesOf, phonesFrom}
-use Rattle.spec.specs.Voicing.{voicedCode, voicelessCode, toneOf, toned, voiceOne, voice}
-use Rattle.spec.specs.Palatalization.{isSoft, firstCode, palatalize}
-use Rattle.spec.specs.Tape.{wordTape}
-use Rattle.spec.specs.Joints.{endsInObstruent, endsInObstruentFrom, beginsWithIOrE}
-use Rattle.spec.specs.declared.Cover.{Cover}
-use Rattle.spec.specs.declared.Level.{Level}
-use Rattle.spec.specs.declared.Level.the-variants.{Stressed, First, Second}
+use Rattle.laws.proofs.Kit.{ℕ, suc, arith, _≡_, refl, sym, ap, subst, _∙_, Bool, true, false, cond, not, _&&_, _||_, true≢false, false≢true, and-true, and-false, ⊎-elim, List, [], _∷_, _++_, append-nil, map, length, eqb, eqb-true, eqb-false}
+use Rattle.spec.specs.{Alphabet.«и», Alphabet.«н», Alphabet.«с», Alphabet.«ц», Alphabet.«ч», Alphabet.«ш», Alphabet.«э», Tables.among, Tables.entry, Letters.Letter, Letters.firstByte, Letters.obstruents, Letters.signs, Letters.isSign, Letters.isVowel, Letters.isObstruent, Codes.Ы*, Codes.Ы1, Elision.elidesT, Elision.elidesD, Elision.elides, Elision.elideFrom, Elision.elide, Elision.elidesAmong, Syllables.Facts, Syllables.factsOf, Syllables.coverAfter, Syllables.hasMark, Syllables.nextStressed, Syllables.levelOf, Syllables.syllableOf, Vowels.Phone, Vowels.byStress, Vowels.byLevel, Vowels.glides, Vowels.vowelSound, Vowels.vowelPhones, Vowels.phonesOf, Vowels.phonesFrom, Voicing.voicedCode, Voicing.voicelessCode, Voicing.toneOf, Voicing.toned, Voicing.voiceOne, Voicing.voice, Palatalization.isSoft, Palatalization.firstCode, Palatalization.palatalize, Tape.wordTape, Joints.endsInObstruent, Joints.endsInObstruentFrom, Joints.beginsWithIOrE, declared.Cover.Cover, declared.Level.Level, declared.Level.the-variants.Stressed, declared.Level.the-variants.First, declared.Level.the-variants.Second}
 use Rattle.spec.proofs.Computed.{everything}
 use Rattle.laws.proofs.Classes.{yes-or, among-same}
 

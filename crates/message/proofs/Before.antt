@@ -1,22 +1,9 @@
 -- The kind of what stands before a place tells the class of the last letter of the word: a letter's kind is its class, and a mark stands right after a vowel and counts as one.
--- Assumes nothing.
-use Prim.Native.Nat.{ℕ, zero, suc, _+_, _<_, _≤_}
-use mathlib.Core.Path.{_≡_, refl, sym, _∙_}
-use mathlib.Core.Bool.{Bool, true, false, cond, _&&_, false≢true}
-use mathlib.Core.List.{List, [], _∷_, _++_, map}
-use lib.Dec.{eqb}
-use lib.ListN.{length, getD}
-use borrow.Author.Tests.{eqb-true}
-use native.Mathlib.Omega.{arith}
-use Rattle.spec.specs.Letters.{small, plainVowels, softeningVowels, isMark, isBreak, isVowel, isSign, isConsonant}
-use Rattle.spec.specs.Refusals.{vowelByte}
-use Rattle.message.specs.Classes.{classOf, isBreakClass, isConsonantClass, isSignClass, isLetterClass}
-use Rattle.message.specs.Steps.{isVowelKind, isSignKind, nextKind, kindAt}
-use Rattle.message.proofs.Bytes.{below, below-same, by-class, letter-class, vowel-break, vowel-mark}
+use Rattle.laws.proofs.Kit.{ℕ, zero, suc, _+_, _<_, _≤_, _≡_, refl, sym, _∙_, Bool, true, false, cond, _&&_, false≢true, List, [], _∷_, _++_, map, eqb, length, getD, eqb-true, arith}
+use Rattle.spec.specs.{Letters.small, Letters.plainVowels, Letters.softeningVowels, Letters.isMark, Letters.isBreak, Letters.isVowel, Letters.isSign, Letters.isConsonant, Refusals.vowelByte}
+use Rattle.message.specs.{Classes.classOf, Classes.isBreakClass, Classes.isConsonantClass, Classes.isSignClass, Classes.isLetterClass, Steps.isVowelKind, Steps.isSignKind, Steps.nextKind, Steps.kindAt, Places.leftAt, Places.letterOf, Places.Steady}
+use Rattle.message.proofs.{Bytes.below, Bytes.below-same, Bytes.by-class, Bytes.letter-class, Bytes.vowel-break, Bytes.vowel-mark, Left.left-letter, Left.left-mark, Left.left-break, Computed.everything}
 use Rattle.laws.proofs.Classes.{among-same}
-use Rattle.message.specs.Places.{leftAt, letterOf, Steady}
-use Rattle.message.proofs.Left.{left-letter, left-mark, left-break}
-use Rattle.message.proofs.Computed.{everything}
 
 -- the kind k tells the class of the letter p, 0 for none
 pub record Kind (p k : ℕ) : Type 0 where

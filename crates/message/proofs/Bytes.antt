@@ -1,15 +1,6 @@
 -- What holds of every number below a bound is one computation, so a byte's tests go by its class.
--- Assumes nothing.
-use Prim.Native.Nat.{ℕ, zero, suc, _<_}
-use mathlib.Core.Path.{_≡_, refl}
-use mathlib.Core.Bool.{Bool, true, false, _&&_, _||_}
-use mathlib.Core.List.{List, [], _∷_, map}
-use native.Mathlib.Omega.{arith}
-use lib.Dec.{eqb, leb}
-use borrow.Author.Tests.{eqb-true, eqb-false, leb-true, ne-eqb}
-use Rattle.spec.specs.Alphabet.{«д», «т»}
-use Rattle.spec.specs.Letters.{small, isMark, isBreak, isConsonant}
-use Rattle.spec.specs.Refusals.{vowelByte, signByte, hardSignByte, consonantByte, letterByte}
+use Rattle.laws.proofs.Kit.{ℕ, zero, suc, _<_, _≡_, refl, Bool, true, false, _&&_, _||_, List, [], _∷_, map, arith, eqb, leb, eqb-true, eqb-false, leb-true, ne-eqb}
+use Rattle.spec.specs.{Alphabet.«д», Alphabet.«т», Letters.small, Letters.isMark, Letters.isBreak, Letters.isConsonant, Refusals.vowelByte, Refusals.signByte, Refusals.hardSignByte, Refusals.consonantByte, Refusals.letterByte}
 use Rattle.message.specs.Classes.{classOf, isBreakClass, isSignClass, isConsonantClass, isVowelClass, isLetterClass}
 use Rattle.message.proofs.Computed.{everything}
 

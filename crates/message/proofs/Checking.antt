@@ -1,23 +1,9 @@
 -- What the check has seen stays true, over a byte and over any number of bytes that need only be added; at the end it is the answer.
--- Assumes nothing.
-use Prim.Native.Nat.{ℕ, zero, suc, _+_, _-_, _*_, _/_, _%_, _<_, _≤_}
-use mathlib.Core.Path.{_≡_, refl, sym, _∙_}
-use mathlib.Core.Bool.{Bool, true, false, cond, _&&_, and-false, and-eq-true-iff, false≢true}
-use mathlib.Core.List.{List}
-use native.Mathlib.Omega.{arith}
-use lib.Dec.{eqb, leb}
-use lib.ListN.{length, getD}
-use borrow.Author.Tests.{eqb-true, eqb-false, leb-true, leb-false, ne-eqb}
-use Rattle.spec.specs.Refusals.{refusal, checkOf}
-use Rattle.message.specs.Classes.{isBreakClass, isLetterClass, classAt, silentAt}
-use Rattle.message.specs.Steps.{nextKind, faultIn, widthIn, namesIn, askIn, stopIn, tailNames, packed, kindAt, widthAt, codesTo, namesTo, lettersAt, faultHere, Sees, fourAt, silentFour, Counted, finishOf, nameUnit, askUnit, stopUnit}
-use Rattle.spec.specs.declared.Checked.the-variants.{Accepted, Refused}
-use Rattle.message.specs.declared.Seen.{Seen}
+use Rattle.laws.proofs.Kit.{ℕ, zero, suc, _+_, _-_, _*_, _/_, _%_, _<_, _≤_, _≡_, refl, sym, _∙_, Bool, true, false, cond, _&&_, and-false, and-eq-true-iff, false≢true, List, arith, eqb, leb, length, getD, eqb-true, eqb-false, leb-true, leb-false, ne-eqb}
+use Rattle.spec.specs.{Refusals.refusal, Refusals.checkOf, declared.Checked.the-variants.Accepted, declared.Checked.the-variants.Refused}
+use Rattle.message.specs.{Classes.isBreakClass, Classes.isLetterClass, Classes.classAt, Classes.silentAt, Steps.nextKind, Steps.faultIn, Steps.widthIn, Steps.namesIn, Steps.askIn, Steps.stopIn, Steps.tailNames, Steps.packed, Steps.kindAt, Steps.widthAt, Steps.codesTo, Steps.namesTo, Steps.lettersAt, Steps.faultHere, Steps.Sees, Steps.fourAt, Steps.silentFour, Steps.Counted, Steps.finishOf, Steps.nameUnit, Steps.askUnit, Steps.stopUnit, declared.Seen.Seen}
 use Rattle.laws.proofs.Accepted.{countsOf}
-use Rattle.message.proofs.Steadiness.{accepted-steady}
-use Rattle.message.proofs.StepTable.{Entry, unpacks, silent-asks}
-use Rattle.message.proofs.Lengths.{codes-all, names-all}
-use Rattle.message.proofs.Faults.{here-clear, clear-here, kind-small, entry-at, counts-up, last-refused, all-accepted}
+use Rattle.message.proofs.{Steadiness.accepted-steady, StepTable.Entry, StepTable.unpacks, StepTable.silent-asks, Lengths.codes-all, Lengths.names-all, Faults.here-clear, Faults.clear-here, Faults.kind-small, Faults.entry-at, Faults.counts-up, Faults.last-refused, Faults.all-accepted}
 
 -- the end of the walk is the check's answer
 pub seen-all : (m : List ℕ) (s : Seen) → 0 < length m → length m ≤ 4096 → Sees m s → s .at ≡ length m → finishOf (length m) s ≡ checkOf m

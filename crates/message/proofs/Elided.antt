@@ -1,16 +1,6 @@
 -- Only т and д are elided, and only before с н ч ц ш: none of these is a vowel or a sign or softens, so elision changes no syllable and no softness.
--- Assumes nothing.
-use Prim.Native.Nat.{ℕ}
-use mathlib.Core.Path.{_≡_, refl, sym, _∙_}
-use mathlib.Core.Bool.{Bool, true, false, cond, _&&_, _||_, and-false, false≢true}
-use mathlib.Core.List.{List, [], _∷_}
-use lib.Dec.{eqb}
-use Rattle.spec.specs.Alphabet.{«д», «н», «с», «т», «ц», «ч», «ш»}
-use Rattle.spec.specs.Tables.{among}
-use Rattle.spec.specs.Letters.{Letter, firstByte, isSign, isVowel}
-use Rattle.spec.specs.Elision.{secondByte, elidesT, elidesD, elides, elideFrom, elidesAmong}
-use Rattle.spec.specs.Syllables.{Facts, levelOf, nextStressed, syllableOf, namesFrom}
-use Rattle.spec.specs.Vowels.{softens, phonesOf, phonesFrom}
+use Rattle.laws.proofs.Kit.{ℕ, _≡_, refl, sym, _∙_, Bool, true, false, cond, _&&_, _||_, and-false, false≢true, List, [], _∷_, eqb}
+use Rattle.spec.specs.{Alphabet.«д», Alphabet.«н», Alphabet.«с», Alphabet.«т», Alphabet.«ц», Alphabet.«ч», Alphabet.«ш», Tables.among, Letters.Letter, Letters.firstByte, Letters.isSign, Letters.isVowel, Elision.secondByte, Elision.elidesT, Elision.elidesD, Elision.elides, Elision.elideFrom, Elision.elidesAmong, Syllables.Facts, Syllables.levelOf, Syllables.nextStressed, Syllables.syllableOf, Syllables.namesFrom, Vowels.softens, Vowels.phonesOf, Vowels.phonesFrom}
 use Rattle.laws.proofs.Classes.{among-same, among-none}
 use Rattle.message.proofs.Computed.{everything}
 

@@ -1,23 +1,11 @@
 -- All five passes of a word as one recursion over its letters as written, from the right: a letter's codes are settled by the letter before it,
 -- the letters after it as written, and the finished codes after it. Equal to the passes one after the other, because elision changes nothing that
 -- the letters around it go by (Elided.antt), and palatalization does not change whether a sound voices or devoices the one before it.
--- Assumes nothing.
-use Prim.Native.Nat.{ℕ}
-use mathlib.Core.Path.{_≡_, refl, sym}
-use mathlib.Core.Bool.{Bool, true, false, cond, _&&_}
-use mathlib.Core.List.{List, [], _∷_, _++_}
-use Rattle.spec.specs.Letters.{Letter, paired, firstByte, isPaired, isSign, isVowel, isObstruent}
-use Rattle.spec.specs.Codes.{palatalized}
-use Rattle.spec.specs.Elision.{elideFrom, elide}
-use Rattle.spec.specs.Syllables.{Facts, factsOf, syllableOf, namesFrom}
-use Rattle.spec.specs.Vowels.{Phone, glides, writtenCode, softens, vowelPhones, phonesOf, phonesFrom}
-use Rattle.spec.specs.Voicing.{Tone, voiced, voiceless, asWritten, voices, toneOf, toned, codesOf, voiceOne, voice}
-use Rattle.spec.specs.Palatalization.{isSoft, firstCode, palatalize}
-use Rattle.spec.specs.Tape.{wordTape, wordNames}
+use Rattle.laws.proofs.Kit.{ℕ, _≡_, refl, sym, Bool, true, false, cond, _&&_, List, [], _∷_, _++_}
+use Rattle.spec.specs.{Letters.Letter, Letters.paired, Letters.firstByte, Letters.isPaired, Letters.isSign, Letters.isVowel, Letters.isObstruent, Codes.palatalized, Elision.elideFrom, Elision.elide, Syllables.Facts, Syllables.factsOf, Syllables.syllableOf, Syllables.namesFrom, Vowels.Phone, Vowels.glides, Vowels.writtenCode, Vowels.softens, Vowels.vowelPhones, Vowels.phonesOf, Vowels.phonesFrom, Voicing.Tone, Voicing.voiced, Voicing.voiceless, Voicing.asWritten, Voicing.voices, Voicing.toneOf, Voicing.toned, Voicing.codesOf, Voicing.voiceOne, Voicing.voice, Palatalization.isSoft, Palatalization.firstCode, Palatalization.palatalize, Tape.wordTape, Tape.wordNames}
 use Rattle.message.specs.Fused.{toneBefore, vowelCodes, consonantCode, letterCodes, fusedFrom}
 use Rattle.laws.proofs.Classes.{among-same, vowel-quiet, vowel-single}
-use Rattle.message.proofs.Elided.{elide-cases, soft-elide, syllable-elide, phones-free, names-elide}
-use Rattle.message.proofs.Computed.{everything}
+use Rattle.message.proofs.{Elided.elide-cases, Elided.soft-elide, Elided.syllable-elide, Elided.phones-free, Elided.names-elide, Computed.everything}
 
 -- the code of a consonant b after pass 4
 abbrev spoken : Tone → ℕ → ℕ

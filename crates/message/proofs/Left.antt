@@ -1,20 +1,7 @@
 -- The left context of a place is the letters of the word before it, carried from the left; a letter, a mark and a break each change it in one way, as they change what is read from the place on.
 -- All places of an accepted message are steady: a mark stands right after a vowel.
--- Assumes nothing.
-use Prim.Native.Nat.{ℕ, zero, suc, _<_}
-use mathlib.Core.Path.{_≡_, refl, sym, ap, _∙_}
-use mathlib.Core.Bool.{Bool, true, false, cond, _&&_, _||_, not}
-use mathlib.Core.List.{List, [], _∷_}
-use lib.Dec.{leb}
-use lib.ListN.{length, getD, drop, List·getD-eq-default}
-use lib.Seq.{drop-cons, drop-length}
-use borrow.Author.Tests.{eqb-true, leb-true, leb-false}
-use native.Mathlib.Omega.{arith}
-use Rattle.spec.specs.Alphabet.{mark}
-use Rattle.spec.specs.Letters.{Letter, Message, last, more, putLetter, read, firstWord, small, isMark, isBreak, isGap, beginsWithMark}
-use Rattle.spec.specs.Syllables.{hasMark}
-use Rattle.spec.specs.Vowels.{hardEnd}
-use Rattle.spec.specs.Refusals.{vowelByte}
+use Rattle.laws.proofs.Kit.{ℕ, zero, suc, _<_, _≡_, refl, sym, ap, _∙_, Bool, true, false, cond, _&&_, _||_, not, List, [], _∷_, leb, length, getD, drop, List·getD-eq-default, drop-cons, drop-length, eqb-true, leb-true, leb-false, arith}
+use Rattle.spec.specs.{Alphabet.mark, Letters.Letter, Letters.Message, Letters.last, Letters.more, Letters.putLetter, Letters.read, Letters.firstWord, Letters.small, Letters.isMark, Letters.isBreak, Letters.isGap, Letters.beginsWithMark, Syllables.hasMark, Vowels.hardEnd, Refusals.vowelByte}
 use Rattle.message.specs.Places.{Left, stepLeft, leftAt, markFrom, letterOf, Steady}
 
 -- a mark is no break

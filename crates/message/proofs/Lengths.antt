@@ -1,34 +1,9 @@
 -- The counts of the check are the lengths of the tape and of the names: each byte is counted as many codes and names as it puts before what comes after it, told by its class and the kind before it.
--- Assumes nothing.
-use Prim.Native.Nat.{ℕ, zero, suc, _+_, _<_, _≤_}
-use mathlib.Core.Path.{_≡_, refl, sym, ap, _∙_}
-use mathlib.Core.Bool.{Bool, true, false, cond, _&&_, _||_, true≢false}
-use mathlib.Core.List.{List, [], _∷_, _++_, map}
-use lib.Dec.{eqb}
-use lib.ListN.{length, getD, length-append}
-use borrow.Author.Tests.{eqb-true}
-use native.Mathlib.Omega.{arith}
-use Rattle.spec.specs.Alphabet.{«е», «ё», «и», «ю», «я»}
-use Rattle.spec.specs.Tables.{among}
-use Rattle.spec.specs.Letters.{Letter, small, hardOnly, paired, softOnly, isMark, isBreak, isVowel, isSign, isConsonant}
-use Rattle.spec.specs.Elision.{elides}
-use Rattle.spec.specs.Syllables.{Facts, coverAfter, syllableOf, incomplete}
-use Rattle.spec.specs.Vowels.{bare, glides}
-use Rattle.spec.specs.Voicing.{Tone}
-use Rattle.spec.specs.Tape.{tape, names}
-use Rattle.spec.specs.Refusals.{vowelByte}
-use Rattle.message.specs.Classes.{classOf, isBreakClass, isConsonantClass, isLetterClass}
-use Rattle.message.specs.Steps.{isSignKind, kindAt, widthIn, widthAt, codesTo, namesIn, namesTo, tailNames}
-use Rattle.spec.specs.declared.Cover.the-variants.{Bare, Covered}
-use Rattle.message.proofs.Bytes.{below, below-same, by-class, letter-class}
+use Rattle.laws.proofs.Kit.{ℕ, zero, suc, _+_, _<_, _≤_, _≡_, refl, sym, ap, _∙_, Bool, true, false, cond, _&&_, _||_, true≢false, List, [], _∷_, _++_, map, eqb, length, getD, length-append, eqb-true, arith}
+use Rattle.spec.specs.{Alphabet.«е», Alphabet.«ё», Alphabet.«и», Alphabet.«ю», Alphabet.«я», Tables.among, Letters.Letter, Letters.small, Letters.hardOnly, Letters.paired, Letters.softOnly, Letters.isMark, Letters.isBreak, Letters.isVowel, Letters.isSign, Letters.isConsonant, Elision.elides, Syllables.Facts, Syllables.coverAfter, Syllables.syllableOf, Syllables.incomplete, Vowels.bare, Vowels.glides, Voicing.Tone, Tape.tape, Tape.names, Refusals.vowelByte, declared.Cover.the-variants.Bare, declared.Cover.the-variants.Covered}
+use Rattle.message.specs.{Classes.classOf, Classes.isBreakClass, Classes.isConsonantClass, Classes.isLetterClass, Steps.isSignKind, Steps.kindAt, Steps.widthIn, Steps.widthAt, Steps.codesTo, Steps.namesIn, Steps.namesTo, Steps.tailNames, Fused.vowelCodes, Fused.letterCodes, Places.leftAt, Places.factsAt, Places.toneAt, Places.soundAt, Places.tapeAt, Places.wordAt, Places.letterOf, Places.codesAt, Places.namesAt, Places.Steady}
+use Rattle.message.proofs.{Bytes.below, Bytes.below-same, Bytes.by-class, Bytes.letter-class, Tail.tape-start, Tail.tape-end, Tail.tape-letter, Tail.tape-mark, Tail.tape-break, Tail.names-start, Tail.names-end, Tail.names-vowel, Tail.names-other, Tail.names-break, Before.kind-at, Silent.elided-at, StepTable.class-spoken, Computed.everything}
 use Rattle.laws.proofs.Classes.{among-same}
-use Rattle.message.specs.Fused.{vowelCodes, letterCodes}
-use Rattle.message.specs.Places.{leftAt, factsAt, toneAt, soundAt, tapeAt, wordAt, letterOf, codesAt, namesAt, Steady}
-use Rattle.message.proofs.Tail.{tape-start, tape-end, tape-letter, tape-mark, tape-break, names-start, names-end, names-vowel, names-other, names-break}
-use Rattle.message.proofs.Before.{kind-at}
-use Rattle.message.proofs.Silent.{elided-at}
-use Rattle.message.proofs.StepTable.{class-spoken}
-use Rattle.message.proofs.Computed.{everything}
 
 -- how many codes a letter s makes, elision apart, by whether a consonant or a sign stands before it, as the passes have it
 abbrev heard : Bool → Bool → ℕ → ℕ

@@ -1,27 +1,9 @@
 -- Which letters are silent can be told from the bytes beside them: elision asks only for consonants, and beside a т or д a byte that is no letter of the word is no consonant, and no mark stands between.
--- Assumes nothing.
-use Prim.Native.Nat.{ℕ, zero, suc, _+_, _<_, _≤_}
-use mathlib.Core.Path.{_≡_, refl, sym, ap, _∙_}
-use mathlib.Core.Bool.{Bool, true, false, _&&_, false≢true}
-use mathlib.Core.List.{List, [], _++_}
-use lib.Dec.{eqb, leb}
-use lib.ListN.{length, getD, drop-of-length-le, List·getD-eq-default}
-use borrow.Author.Tests.{eqb-true, leb-true, leb-false}
-use native.Mathlib.Omega.{arith}
-use native.Mathlib.Numerals.{add-one}
-use Rattle.spec.specs.Alphabet.{«д», «з», «к», «н», «р», «с», «т», «ц», «ч», «ш»}
-use Rattle.spec.specs.Tables.{among}
-use Rattle.spec.specs.Letters.{Letter, read, firstWord, firstByte, small, hardOnly, paired, softOnly, plainVowels, softeningVowels, isMark, isBreak, isVowel, isConsonant}
-use Rattle.spec.specs.Elision.{secondByte, elides, elidesT, elidesD, elidesAmong}
-use Rattle.spec.specs.Refusals.{consonantByte}
-use Rattle.message.specs.Classes.{letterAt, letterBefore, elidedAt}
-use Rattle.message.proofs.Bytes.{mark-consonant, consonant-vowel}
+use Rattle.laws.proofs.Kit.{ℕ, zero, suc, _+_, _<_, _≤_, _≡_, refl, sym, ap, _∙_, Bool, true, false, _&&_, false≢true, List, [], _++_, eqb, leb, length, getD, drop-of-length-le, List·getD-eq-default, eqb-true, leb-true, leb-false, arith, add-one}
+use Rattle.spec.specs.{Alphabet.«д», Alphabet.«з», Alphabet.«к», Alphabet.«н», Alphabet.«р», Alphabet.«с», Alphabet.«т», Alphabet.«ц», Alphabet.«ч», Alphabet.«ш», Tables.among, Letters.Letter, Letters.read, Letters.firstWord, Letters.firstByte, Letters.small, Letters.hardOnly, Letters.paired, Letters.softOnly, Letters.plainVowels, Letters.softeningVowels, Letters.isMark, Letters.isBreak, Letters.isVowel, Letters.isConsonant, Elision.secondByte, Elision.elides, Elision.elidesT, Elision.elidesD, Elision.elidesAmong, Refusals.consonantByte}
+use Rattle.message.specs.{Classes.letterAt, Classes.letterBefore, Classes.elidedAt, Places.leftAt, Places.wordAt, Places.letterOf, Places.Steady}
+use Rattle.message.proofs.{Bytes.mark-consonant, Bytes.consonant-vowel, Left.left-letter, Left.left-mark, Left.left-break, Left.unmarked-after, Tail.word-letter, Tail.word-break, Before.vowel-before, Computed.everything}
 use Rattle.laws.proofs.Classes.{among-same, among-none, break-consonant}
-use Rattle.message.specs.Places.{leftAt, wordAt, letterOf, Steady}
-use Rattle.message.proofs.Left.{left-letter, left-mark, left-break, unmarked-after}
-use Rattle.message.proofs.Tail.{word-letter, word-break}
-use Rattle.message.proofs.Before.{vowel-before}
-use Rattle.message.proofs.Computed.{everything}
 
 -- elision looks at the letter before and the two after
 pub elides-beside : (p b : ℕ) (w : List Letter) → elides p b w ≡ elidesAmong p b (firstByte w) (secondByte w)

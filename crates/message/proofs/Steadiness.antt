@@ -1,17 +1,8 @@
 -- An accepted message is steady: each of its bytes has a class, and a mark stands right after a vowel.
--- Assumes nothing.
-use Prim.Native.Nat.{ℕ, suc, _<_}
-use mathlib.Core.Path.{_≡_, refl, sym, _∙_}
-use mathlib.Core.Bool.{Bool, true, false, _&&_, not, false≢true}
-use mathlib.Core.List.{List, []}
-use lib.ListN.{getD, drop}
-use Rattle.spec.specs.Letters.{isMark}
-use Rattle.spec.specs.Refusals.{vowelByte, first, row3, row5, rows, fitsIn, beforeAt, checkOf}
-use Rattle.spec.specs.declared.Counts.{Counts}
-use Rattle.spec.specs.declared.Checked.the-variants.{Accepted}
+use Rattle.laws.proofs.Kit.{ℕ, suc, _<_, _≡_, refl, sym, _∙_, Bool, true, false, _&&_, not, false≢true, List, [], getD, drop}
+use Rattle.spec.specs.{Letters.isMark, Refusals.vowelByte, Refusals.first, Refusals.row3, Refusals.row5, Refusals.rows, Refusals.fitsIn, Refusals.beforeAt, Refusals.checkOf, declared.Counts.Counts, declared.Checked.the-variants.Accepted}
 use Rattle.laws.proofs.Accepted.{Clear, accepted-passes}
-use Rattle.message.specs.Classes.{classOf}
-use Rattle.message.specs.Places.{Steady}
+use Rattle.message.specs.{Classes.classOf, Places.Steady}
 use Rattle.message.proofs.Bytes.{ByClass, by-class}
 
 -- a clear byte is of some class

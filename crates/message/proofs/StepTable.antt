@@ -1,22 +1,9 @@
 -- The check's tables by their rules: each entry is what specs/Steps.antt says, by one computation over all of them.
--- Assumes nothing.
-use Prim.Native.Nat.{ℕ, zero, suc, _+_, _-_, _*_, _/_, _%_, _<_, _≤_}
-use mathlib.Core.Path.{_≡_, refl, sym, ap, _∙_}
-use mathlib.Core.Bool.{Bool, true, false, cond, _&&_, _||_, not, and-false, false≢true}
-use mathlib.Core.List.{List, [], _∷_, map}
-use native.Mathlib.Omega.{arith}
-use lib.Dec.{eqb, leb}
-use lib.ListN.{getD}
-use borrow.Author.Tests.{eqb-true, eqb-false, leb-true, ne-eqb}
-use Rattle.spec.specs.Alphabet.{«д», «з», «н», «р», «с», «т»}
-use Rattle.spec.specs.Tables.{among}
-use Rattle.spec.specs.Letters.{small}
-use Rattle.spec.specs.Elision.{elidesT, elidesD, elidesAmong}
-use Rattle.message.specs.Classes.{classOf, classAt, tabulate, classes, letterAt, letterBefore, elidedAt, silentAt}
-use Rattle.message.specs.Steps.{nextKind, faultIn, widthIn, namesIn, askIn, stopIn, packed, pairs, kindAt, widthAt, nameUnit, askUnit, stopUnit}
-use Rattle.message.proofs.Bytes.{below, pairs-same, by-class, not-both}
+use Rattle.laws.proofs.Kit.{ℕ, zero, suc, _+_, _-_, _*_, _/_, _%_, _<_, _≤_, _≡_, refl, sym, ap, _∙_, Bool, true, false, cond, _&&_, _||_, not, and-false, false≢true, List, [], _∷_, map, arith, eqb, leb, getD, eqb-true, eqb-false, leb-true, ne-eqb}
+use Rattle.spec.specs.{Alphabet.«д», Alphabet.«з», Alphabet.«н», Alphabet.«р», Alphabet.«с», Alphabet.«т», Tables.among, Letters.small, Elision.elidesT, Elision.elidesD, Elision.elidesAmong}
+use Rattle.message.specs.{Classes.classOf, Classes.classAt, Classes.tabulate, Classes.classes, Classes.letterAt, Classes.letterBefore, Classes.elidedAt, Classes.silentAt, Steps.nextKind, Steps.faultIn, Steps.widthIn, Steps.namesIn, Steps.askIn, Steps.stopIn, Steps.packed, Steps.pairs, Steps.kindAt, Steps.widthAt, Steps.nameUnit, Steps.askUnit, Steps.stopUnit}
+use Rattle.message.proofs.{Bytes.below, Bytes.pairs-same, Bytes.by-class, Bytes.not-both, Computed.everything}
 use Rattle.laws.proofs.Classes.{among-none}
-use Rattle.message.proofs.Computed.{everything}
 
 -- past the start, the letter before place i is the one at i - 1
 pub before-at : (m : List ℕ) (i : ℕ) → (i ≡ 0 → ⊥) → letterAt m (i - 1) ≡ letterBefore m i

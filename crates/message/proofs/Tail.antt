@@ -1,26 +1,9 @@
 -- The tape and the names from a place on: what the byte there puts before what comes after it. A place's tape is what the walk from the right has written when it stands there.
--- Assumes nothing.
-use Prim.Native.Nat.{ℕ, suc, _<_}
-use mathlib.Core.Path.{_≡_, refl, sym, ap}
-use mathlib.Core.Bool.{Bool, true, false, cond, _&&_, or-assoc, or-comm, or-false}
-use mathlib.Core.List.{List, [], _∷_, _++_, append-assoc, append-nil}
-use lib.ListN.{length, getD, drop}
-use lib.Seq.{drop-cons, drop-length}
-use Rattle.spec.specs.Letters.{Letter, Message, last, more, putLetter, read, firstWord, isMark, isBreak, isGap, isVowel}
-use Rattle.spec.specs.Codes.{markOf, isVoicing}
-use Rattle.spec.specs.Syllables.{Facts, factsOf, hasMark, namesFrom, incomplete, nameOf, syllableOf}
-use Rattle.spec.specs.Vowels.{endsHardFrom, endsHard, hardEnd}
-use Rattle.spec.specs.Voicing.{voiced, voiceless, voices, toneOf}
-use Rattle.spec.specs.Palatalization.{firstCode}
-use Rattle.spec.specs.Tape.{segment, tape, namesOf, names}
-use Rattle.spec.specs.Refusals.{vowelByte}
-use Rattle.message.proofs.Bytes.{vowel-break, vowel-mark}
-use Rattle.laws.proofs.Classes.{break-vowel}
-use Rattle.laws.proofs.Stretch.{voices-over, voices-first}
-use Rattle.message.specs.Fused.{toneBefore, letterCodes, fusedFrom}
-use Rattle.message.proofs.Fused.{word-fused, names-fused}
-use Rattle.message.specs.Places.{Left, leftAt, markBefore, markFrom, markedAt, factsAt, tailTape, tailNext, tailWord, tapeAt, wordAt, toneAt, soundAt, letterOf, codesAt, toneAfter, soundAfter, tailNamesOf, namesAt, Steady}
-use Rattle.message.proofs.Left.{mark-within, word-put, afterLetter, begins-at, mark-first, read-letter, read-mark, read-break, read-end, left-letter, left-mark, left-break, unmarked-after}
+use Rattle.laws.proofs.Kit.{ℕ, suc, _<_, _≡_, refl, sym, ap, Bool, true, false, cond, _&&_, or-assoc, or-comm, or-false, List, [], _∷_, _++_, append-assoc, append-nil, length, getD, drop, drop-cons, drop-length}
+use Rattle.spec.specs.{Letters.Letter, Letters.Message, Letters.last, Letters.more, Letters.putLetter, Letters.read, Letters.firstWord, Letters.isMark, Letters.isBreak, Letters.isGap, Letters.isVowel, Codes.markOf, Codes.isVoicing, Syllables.Facts, Syllables.factsOf, Syllables.hasMark, Syllables.namesFrom, Syllables.incomplete, Syllables.nameOf, Syllables.syllableOf, Vowels.endsHardFrom, Vowels.endsHard, Vowels.hardEnd, Voicing.voiced, Voicing.voiceless, Voicing.voices, Voicing.toneOf, Palatalization.firstCode, Tape.segment, Tape.tape, Tape.namesOf, Tape.names, Refusals.vowelByte}
+use Rattle.message.proofs.{Bytes.vowel-break, Bytes.vowel-mark, Fused.word-fused, Fused.names-fused, Left.mark-within, Left.word-put, Left.afterLetter, Left.begins-at, Left.mark-first, Left.read-letter, Left.read-mark, Left.read-break, Left.read-end, Left.left-letter, Left.left-mark, Left.left-break, Left.unmarked-after}
+use Rattle.laws.proofs.{Classes.break-vowel, Stretch.voices-over, Stretch.voices-first}
+use Rattle.message.specs.{Fused.toneBefore, Fused.letterCodes, Fused.fusedFrom, Places.Left, Places.leftAt, Places.markBefore, Places.markFrom, Places.markedAt, Places.factsAt, Places.tailTape, Places.tailNext, Places.tailWord, Places.tapeAt, Places.wordAt, Places.toneAt, Places.soundAt, Places.letterOf, Places.codesAt, Places.toneAfter, Places.soundAfter, Places.tailNamesOf, Places.namesAt, Places.Steady}
 
 -- at the start of a word its stretch is the tape of what follows
 pub start-tape : (hard : Bool) (r : Message) → segment hard false r ≡ tailTape (record { p = 0; q = 0; hard = hard }) (factsOf (firstWord r)) r

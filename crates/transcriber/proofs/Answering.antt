@@ -1,19 +1,8 @@
 -- What an operation answers after the check, and what it leaves in the lent output, in its three cases: refused, too little room, written.
--- Assumes nothing.
-use Prim.Native.Nat.{ℕ, _<_, _≤_}
-use mathlib.Core.Path.{_≡_, refl}
-use mathlib.Core.List.{List, _++_}
-use lib.ListN.{length, drop}
-use borrow.Author.Tests.{le-leb, lt-leb}
-use Rattle.spec.specs.Refusals.{refusal}
-use Rattle.spec.specs.Answers.{within, afterCheck, outputAfter, Promise}
-use Rattle.spec.specs.declared.Refusal.{Refusal}
-use Rattle.spec.specs.declared.Counts.{Counts}
-use Rattle.spec.specs.declared.Checked.{Checked}
-use Rattle.spec.specs.declared.Checked.the-variants as checked
-use Rattle.spec.specs.declared.Answer.{Answer}
-use Rattle.spec.specs.declared.Answer.the-variants.{Written, Refused}
+use Rattle.laws.proofs.Kit.{ℕ, _<_, _≤_, _≡_, refl, List, _++_, length, drop, le-leb, lt-leb}
+use Rattle.spec.specs.{Refusals.refusal, Answers.within, Answers.afterCheck, Answers.outputAfter, Answers.Promise, declared.Refusal.Refusal, declared.Counts.Counts, declared.Checked.Checked, declared.Answer.Answer, declared.Answer.the-variants.Written, declared.Answer.the-variants.Refused}
 use Rattle.laws.proofs.Promises.{promised}
+use Rattle.spec.specs.declared.Checked.the-variants as checked
 
 -- a message that the check refuses leaves the output as it is
 pub answered-refused : {c : Checked} {f : Refusal} {text out : List ℕ} (a b : Answer) → c ≡ checked.Refused f → Promise (afterCheck c a) text out out (afterCheck c b)

@@ -1,21 +1,10 @@
 -- The walk that writes the tape from its end: each step puts its byte's piece before the codes of the bytes passed, and all of them make the tape.
--- Assumes nothing.
-use Prim.Native.Nat.{ℕ, suc, _+_, _<_, _≤_}
-use native.Mathlib.Omega.{arith}
-use mathlib.Core.Path.{_≡_, refl, sym, ap, _∙_}
-use mathlib.Core.List.{List, [], _++_, append-nil, append-assoc}
-use lib.ListN.{length, length-append}
+use Rattle.laws.proofs.Kit.{ℕ, suc, _+_, _<_, _≤_, arith, _≡_, refl, sym, ap, _∙_, List, [], _++_, append-nil, append-assoc, length, length-append}
 use Rattle.spec.specs.Tape.{tape}
 use Rattle.message.specs.Places.{Steady, markBefore, tapeAt}
-use Rattle.message.proofs.Lengths.{codes-from}
-use Rattle.message.proofs.Tail.{tape-start, tape-end, word-end, tone-end, sound-end}
-use Rattle.transcriber.specs.Levels.{wordEnd}
-use Rattle.transcriber.specs.Sounds.{toneNo}
-use Rattle.transcriber.specs.Walk.{Stands, Put, pieceAt, Ready, Stepped, Walked}
-use Rattle.transcriber.specs.declared.Right.{Right}
-use Rattle.transcriber.proofs.Levelling.{levels-end}
-use Rattle.transcriber.proofs.Putting.{put-none, put-over, put-length}
-use Rattle.transcriber.proofs.Walking.{none-softens, piece-step}
+use Rattle.message.proofs.{Lengths.codes-from, Tail.tape-start, Tail.tape-end, Tail.word-end, Tail.tone-end, Tail.sound-end}
+use Rattle.transcriber.specs.{Levels.wordEnd, Sounds.toneNo, Walk.Stands, Walk.Put, Walk.pieceAt, Walk.Ready, Walk.Stepped, Walk.Walked, declared.Right.Right}
+use Rattle.transcriber.proofs.{Levelling.levels-end, Putting.put-none, Putting.put-over, Putting.put-length, Walking.none-softens, Walking.piece-step}
 
 -- what stands right of the message's end
 pub stands-end : (m : List ℕ) → Steady m → (n : ℕ)

@@ -1,24 +1,9 @@
 -- The levels of vowels, carried from the right: a mark makes the vowel before it stressed, the vowel before that is of level 1, and those further left are of level 2, or 1 where the word has no mark.
--- Assumes nothing.
-use Prim.Native.Nat.{ℕ, suc, _<_}
-use mathlib.Core.Path.{_≡_, refl, sym, ap, _∙_}
-use mathlib.Core.Bool.{Bool, true, false}
-use mathlib.Core.List.{List}
-use lib.ListN.{length, getD, drop}
-use lib.Seq.{drop-length}
-use Rattle.spec.specs.Letters.{isBreak, isMark, beginsWithMark}
-use Rattle.spec.specs.Refusals.{vowelByte}
-use Rattle.spec.specs.Syllables.{nextStressed}
+use Rattle.laws.proofs.Kit.{ℕ, suc, _<_, _≡_, refl, sym, ap, _∙_, Bool, true, false, List, length, getD, drop, drop-length}
+use Rattle.spec.specs.{Letters.isBreak, Letters.isMark, Letters.beginsWithMark, Refusals.vowelByte, Syllables.nextStressed, declared.Level.Level}
 use Rattle.message.specs.Places.{Steady, letterOf, wordAt, markBefore, markedAt}
-use Rattle.spec.specs.declared.Level.{Level}
-use Rattle.message.proofs.Bytes.{not-both, vowel-break, vowel-mark}
-use Rattle.message.proofs.Computed.{everything}
-use Rattle.message.proofs.Left.{begins-at, mark-within, unmarked-after}
-use Rattle.message.proofs.Tail.{word-letter, word-break, word-end, marked-within, marked-break, marked-end}
-use Rattle.transcriber.specs.declared.levels.Levels.{Levels}
-use Rattle.transcriber.specs.Levels.{levelBy, farLevel, levelBefore, wordEnd, overMark, overVowel, nearLevel, LevelsAt}
-use Rattle.transcriber.specs.Sounds.{classBefore, syllableBy}
-use Rattle.transcriber.specs.Walk.{syllableAt}
+use Rattle.message.proofs.{Bytes.not-both, Bytes.vowel-break, Bytes.vowel-mark, Computed.everything, Left.begins-at, Left.mark-within, Left.unmarked-after, Tail.word-letter, Tail.word-break, Tail.word-end, Tail.marked-within, Tail.marked-break, Tail.marked-end}
+use Rattle.transcriber.specs.{declared.levels.Levels.Levels, Levels.levelBy, Levels.farLevel, Levels.levelBefore, Levels.wordEnd, Levels.overMark, Levels.overVowel, Levels.nearLevel, Levels.LevelsAt, Sounds.classBefore, Sounds.syllableBy, Walk.syllableAt}
 use Rattle.transcriber.proofs.Raw.{syllable-raw}
 
 -- the level before a vowel that is stressed or not

@@ -1,29 +1,10 @@
 -- The naming's walk from the right: each byte settles the names that the definition gives it, and what stands right of it is told by what stood right of the next one.
--- Assumes nothing.
-use Prim.Native.Nat.{ℕ, suc, _-_, _<_, _≤_}
-use mathlib.Core.Path.{_≡_, refl, ap, _∙_}
-use mathlib.Core.Bool.{Bool, true, false}
-use mathlib.Core.List.{List, [], _∷_, _++_}
-use native.Mathlib.Omega.{arith}
-use borrow.Author.Tests.{eq-eqb, ne-eqb, le-leb, lt-leb}
-use lib.ListN.{length, getD, drop, length-append}
-use Rattle.spec.specs.Letters.{isBreak, isMark}
-use Rattle.spec.specs.Refusals.{vowelByte}
-use Rattle.message.specs.Classes.{classOf, isVowelClass}
-use Rattle.spec.specs.Syllables.{incomplete, nameOf}
-use Rattle.spec.specs.Tape.{names}
-use Rattle.message.specs.Places.{Steady, leftAt, markBefore, namesAt}
-use Rattle.message.proofs.Bytes.{by-class, vowel-break}
-use Rattle.message.proofs.Left.{mark-within}
-use Rattle.message.proofs.Tail.{names-start, names-end, names-vowel, names-other, names-break}
-use Rattle.message.proofs.Lengths.{names-from}
-use Rattle.transcriber.specs.declared.NameState.{NameState}
-use Rattle.transcriber.specs.declared.levels.Levels.{Levels}
-use Rattle.transcriber.specs.Levels.{wordEnd, overMark, overVowel, LevelsAt}
-use Rattle.transcriber.specs.Sounds.{classBefore, syllableBy}
-use Rattle.transcriber.specs.Walk.{Put, namePiece, NameReady, Named}
-use Rattle.transcriber.proofs.Levelling.{levels-syllable, levels-vowel, levels-letter, levels-mark, levels-break, levels-end}
-use Rattle.transcriber.proofs.Putting.{put-none, put-over, put-length, put-rest, put-again, put-first}
+use Rattle.laws.proofs.Kit.{ℕ, suc, _-_, _<_, _≤_, _≡_, refl, ap, _∙_, Bool, true, false, List, [], _∷_, _++_, arith, eq-eqb, ne-eqb, le-leb, lt-leb, length, getD, drop, length-append}
+use Rattle.spec.specs.{Letters.isBreak, Letters.isMark, Refusals.vowelByte, Syllables.incomplete, Syllables.nameOf, Tape.names}
+use Rattle.message.specs.{Classes.classOf, Classes.isVowelClass, Places.Steady, Places.leftAt, Places.markBefore, Places.namesAt}
+use Rattle.message.proofs.{Bytes.by-class, Bytes.vowel-break, Left.mark-within, Tail.names-start, Tail.names-end, Tail.names-vowel, Tail.names-other, Tail.names-break, Lengths.names-from}
+use Rattle.transcriber.specs.{declared.NameState.NameState, declared.levels.Levels.Levels, Levels.wordEnd, Levels.overMark, Levels.overVowel, Levels.LevelsAt, Sounds.classBefore, Sounds.syllableBy, Walk.Put, Walk.namePiece, Walk.NameReady, Walk.Named}
+use Rattle.transcriber.proofs.{Levelling.levels-syllable, Levelling.levels-vowel, Levelling.levels-letter, Levelling.levels-mark, Levelling.levels-break, Levelling.levels-end, Putting.put-none, Putting.put-over, Putting.put-length, Putting.put-rest, Putting.put-again, Putting.put-first}
 
 module _ (m : List ℕ) (steady : Steady m) (i : ℕ) (h : i < length m) where
   -- the names from a place on are those that its byte settles and the rest's

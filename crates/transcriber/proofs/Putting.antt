@@ -1,11 +1,5 @@
 -- Codes put right before a place of the lent output: what was put before other codes and those codes together were put before the place of the latter.
--- Assumes nothing.
-use Prim.Native.Nat.{ℕ, suc, _-_, _<_, _≤_}
-use native.Mathlib.Omega.{arith}
-use mathlib.Core.Path.{_≡_, sym, ap, _∙_}
-use mathlib.Core.List.{List, [], _∷_, _++_, append-assoc}
-use lib.ListN.{length, take, drop, set, take-append-drop, length-append, length-take, length-drop}
-use lib.Seq.{length-take-le, take-append-le, take-take, take-at, drop-at, set-split}
+use Rattle.laws.proofs.Kit.{ℕ, suc, _-_, _<_, _≤_, arith, _≡_, sym, ap, _∙_, List, [], _∷_, _++_, append-assoc, length, take, drop, set, take-append-drop, length-append, length-take, length-drop, length-take-le, take-append-le, take-take, take-at, drop-at, set-split}
 use Rattle.transcriber.specs.Walk.{Put}
 
 -- nothing put leaves the output as it is

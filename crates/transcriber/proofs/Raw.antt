@@ -1,38 +1,10 @@
 -- What the code reads off the bytes beside a place is what the left context of the place says: in a steady message the byte before tells the class of the last letter of the word.
--- Assumes nothing.
-use Prim.Native.Nat.{ℕ, zero, suc, _-_, _<_, _≤_}
-use mathlib.Core.Path.{_≡_, refl, sym, ap, _∙_}
-use mathlib.Core.Bool.{Bool, true, false, cond, _&&_, _||_, not, or-assoc, false≢true}
-use mathlib.Core.List.{List, [], _∷_, _++_, map}
-use mathlib.Core.Logic.{_⊎_, inl, inr}
-use native.Mathlib.Omega.{arith}
-use lib.Dec.{eqb, leb}
-use lib.ListN.{length, getD, drop}
-use borrow.Author.Tests.{eqb-true, ne-eqb, leb-true, le-leb}
-use Rattle.spec.specs.Alphabet.{gap, pause, mark, «ь», «е», «ё», «и», «ю», «я»}
-use Rattle.spec.specs.Tables.{among, Entry, _gives_, entry}
-use Rattle.spec.specs.Letters.{Letter, between, small, plainVowels, softeningVowels, isBreak, isGap, isHardOnly, isSoftOnly, isConsonant, isSign, isVowel, isMark, firstByte, beginsWithMark}
-use Rattle.spec.specs.Refusals.{vowelByte, signByte}
-use Rattle.message.specs.Classes.{classOf, isSignClass, isLetterClass}
-use Rattle.spec.specs.Codes.{J}
-use Rattle.spec.specs.Elision.{elides}
-use Rattle.spec.specs.Syllables.{Facts, coverAfter, incomplete, levelOf, syllableOf, nextStressed}
-use Rattle.spec.specs.Vowels.{initial, byStress, byLevel, hardEnd, vowelSound, glides, writtenCode, softens}
-use Rattle.spec.specs.Voicing.{Tone, voiced, voiceless, asWritten, toneOf, toned, voicedCode, voicelessCode}
-use Rattle.spec.specs.Palatalization.{isSoft, firstCode}
-use Rattle.message.specs.Fused.{toneBefore, vowelCodes, consonantCode, letterCodes, fusedFrom}
-use Rattle.message.specs.Places.{Steady, leftAt, letterOf, wordAt, markedAt, factsAt, soundAt, tailWord}
-use Rattle.spec.specs.declared.Cover.{Cover}
-use Rattle.spec.specs.declared.Level.{Level}
-use Rattle.spec.specs.declared.Level.the-variants.{Stressed, First, Second}
-use Rattle.spec.specs.declared.Syllable.{Syllable}
-use Rattle.message.proofs.Bytes.{below, below-same, by-class, letter-class, not-both, vowel-break, vowel-mark}
+use Rattle.laws.proofs.Kit.{ℕ, zero, suc, _-_, _<_, _≤_, _≡_, refl, sym, ap, _∙_, Bool, true, false, cond, _&&_, _||_, not, or-assoc, false≢true, List, [], _∷_, _++_, map, _⊎_, inl, inr, arith, eqb, leb, length, getD, drop, eqb-true, ne-eqb, leb-true, le-leb}
+use Rattle.spec.specs.{Alphabet.gap, Alphabet.pause, Alphabet.mark, Alphabet.«ь», Alphabet.«е», Alphabet.«ё», Alphabet.«и», Alphabet.«ю», Alphabet.«я», Tables.among, Tables.Entry, Tables._gives_, Tables.entry, Letters.Letter, Letters.between, Letters.small, Letters.plainVowels, Letters.softeningVowels, Letters.isBreak, Letters.isGap, Letters.isHardOnly, Letters.isSoftOnly, Letters.isConsonant, Letters.isSign, Letters.isVowel, Letters.isMark, Letters.firstByte, Letters.beginsWithMark, Refusals.vowelByte, Refusals.signByte, Codes.J, Elision.elides, Syllables.Facts, Syllables.coverAfter, Syllables.incomplete, Syllables.levelOf, Syllables.syllableOf, Syllables.nextStressed, Vowels.initial, Vowels.byStress, Vowels.byLevel, Vowels.hardEnd, Vowels.vowelSound, Vowels.glides, Vowels.writtenCode, Vowels.softens, Voicing.Tone, Voicing.voiced, Voicing.voiceless, Voicing.asWritten, Voicing.toneOf, Voicing.toned, Voicing.voicedCode, Voicing.voicelessCode, Palatalization.isSoft, Palatalization.firstCode, declared.Cover.Cover, declared.Level.Level, declared.Level.the-variants.Stressed, declared.Level.the-variants.First, declared.Level.the-variants.Second, declared.Syllable.Syllable}
+use Rattle.message.specs.{Classes.classOf, Classes.isSignClass, Classes.isLetterClass, Fused.toneBefore, Fused.vowelCodes, Fused.consonantCode, Fused.letterCodes, Fused.fusedFrom, Places.Steady, Places.leftAt, Places.letterOf, Places.wordAt, Places.markedAt, Places.factsAt, Places.soundAt, Places.tailWord}
+use Rattle.message.proofs.{Bytes.below, Bytes.below-same, Bytes.by-class, Bytes.letter-class, Bytes.not-both, Bytes.vowel-break, Bytes.vowel-mark, Before.vowel-before, Left.left-letter, Left.left-mark, Left.left-break, Computed.everything}
 use Rattle.laws.proofs.Classes.{among-same}
-use Rattle.message.proofs.Before.{vowel-before}
-use Rattle.message.proofs.Left.{left-letter, left-mark, left-break}
-use Rattle.message.proofs.Computed.{everything}
-use Rattle.transcriber.specs.Levels.{levelBy}
-use Rattle.transcriber.specs.Sounds.{byteBefore, ByteBefore, classBefore, isHardOrPaired, Told, coverClass, syllableBy, glideBy, hardBefore, tonedCode, toneNo}
+use Rattle.transcriber.specs.{Levels.levelBy, Sounds.byteBefore, Sounds.ByteBefore, Sounds.classBefore, Sounds.isHardOrPaired, Sounds.Told, Sounds.coverClass, Sounds.syllableBy, Sounds.glideBy, Sounds.hardBefore, Sounds.tonedCode, Sounds.toneNo}
 
 -- two functions that agree on the bytes that pass a test agree at each of them
 pub where-same : {A : Type 0} (t : ℕ → Bool) (f g : ℕ → A) (d : A) (b : ℕ) → map (λ x. cond (t x) (f x) d) (below 256) ≡ map (λ x. cond (t x) (g x) d) (below 256)

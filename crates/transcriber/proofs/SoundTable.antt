@@ -1,20 +1,8 @@
 -- The code's table by its rule: each entry is what specs/Sounds.antt says, by one computation over all of them.
--- Assumes nothing.
-use Prim.Native.Nat.{ℕ, suc, _+_, _%_, _<_, _≤_}
-use mathlib.Core.Path.{_≡_, refl}
-use mathlib.Core.Bool.{Bool, true, false, cond}
-use mathlib.Core.List.{List}
-use native.Mathlib.Omega.{arith}
-use lib.Dec.{leb}
-use lib.ListN.{getD}
-use borrow.Author.Tests.{leb-true}
-use Rattle.spec.specs.Letters.{small}
-use Rattle.spec.specs.Refusals.{consonantByte}
-use Rattle.spec.specs.Voicing.{Tone, voiced, voiceless, asWritten}
-use Rattle.spec.specs.Palatalization.{isSoft}
+use Rattle.laws.proofs.Kit.{ℕ, suc, _+_, _%_, _<_, _≤_, _≡_, refl, Bool, true, false, cond, List, arith, leb, getD, leb-true}
+use Rattle.spec.specs.{Letters.small, Refusals.consonantByte, Voicing.Tone, Voicing.voiced, Voicing.voiceless, Voicing.asWritten, Palatalization.isSoft}
 use Rattle.message.specs.Fused.{toneBefore, consonantCode}
-use Rattle.message.proofs.Bytes.{below-same, pairs-same}
-use Rattle.message.proofs.Computed.{everything}
+use Rattle.message.proofs.{Bytes.below-same, Bytes.pairs-same, Computed.everything}
 use Rattle.transcriber.specs.Sounds.{toneNo, toneBy, tonedCode, letterGroup, soundGroup, groupOf, softIn, softNo, soundTable}
 use Rattle.transcriber.proofs.Raw.{where-same, tone-small}
 

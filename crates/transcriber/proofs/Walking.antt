@@ -1,39 +1,10 @@
 -- The walk from the right, one byte at a time: what a break, a mark and a letter put on the tape, and what then stands right of their place.
--- Assumes nothing.
-use Prim.Native.Nat.{ℕ, suc, _+_, _%_, _<_, _≤_}
-use native.Mathlib.Omega.{arith}
-use mathlib.Core.Path.{_≡_, refl, sym, ap, _∙_}
-use mathlib.Core.Bool.{Bool, true, false, cond, _&&_, not, true≢false}
-use mathlib.Core.List.{List, [], _∷_, _++_, map}
-use lib.Dec.{eqb, leb}
-use lib.ListN.{length, getD}
-use borrow.Author.Tests.{le-leb, lt-leb}
-use Rattle.spec.specs.Letters.{between, small, firstByte, isBreak, isGap, isMark}
-use Rattle.spec.specs.Codes.{J, markOf, isVoicing, isDevoicing}
-use Rattle.spec.specs.Syllables.{syllableOf}
-use Rattle.spec.specs.Vowels.{softens}
-use Rattle.spec.specs.Voicing.{Tone, voiced, voiceless, asWritten}
-use Rattle.spec.specs.Refusals.{vowelByte, signByte, consonantByte}
-use Rattle.message.specs.Classes.{classOf, isBreakClass, isSignClass, isConsonantClass, isVowelClass, elidedAt}
-use Rattle.message.specs.Fused.{toneBefore, vowelCodes, consonantCode, letterCodes}
-use Rattle.message.specs.Places.{Steady, leftAt, letterOf, markBefore, factsAt, tapeAt, wordAt, toneAt, soundAt, codesAt, toneAfter, soundAfter}
-use Rattle.spec.specs.declared.Level.{Level}
-use Rattle.spec.specs.declared.Syllable.{Syllable}
-use Rattle.message.proofs.Bytes.{below, by-class, not-both}
-use Rattle.message.proofs.Computed.{everything}
-use Rattle.message.proofs.Left.{mark-within}
-use Rattle.message.proofs.StepTable.{class-spoken}
-use Rattle.message.proofs.Silent.{elided-at}
-use Rattle.message.proofs.Tail.{tape-letter, tape-mark, tape-break, word-letter, word-mark, word-break, tone-letter, sound-letter, tone-mark, sound-mark, tone-break, sound-break}
-use Rattle.transcriber.specs.Sounds.{byteBefore, AtBoundary, rowOf, syllableBy, glideBy, hardBefore, toneNo, toneBy, gapTone}
-use Rattle.transcriber.specs.Walk.{VowelAt, syllableAt, Sung, sungCodes, Put, pieceAt, Ready, ReadyFor, Stepped}
-use Rattle.transcriber.specs.declared.levels.Levels.{Levels}
-use Rattle.transcriber.specs.Levels.{wordEnd, overMark, LevelsAt}
-use Rattle.transcriber.specs.declared.Right.{Right}
-use Rattle.transcriber.specs.declared.Vowel.{Vowel}
-use Rattle.transcriber.proofs.Putting.{put-none}
-use Rattle.transcriber.proofs.Levelling.{levels-syllable, levels-letter, levels-mark, levels-break}
-use Rattle.transcriber.proofs.Raw.{where-same, cond-same, told-at, hard-raw, glide-raw, vowel-tone, sound-small}
+use Rattle.laws.proofs.Kit.{ℕ, suc, _+_, _%_, _<_, _≤_, arith, _≡_, refl, sym, ap, _∙_, Bool, true, false, cond, _&&_, not, true≢false, List, [], _∷_, _++_, map, eqb, leb, length, getD, le-leb, lt-leb}
+use Rattle.spec.specs.{Letters.between, Letters.small, Letters.firstByte, Letters.isBreak, Letters.isGap, Letters.isMark, Codes.J, Codes.markOf, Codes.isVoicing, Codes.isDevoicing, Syllables.syllableOf, Vowels.softens, Voicing.Tone, Voicing.voiced, Voicing.voiceless, Voicing.asWritten, Refusals.vowelByte, Refusals.signByte, Refusals.consonantByte, declared.Level.Level, declared.Syllable.Syllable}
+use Rattle.message.specs.{Classes.classOf, Classes.isBreakClass, Classes.isSignClass, Classes.isConsonantClass, Classes.isVowelClass, Classes.elidedAt, Fused.toneBefore, Fused.vowelCodes, Fused.consonantCode, Fused.letterCodes, Places.Steady, Places.leftAt, Places.letterOf, Places.markBefore, Places.factsAt, Places.tapeAt, Places.wordAt, Places.toneAt, Places.soundAt, Places.codesAt, Places.toneAfter, Places.soundAfter}
+use Rattle.message.proofs.{Bytes.below, Bytes.by-class, Bytes.not-both, Computed.everything, Left.mark-within, StepTable.class-spoken, Silent.elided-at, Tail.tape-letter, Tail.tape-mark, Tail.tape-break, Tail.word-letter, Tail.word-mark, Tail.word-break, Tail.tone-letter, Tail.sound-letter, Tail.tone-mark, Tail.sound-mark, Tail.tone-break, Tail.sound-break}
+use Rattle.transcriber.specs.{Sounds.byteBefore, Sounds.AtBoundary, Sounds.rowOf, Sounds.syllableBy, Sounds.glideBy, Sounds.hardBefore, Sounds.toneNo, Sounds.toneBy, Sounds.gapTone, Walk.VowelAt, Walk.syllableAt, Walk.Sung, Walk.sungCodes, Walk.Put, Walk.pieceAt, Walk.Ready, Walk.ReadyFor, Walk.Stepped, declared.levels.Levels.Levels, Levels.wordEnd, Levels.overMark, Levels.LevelsAt, declared.Right.Right, declared.Vowel.Vowel}
+use Rattle.transcriber.proofs.{Putting.put-none, Levelling.levels-syllable, Levelling.levels-letter, Levelling.levels-mark, Levelling.levels-break, Raw.where-same, Raw.cond-same, Raw.told-at, Raw.hard-raw, Raw.glide-raw, Raw.vowel-tone, Raw.sound-small}
 
 -- a tone is told by its number
 pub tone-by : (t : Tone) → toneBy (toneNo t) ≡ t

@@ -1,14 +1,8 @@
 -- The check's numbers are small, so they are the same in 32 bits; its case says which numbers they are.
--- Assumes nothing.
-use mathlib.Core.Path.{_≡_, refl, sym, _∙_}
-use native.Mathlib.Omega.{arith}
-use Rattle.spec.specs.Refusals.{checkOf}
-use Rattle.spec.specs.Answers.{checkedNumber, checkedPlace, checkedCodes, checkedNames, CheckPromise, Carried}
-use Rattle.spec.specs.declared.Checked.the-variants.{Accepted, Refused}
+use Rattle.laws.proofs.Kit.{_≡_, refl, sym, _∙_, arith, needs}
+use Rattle.spec.specs.{Refusals.checkOf, Answers.checkedNumber, Answers.checkedPlace, Answers.checkedCodes, Answers.checkedNames, Answers.CheckPromise, Answers.Carried, declared.Checked.the-variants.Accepted, declared.Checked.the-variants.Refused}
 use Rattle.laws.proofs.Bounds.{SmallCheck, check-small}
-use Rattle.capi.specs.Said.{Counted}
-use Rattle.capi.specs.declared.GovorunCounts.{GovorunCounts}
-use borrow.Author.Needs.{needs}
+use Rattle.capi.specs.{Said.Counted, declared.GovorunCounts.GovorunCounts}
 use Rattle.capi.proofs.govorun_check.Statement.{statement}
 use Rattle.capi.proofs.govorun_check.Tie as tie
 

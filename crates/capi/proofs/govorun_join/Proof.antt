@@ -1,8 +1,6 @@
 -- The joiner has said what it must, in numbers that are small; what is said in 32 bits is the same.
--- Assumes nothing.
-use lib.ListN.{length}
+use Rattle.laws.proofs.Kit.{length, needs}
 use Rattle.laws.proofs.Bounds.{join-small}
-use borrow.Author.Needs.{needs}
 use Rattle.capi.proofs.govorun_join.Statement.{statement}
 use Rattle.capi.proofs.govorun_join.Tie as tie
 

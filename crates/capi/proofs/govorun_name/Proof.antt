@@ -1,8 +1,6 @@
 -- The naming operation has said what it must, in numbers that are small; what is said in 32 bits is the same.
--- Assumes nothing.
-use lib.ListN.{length}
+use Rattle.laws.proofs.Kit.{length, needs}
 use Rattle.laws.proofs.Bounds.{name-small}
-use borrow.Author.Needs.{needs}
 use Rattle.capi.proofs.govorun_name.Statement.{statement}
 use Rattle.capi.proofs.govorun_name.Tie as tie
 

@@ -1,8 +1,6 @@
 -- The transcriber has said what it must, in numbers that are small; what is said in 32 bits is the same.
--- Assumes nothing.
-use lib.ListN.{length}
+use Rattle.laws.proofs.Kit.{length, needs}
 use Rattle.laws.proofs.Bounds.{tape-small}
-use borrow.Author.Needs.{needs}
 use Rattle.capi.proofs.govorun_transcribe.Statement.{statement}
 use Rattle.capi.proofs.govorun_transcribe.Tie as tie
 

@@ -1,9 +1,6 @@
 -- Each number of the answer is small, so it is the same in 32 bits; the answer's case says which numbers they are.
--- Assumes nothing.
-use mathlib.Core.Path.{refl}
-use native.Mathlib.Omega.{arith}
+use Rattle.laws.proofs.Kit.{refl, arith, needs}
 use Rattle.spec.specs.Answers.{numberOf, placeOf, lengthOf, liveOf}
-use borrow.Author.Needs.{needs}
 use Rattle.capi.proofs.say.Statement.{statement}
 use Rattle.capi.proofs.say.Tie as tie
 

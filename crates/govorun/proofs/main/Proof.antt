@@ -1,8 +1,5 @@
 -- The part that is read, and the part that is printed, lie within their buffers.
--- Assumes nothing.
-use mathlib.Core.Path.{sym}
-use lib.Seq.{length-take-le}
-use borrow.Author.Needs.{needs}
+use Rattle.laws.proofs.Kit.{sym, length-take-le, needs}
 use Rattle.govorun.proofs.main.Statement.{statement}
 use Rattle.govorun.proofs.main.Tie as tie
 

@@ -1,9 +1,5 @@
 -- The bytes read so far are no more than the message has room for, and each turn reads at least one more.
--- Assumes nothing.
-use Prim.Native.Nat.{_-_, _≤_}
-use native.Mathlib.Omega.{arith}
-use mathlib.Core.Path.{_≡_}
-use lib.ListN.{length}
+use Rattle.laws.proofs.Kit.{_-_, _≤_, arith, _≡_, length}
 use Rattle.govorun.proofs.read_input.Statement.{statement}
 use Rattle.govorun.proofs.read_input.Tie as tie
 

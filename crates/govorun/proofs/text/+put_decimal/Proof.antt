@@ -1,18 +1,12 @@
 -- A number below ten is its one digit; a larger one is a tenth of it, which is smaller, and its last digit.
--- Assumes nothing.
-use Prim.Native.Nat.{ℕ, _<_}
-use native.Mathlib.Omega.{arith}
-use mathlib.Core.Path.{ap}
-use lib.ListN.{length}
+use Rattle.laws.proofs.Kit.{ℕ, _<_, arith, ap, length}
+use Rattle.govorun.proofs.{Texts.put-over, Texts.decimal-small, Texts.decimal-large, Texts.decimal-longer, text.+put_decimal.statement, text.+put_decimal.Tie.close}
 use borrow.Fn.Kinds.{In}
 use borrow.Fn.PlainCycle.{Measures, is, falls, and}
-use Rattle.govorun.proofs.Texts.{put-over, decimal-small, decimal-large, decimal-longer}
 use Rattle.govorun.proofs.text.put_decimal.Reads as reads
 use Rattle.govorun.proofs.text.put_decimal.Kinds as kinds
 use Rattle.govorun.proofs.text.+put_decimal.Lts-put_decimal as lts
 use Rattle.govorun.proofs.text.put.Reads as put
-use Rattle.govorun.proofs.text.+put_decimal.{statement}
-use Rattle.govorun.proofs.text.+put_decimal.Tie.{close}
 
 -- the measure is the number itself
 abbrev μ : Measures 1 kinds.ps ℕ

@@ -1,11 +1,5 @@
 -- The newline is put after the answer, for which the text has a byte more than an answer takes.
--- Assumes nothing.
-use Prim.Native.Nat.{_≤_}
-use native.Mathlib.Omega.{arith}
-use mathlib.Core.Path.{sym}
-use lib.ListN.{length}
-use lib.Seq.{length-take-le}
-use borrow.Author.Needs.{needs}
+use Rattle.laws.proofs.Kit.{_≤_, arith, sym, length, length-take-le, needs}
 use Rattle.spec.specs.Printed.{ascii, printed}
 use Rattle.govorun.proofs.Texts.{put-over}
 use Rattle.govorun.proofs.text.print_message.Statement.{statement}

@@ -1,6 +1,5 @@
 -- A store at a place is a byte put there.
--- Assumes nothing.
-use borrow.Author.Needs.{needs}
+use Rattle.laws.proofs.Kit.{needs}
 use Rattle.govorun.proofs.Texts.{put-one}
 use Rattle.govorun.proofs.text.put.Statement.{statement}
 use Rattle.govorun.proofs.text.put.Tie as tie

@@ -1,16 +1,6 @@
 -- The transcriber is lent as many codes as any tape has, so it answers the tape or a refusal of the message; each has room in the text.
--- Assumes nothing.
-use Prim.Native.Nat.{_≤_}
-use native.Mathlib.Omega.{arith}
-use mathlib.Core.Path.{_≡_, refl, sym, _∙_}
-use mathlib.Core.List.{[]}
-use lib.ListN.{length, take, replicate}
-use lib.Seq.{length-take-le}
-use borrow.Author.Needs.{needs}
-use Rattle.spec.specs.Tape.{tape}
-use Rattle.spec.specs.Answers.{tapeAnswer}
-use Rattle.spec.specs.Printed.{printedCodes, printedAnswer}
-use Rattle.spec.specs.declared.Answer.the-variants.{Refused}
+use Rattle.laws.proofs.Kit.{_≤_, arith, _≡_, refl, sym, _∙_, [], length, take, replicate, length-take-le, needs}
+use Rattle.spec.specs.{Tape.tape, Answers.tapeAnswer, Printed.printedCodes, Printed.printedAnswer, declared.Answer.the-variants.Refused}
 use Rattle.govorun.proofs.Texts.{answer-refused, answer-written}
 use Rattle.govorun.proofs.text.put_answer.Statement.{statement}
 use Rattle.govorun.proofs.text.put_answer.Tie as tie

@@ -1,11 +1,5 @@
 -- The bytes put so far are those before place i; each turn puts the byte there.
--- Assumes nothing.
-use Prim.Native.Nat.{_-_, _≤_}
-use native.Mathlib.Omega.{arith}
-use native.Mathlib.Numerals.{add-one}
-use mathlib.Core.Path.{_≡_}
-use lib.ListN.{length, take}
-use lib.Seq.{take-suc, take-all, length-take-le}
+use Rattle.laws.proofs.Kit.{_-_, _≤_, arith, add-one, _≡_, length, take, take-suc, take-all, length-take-le}
 use Rattle.govorun.specs.Putting.{Put}
 use Rattle.govorun.proofs.Texts.{put-none, put-over}
 use Rattle.govorun.proofs.text.put_bytes.Statement.{statement}

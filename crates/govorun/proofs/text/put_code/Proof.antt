@@ -1,9 +1,5 @@
 -- The code's digits stand first; a space is put after them just where another code follows.
--- Assumes nothing.
-use native.Mathlib.Omega.{arith}
-use mathlib.Core.Path.{ap}
-use lib.ListN.{length, length-append}
-use borrow.Author.Needs.{needs}
+use Rattle.laws.proofs.Kit.{arith, ap, length, length-append, needs}
 use Rattle.govorun.proofs.Texts.{put-over, code-more, code-last, code-size}
 use Rattle.govorun.proofs.text.put_code.Statement.{statement}
 use Rattle.govorun.proofs.text.put_code.Tie as tie

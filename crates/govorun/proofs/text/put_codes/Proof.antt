@@ -1,10 +1,5 @@
 -- The codes put so far stand in the text, and each turn puts one more.
--- Assumes nothing.
-use Prim.Native.Nat.{_-_, _≤_}
-use native.Mathlib.Omega.{arith}
-use native.Mathlib.Numerals.{add-one}
-use mathlib.Core.Path.{_≡_}
-use lib.ListN.{length}
+use Rattle.laws.proofs.Kit.{_-_, _≤_, arith, add-one, _≡_, length}
 use Rattle.govorun.proofs.Texts.{codes-size, Printed, printed-none, printed-room, printed-more, printed-all}
 use Rattle.govorun.proofs.text.put_codes.Statement.{statement}
 use Rattle.govorun.proofs.text.put_codes.Tie as tie

@@ -1,8 +1,5 @@
 -- Each piece is put after those before it, and there is room for all.
--- Assumes nothing.
-use native.Mathlib.Omega.{arith}
-use mathlib.Core.List.{[]}
-use borrow.Author.Needs.{needs}
+use Rattle.laws.proofs.Kit.{arith, [], needs}
 use Rattle.spec.specs.Printed.{ascii, printedAnswer}
 use Rattle.govorun.proofs.Texts.{put-over, refusal-length}
 use Rattle.govorun.proofs.text.put_refusal.Statement.{statement}

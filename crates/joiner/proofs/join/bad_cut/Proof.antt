@@ -1,10 +1,5 @@
 -- Each turn passes one cut of the definition's walk or ends it; the measure is what is left of the list.
--- Assumes nothing.
-use Prim.Native.Nat.{_-_}
-use mathlib.Core.Path.{sym, _∙_}
-use native.Mathlib.Omega.{arith}
-use lib.ListN.{length}
-use borrow.Author.Needs.{needs}
+use Rattle.laws.proofs.Kit.{_-_, sym, _∙_, arith, length, needs}
 use Rattle.joiner.proofs.BadCuts.{Passed, passed-within, passed-none, passed-bad, passed-more, passed-all}
 use Rattle.joiner.proofs.join.bad_cut.Statement.{statement}
 use Rattle.joiner.proofs.join.bad_cut.Tie as tie

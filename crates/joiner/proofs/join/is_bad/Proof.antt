@@ -1,11 +1,6 @@
 -- The code's tests are the definition's; past the message's end no break stands.
--- Assumes nothing.
-use mathlib.Core.Bool.{or-true, or-false}
-use borrow.Author.Needs.{needs}
-use borrow.Author.Tests.{le-leb, lt-leb}
-use lib.ListN.{List·getD-eq-default}
-use Rattle.spec.specs.Letters.{isBreak}
-use Rattle.spec.specs.Joints.{row12}
+use Rattle.laws.proofs.Kit.{or-true, or-false, needs, le-leb, lt-leb, List·getD-eq-default}
+use Rattle.spec.specs.{Letters.isBreak, Joints.row12}
 use Rattle.joiner.proofs.join.is_bad.Statement.{statement}
 use Rattle.joiner.proofs.join.is_bad.Tie as tie
 

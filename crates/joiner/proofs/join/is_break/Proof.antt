@@ -1,5 +1,4 @@
 -- The code's test is the definition's.
--- Assumes nothing.
 use Rattle.spec.specs.Letters.{isBreak}
 use Rattle.joiner.proofs.join.is_break.Statement.{statement}
 use Rattle.joiner.proofs.join.is_break.Tie as tie

@@ -1,11 +1,6 @@
 -- The refusals come in the definition's order, and else the second tape is written, which is as long as the message's.
--- Assumes nothing.
-use mathlib.Core.Path.{_≡_, sym, _∙_}
-use lib.Seq.{length-take-le}
-use borrow.Author.Needs.{needs}
-use Rattle.spec.specs.Refusals.{checkOf}
-use Rattle.spec.specs.Answers.{afterCheck}
-use Rattle.spec.specs.declared.Checked.the-variants.{Accepted}
+use Rattle.laws.proofs.Kit.{_≡_, sym, _∙_, length-take-le, needs}
+use Rattle.spec.specs.{Refusals.checkOf, Answers.afterCheck, declared.Checked.the-variants.Accepted}
 use Rattle.joiner.proofs.Answering.{join-refused, join-cut, join-short, tape-due, join-written}
 use Rattle.joiner.proofs.join.join.Statement.{statement}
 use Rattle.joiner.proofs.join.join.Tie as tie

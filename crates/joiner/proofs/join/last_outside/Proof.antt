@@ -1,9 +1,5 @@
 -- The loop is the look back.
--- Assumes nothing.
-use mathlib.Core.Path.{_≡_, sym, _∙_}
-use mathlib.Core.Bool.{false}
-use native.Mathlib.Omega.{arith}
-use lib.ListN.{getD}
+use Rattle.laws.proofs.Kit.{_≡_, sym, _∙_, false, arith, getD}
 use Rattle.joiner.specs.Writing.{outside}
 use Rattle.joiner.proofs.Looking.{Looks, looks-first, looks-within, looks-positive, looks-more, looks-found}
 use Rattle.joiner.proofs.join.last_outside.Statement.{statement}

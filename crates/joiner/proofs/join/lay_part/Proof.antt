@@ -1,12 +1,7 @@
 -- The cut's mark is found, the cut judged, and the part after it written where a cut changes it, so the second tape stands from that mark on.
--- Assumes nothing.
-use Prim.Native.Nat.{_+_, _≤_}
-use mathlib.Core.Bool.{_||_}
-use native.Mathlib.Omega.{arith}
-use lib.ListN.{length}
-use mir.Val.{boolByte}
-use borrow.Author.Needs.{needs}
+use Rattle.laws.proofs.Kit.{_+_, _≤_, _||_, arith, length, needs}
 use Rattle.joiner.proofs.Laying.{cut-few, cut-within, cut-reach, cut-beside, cut-part, cut-laid, laid-few}
+use mir.Val.{boolByte}
 use Rattle.joiner.proofs.join.lay_part.Statement.{statement}
 use Rattle.joiner.proofs.join.lay_part.Tie as tie
 

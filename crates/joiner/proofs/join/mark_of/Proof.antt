@@ -1,5 +1,4 @@
 -- Each turn goes back over one word, on the message to its break and on the tape to that break's mark.
--- Assumes nothing.
 use Rattle.joiner.specs.Writing.{Reach}
 use Rattle.joiner.proofs.Looking.{reach-behind, reach-mark, reach-more, reach-there}
 use Rattle.joiner.proofs.join.mark_of.Statement.{statement}

@@ -1,15 +1,9 @@
 -- The whole tape is written, then the parts from the last one on, and with the first one the second tape stands.
--- Assumes nothing.
-use Prim.Native.Nat.{suc, _-_}
-use mathlib.Core.Path.{_≡_, sym, ap, _∙_}
-use native.Mathlib.Omega.{arith}
-use lib.ListN.{length}
-use lib.Seq.{length-take-le}
+use Rattle.laws.proofs.Kit.{suc, _-_, _≡_, sym, ap, _∙_, arith, length, length-take-le}
 use Rattle.message.specs.Places.{Steady}
 use Rattle.message.proofs.Steadiness.{accepted-steady}
 use Rattle.spec.specs.Joints.{Rising}
-use Rattle.laws.proofs.Cuts.{rising-of}
-use Rattle.laws.proofs.Cutting.{equal-lengths}
+use Rattle.laws.proofs.{Cuts.rising-of, Cutting.equal-lengths}
 use Rattle.joiner.specs.Writing.{Laid}
 use Rattle.joiner.proofs.Laying.{laid-none, first-part, first-within, laid-all}
 use Rattle.joiner.proofs.join.write_joined.Statement.{statement}

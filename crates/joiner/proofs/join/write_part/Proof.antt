@@ -1,10 +1,5 @@
 -- The part's tape is written where it is changed, and stands there where it is not.
--- Assumes nothing.
-use Prim.Native.Nat.{_-_}
-use mathlib.Core.Path.{_≡_}
-use native.Mathlib.Omega.{arith}
-use lib.ListN.{length}
-use borrow.Author.Needs.{needs}
+use Rattle.laws.proofs.Kit.{_-_, _≡_, arith, length, needs}
 use Rattle.spec.specs.Tape.{tape}
 use Rattle.joiner.proofs.join.write_part.Statement.{statement}
 use Rattle.joiner.proofs.join.write_part.Tie as tie

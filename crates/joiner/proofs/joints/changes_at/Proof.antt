@@ -1,14 +1,7 @@
 -- The codes beside the mark tell what a cut changes, and each branch settles one test of them.
--- Assumes nothing.
-use Prim.Native.Nat.{suc, _+_}
-use mathlib.Core.Path.{_≡_, _∙_}
-use mathlib.Core.Bool.{_&&_}
-use native.Mathlib.Omega.{arith}
-use borrow.Author.Needs.{needs}
+use Rattle.laws.proofs.Kit.{suc, _+_, _≡_, _∙_, _&&_, arith, needs}
 use Rattle.message.specs.Classes.{letterAt}
-use Rattle.laws.proofs.Cuts.{break-within}
-use Rattle.laws.proofs.Parts.{changedAfter, changedBefore}
-use Rattle.laws.proofs.Beside.{isIOrE}
+use Rattle.laws.proofs.{Cuts.break-within, Parts.changedAfter, Parts.changedBefore, Beside.isIOrE}
 use Rattle.joiner.proofs.Sides.{voice-told, hardness-told}
 use Rattle.joiner.proofs.joints.changes_at.Statement.{statement}
 use Rattle.joiner.proofs.joints.changes_at.Tie as tie

@@ -1,10 +1,7 @@
 -- Numbers 1 and 2 are the length's, and the rest is the walk's.
--- Assumes nothing.
-use lib.ListN.{length}
-use borrow.Author.Tests.{eq-eqb, ne-eqb, lt-leb}
+use Rattle.laws.proofs.Kit.{length, eq-eqb, ne-eqb, lt-leb, needs}
 use Rattle.spec.specs.Refusals.{checkOf}
 use Rattle.laws.proofs.Promises.{check-promised}
-use borrow.Author.Needs.{needs}
 use Rattle.message.proofs.check.check.Statement.{statement}
 use Rattle.message.proofs.check.check.Tie as tie
 

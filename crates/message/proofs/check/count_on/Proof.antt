@@ -1,7 +1,6 @@
 -- A limit four bytes ahead stands; any other is counted anew.
--- Assumes nothing.
 use Rattle.message.proofs.Checking.{sees-counted, letters-all}
-use borrow.Author.Needs.{needs}
+use Rattle.laws.proofs.Kit.{needs}
 use Rattle.message.proofs.check.count_on.Statement.{statement}
 use Rattle.message.proofs.check.count_on.Tie as tie
 

@@ -1,14 +1,7 @@
 -- The table of pairs has a row for each kind, and the table of classes a class for each byte.
--- Assumes nothing.
-use Prim.Native.Nat.{_+_, _*_, _<_}
-use mathlib.Core.Path.{_≡_}
-use native.Mathlib.Omega.{arith}
-use lib.ListN.{getD}
-use Rattle.message.specs.Classes.{classAt}
-use Rattle.message.specs.Steps.{packed, stopUnit}
-use Rattle.message.proofs.Bytes.{by-class}
-use Rattle.message.proofs.StepTable.{entry-holds, unpacks, pairs-read}
-use borrow.Author.Needs.{needs}
+use Rattle.laws.proofs.Kit.{_+_, _*_, _<_, _≡_, arith, getD, needs}
+use Rattle.message.specs.{Classes.classAt, Steps.packed, Steps.stopUnit}
+use Rattle.message.proofs.{Bytes.by-class, StepTable.entry-holds, StepTable.unpacks, StepTable.pairs-read}
 use Rattle.message.proofs.check.entry_at.Statement.{statement}
 use Rattle.message.proofs.check.entry_at.Tie as tie
 

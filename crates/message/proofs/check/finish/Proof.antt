@@ -1,6 +1,5 @@
 -- The code's tests are the definition's.
--- Assumes nothing.
-use borrow.Author.Needs.{needs}
+use Rattle.laws.proofs.Kit.{needs}
 use Rattle.message.proofs.check.finish.Statement.{statement}
 use Rattle.message.proofs.check.finish.Tie as tie
 

@@ -1,15 +1,6 @@
 -- Going back, each letter is counted until a break or the letters counted before; what is counted and what stands before come to the same.
--- Assumes nothing.
-use Prim.Native.Nat.{ℕ, suc, _+_, _-_, _≤_, _<_}
-use mathlib.Core.Path.{_≡_, ap, _∙_}
-use mathlib.Core.Bool.{cond, and-false}
-use mathlib.Core.List.{List}
-use native.Mathlib.Omega.{arith}
-use lib.Dec.{leb}
-use borrow.Author.Tests.{le-leb, lt-leb}
-use Rattle.message.specs.Classes.{isBreakClass, isLetterClass, classAt}
-use Rattle.message.specs.Steps.{lettersAt}
-use borrow.Author.Needs.{needs}
+use Rattle.laws.proofs.Kit.{ℕ, suc, _+_, _-_, _≤_, _<_, _≡_, ap, _∙_, cond, and-false, List, arith, leb, le-leb, lt-leb, needs}
+use Rattle.message.specs.{Classes.isBreakClass, Classes.isLetterClass, Classes.classAt, Steps.lettersAt}
 use Rattle.message.proofs.check.letters_at.Statement.{statement}
 use Rattle.message.proofs.check.letters_at.Tie as tie
 

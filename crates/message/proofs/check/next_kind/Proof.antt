@@ -1,7 +1,6 @@
 -- The code's test is the definition's.
--- Assumes nothing.
 use Rattle.message.specs.Steps.{nextKind}
-use borrow.Author.Needs.{needs}
+use Rattle.laws.proofs.Kit.{needs}
 use Rattle.message.proofs.check.next_kind.Statement.{statement}
 use Rattle.message.proofs.check.next_kind.Tie as tie
 

@@ -1,12 +1,7 @@
 -- Four bytes without a stop are seen one after the other; at the first stop, or at the end, what is seen stays true.
--- Assumes nothing.
-use Prim.Native.Nat.{_+_, _-_, _≤_}
-use native.Mathlib.Omega.{arith}
-use Rattle.message.specs.Classes.{classAt}
-use Rattle.message.specs.declared.Seen.{Seen}
-use Rattle.message.specs.Steps.{Sees, fourAt, silentFour}
+use Rattle.laws.proofs.Kit.{_+_, _-_, _≤_, arith, needs}
+use Rattle.message.specs.{Classes.classAt, declared.Seen.Seen, Steps.Sees, Steps.fourAt, Steps.silentFour}
 use Rattle.message.proofs.Checking.{sees-small, Adds, sees-four}
-use borrow.Author.Needs.{needs}
 use Rattle.message.proofs.check.pass_fours.Statement.{statement}
 use Rattle.message.proofs.check.pass_fours.Tie as tie
 

@@ -1,16 +1,7 @@
 -- No other byte is elided, and of т and д the test tells.
--- Assumes nothing.
-use Prim.Native.Nat.{ℕ, _<_}
-use mathlib.Core.Path.{_≡_, refl, sym, _∙_}
-use native.Mathlib.Omega.{arith}
-use lib.Dec.{eqb}
-use lib.ListN.{getD}
-use borrow.Author.Tests.{eqb-false}
+use Rattle.laws.proofs.Kit.{ℕ, _<_, _≡_, refl, sym, _∙_, arith, eqb, getD, eqb-false, needs}
 use Rattle.message.specs.Classes.{classOf, isTOrD}
-use Rattle.message.proofs.Bytes.{below-same}
-use Rattle.message.proofs.Computed.{everything}
-use Rattle.message.proofs.StepTable.{class-spoken}
-use borrow.Author.Needs.{needs}
+use Rattle.message.proofs.{Bytes.below-same, Computed.everything, StepTable.class-spoken}
 use Rattle.message.proofs.check.silent_at.Statement.{statement}
 use Rattle.message.proofs.check.silent_at.Tie as tie
 

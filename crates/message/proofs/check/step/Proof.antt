@@ -1,15 +1,7 @@
 -- The entry tells the case: a fault, or a byte that is passed unless it is a 65th letter.
--- Assumes nothing.
-use Prim.Native.Nat.{_*_, _%_, _<_, _≤_}
-use mathlib.Core.Path.{sym, _∙_}
-use native.Mathlib.Numerals.{add-one}
-use native.Mathlib.Omega.{arith}
-use lib.ListN.{length}
-use Rattle.message.specs.Classes.{classAt, silentAt}
-use Rattle.message.specs.Steps.{packed, askUnit, stopUnit}
-use Rattle.message.proofs.Bytes.{by-class}
-use Rattle.message.proofs.Checking.{sees-small, sees-more, stop-here, full-here, clear-other, gives}
-use borrow.Author.Needs.{needs}
+use Rattle.laws.proofs.Kit.{_*_, _%_, _<_, _≤_, sym, _∙_, add-one, arith, length, needs}
+use Rattle.message.specs.{Classes.classAt, Classes.silentAt, Steps.packed, Steps.askUnit, Steps.stopUnit}
+use Rattle.message.proofs.{Bytes.by-class, Checking.sees-small, Checking.sees-more, Checking.stop-here, Checking.full-here, Checking.clear-other, Checking.gives}
 use Rattle.message.proofs.check.step.Statement.{statement}
 use Rattle.message.proofs.check.step.Tie as tie
 

@@ -1,11 +1,7 @@
 -- Each entry is small, and each class is a kind of the table.
--- Assumes nothing.
-use Prim.Native.Nat.{ℕ, _+_, _<_}
-use native.Mathlib.Omega.{arith}
-use lib.ListN.{getD}
+use Rattle.laws.proofs.Kit.{ℕ, _+_, _<_, arith, getD, needs}
 use Rattle.message.specs.Classes.{classAt}
 use Rattle.message.proofs.Bytes.{by-class}
-use borrow.Author.Needs.{needs}
 use Rattle.message.proofs.check.sum_four.Statement.{statement}
 use Rattle.message.proofs.check.sum_four.Tie as tie
 

@@ -1,6 +1,5 @@
 -- The code's test is the definition's.
--- Assumes nothing.
-use native.Mathlib.Omega.{arith}
+use Rattle.laws.proofs.Kit.{arith}
 use Rattle.message.specs.Steps.{tailNames}
 use Rattle.message.proofs.check.tail_names.Statement.{statement}
 use Rattle.message.proofs.check.tail_names.Tie as tie

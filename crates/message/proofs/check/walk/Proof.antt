@@ -1,13 +1,7 @@
 -- Each turn passes bytes that have no fault or finds the first that has one; the measure is what is left of the message.
--- Assumes nothing.
-use Prim.Native.Nat.{_-_}
-use mathlib.Core.Path.{_∙_}
-use native.Mathlib.Omega.{arith}
-use lib.ListN.{length}
-use borrow.Author.Needs.{needs}
+use Rattle.laws.proofs.Kit.{_-_, _∙_, arith, length, needs}
 use Rattle.message.specs.Steps.{Sees}
-use Rattle.message.proofs.Checking.{sees-none, seen-all}
-use Rattle.message.proofs.Faults.{seen-fault}
+use Rattle.message.proofs.{Checking.sees-none, Checking.seen-all, Faults.seen-fault}
 use Rattle.message.proofs.check.walk.Statement.{statement}
 use Rattle.message.proofs.check.walk.Tie as tie
 

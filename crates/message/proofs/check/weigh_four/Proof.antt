@@ -1,6 +1,5 @@
 -- Where the sum does not ask nothing is lost, and else what is lost is there to be taken off.
--- Assumes nothing.
-use borrow.Author.Needs.{needs}
+use Rattle.laws.proofs.Kit.{needs}
 use Rattle.message.proofs.check.weigh_four.Statement.{statement}
 use Rattle.message.proofs.check.weigh_four.Tie as tie
 

@@ -1,10 +1,6 @@
 -- The table's first half is the class of each byte.
--- Assumes nothing.
-use Prim.Native.Nat.{_<_}
-use native.Mathlib.Omega.{arith}
-use borrow.Author.Needs.{needs}
-use Rattle.message.proofs.Bytes.{by-class}
-use Rattle.message.proofs.StepTable.{class-read}
+use Rattle.laws.proofs.Kit.{_<_, arith, needs}
+use Rattle.message.proofs.{Bytes.by-class, StepTable.class-read}
 use Rattle.message.proofs.classify.class_of.Statement.{statement}
 use Rattle.message.proofs.classify.class_of.Tie as tie
 

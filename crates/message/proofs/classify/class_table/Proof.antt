@@ -1,6 +1,5 @@
 -- The numbers are the rule's, by one computation.
--- Assumes nothing.
-use mathlib.Core.Path.{refl}
+use Rattle.laws.proofs.Kit.{refl}
 use Rattle.message.proofs.Computed.{everything}
 use Rattle.message.proofs.classify.class_table.Statement.{statement}
 use Rattle.message.proofs.classify.class_table.Tie as tie

@@ -1,9 +1,6 @@
 -- The definition asks first whether the letter is т, as the code does; the other half then computes away.
--- Assumes nothing.
-use mathlib.Core.Bool.{or-false}
-use borrow.Author.Tests.{ne-eqb}
+use Rattle.laws.proofs.Kit.{or-false, ne-eqb, needs}
 use Rattle.spec.specs.Elision.{elidesAmong}
-use borrow.Author.Needs.{needs}
 use Rattle.message.proofs.letters.elides.Statement.{statement}
 use Rattle.message.proofs.letters.elides.Tie as tie
 

@@ -1,21 +1,9 @@
 -- The rules ask of consonants, and a folded letter is one of them just when the small letter is; after an elided letter they ask for one of five.
--- Assumes nothing.
-use Prim.Native.Nat.{ℕ, _<_}
-use mathlib.Core.Path.{_≡_, refl, sym, _∙_}
-use mathlib.Core.List.{_++_, map}
-use native.Mathlib.Omega.{arith}
-use lib.Dec.{eqb}
-use Rattle.spec.specs.Alphabet.{«д», «т»}
-use Rattle.spec.specs.Letters.{small, hardOnly, paired, softOnly}
-use Rattle.spec.specs.Tables.{among}
-use Rattle.spec.specs.Elision.{elidesAmong}
+use Rattle.laws.proofs.Kit.{ℕ, _<_, _≡_, refl, sym, _∙_, _++_, map, arith, eqb, needs}
+use Rattle.spec.specs.{Alphabet.«д», Alphabet.«т», Letters.small, Letters.hardOnly, Letters.paired, Letters.softOnly, Tables.among, Elision.elidesAmong}
 use Rattle.laws.proofs.Classes.{among-same}
 use Rattle.message.specs.Classes.{followsElided, foldOf}
-use Rattle.message.proofs.Bytes.{below-same}
-use Rattle.message.proofs.Elided.{afterSilent, before-other}
-use Rattle.message.proofs.Silent.{SameConsonant, alike-elides}
-use Rattle.message.proofs.Computed.{everything}
-use borrow.Author.Needs.{needs}
+use Rattle.message.proofs.{Bytes.below-same, Elided.afterSilent, Elided.before-other, Silent.SameConsonant, Silent.alike-elides, Computed.everything}
 use Rattle.message.proofs.letters.elides_byte.Statement.{statement}
 use Rattle.message.proofs.letters.elides_byte.Tie as tie
 

@@ -1,6 +1,5 @@
 -- The code is the formula of the definition.
--- Assumes nothing.
-use mathlib.Core.Path.{refl}
+use Rattle.laws.proofs.Kit.{refl}
 use Rattle.spec.specs.Elision.{elidesT}
 use Rattle.message.proofs.letters.elides_t.Statement.{statement}
 use Rattle.message.proofs.letters.elides_t.Tie as tie

@@ -1,7 +1,5 @@
 -- The code's test is the definition's.
--- Assumes nothing.
-use borrow.Author.Tests.{le-leb, lt-leb}
-use borrow.Author.Needs.{needs}
+use Rattle.laws.proofs.Kit.{le-leb, lt-leb, needs}
 use Rattle.message.proofs.letters.fold_case.Statement.{statement}
 use Rattle.message.proofs.letters.fold_case.Tie as tie
 

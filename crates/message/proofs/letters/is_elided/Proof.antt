@@ -1,14 +1,8 @@
 -- `message::letters::is_elided` meets its contract: the bytes are those beside the place, and nothing is silent at the start or end of a message.
--- Assumes nothing.
-use Prim.Native.Nat.{ℕ, _+_, _≤_}
-use mathlib.Core.Bool.{and-false}
-use native.Mathlib.Omega.{arith}
-use lib.ListN.{length, List·getD-eq-default}
-use Rattle.spec.specs.Letters.{small}
-use Rattle.spec.specs.Elision.{elidesT, elidesD, elidesAmong}
+use Rattle.laws.proofs.Kit.{ℕ, _+_, _≤_, and-false, arith, length, List·getD-eq-default, needs}
+use Rattle.spec.specs.{Letters.small, Elision.elidesT, Elision.elidesD, Elision.elidesAmong}
 use Rattle.message.specs.Classes.{letterAt, letterBefore, elidedAt}
 use Rattle.message.proofs.StepTable.{before-at}
-use borrow.Author.Needs.{needs}
 use Rattle.message.proofs.letters.is_elided.Statement.{statement}
 use Rattle.message.proofs.letters.is_elided.Tie as tie
 

@@ -1,8 +1,5 @@
 -- `message::letters::letter_at` meets its contract: past the end the byte is 0 by definition, and 0 is its own small letter.
--- Assumes nothing.
-use Prim.Native.Nat.{ℕ}
-use borrow.Author.Needs.{needs}
-use lib.ListN.{List·getD-eq-default}
+use Rattle.laws.proofs.Kit.{ℕ, needs, List·getD-eq-default}
 use Rattle.spec.specs.Letters.{small}
 use Rattle.message.specs.Classes.{letterAt}
 use Rattle.message.proofs.letters.letter_at.Statement.{statement}

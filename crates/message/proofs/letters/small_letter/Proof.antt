@@ -1,8 +1,5 @@
 -- `message::letters::small_letter` meets its contract: each arm settles the tests that the definition asks.
--- Assumes nothing.
-use borrow.Author.Needs.{needs}
-use borrow.Author.Tests.{le-leb, lt-leb, ne-eqb}
-use native.Mathlib.Omega.{arith}
+use Rattle.laws.proofs.Kit.{needs, le-leb, lt-leb, ne-eqb, arith}
 use Rattle.spec.specs.Letters.{small}
 use Rattle.message.proofs.letters.small_letter.Statement.{statement}
 use Rattle.message.proofs.letters.small_letter.Tie as tie

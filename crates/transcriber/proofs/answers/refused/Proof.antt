@@ -1,6 +1,5 @@
 -- A refusal is the answer, and an acceptance is an empty one.
--- Assumes nothing.
-use borrow.Author.Needs.{needs}
+use Rattle.laws.proofs.Kit.{needs}
 use Rattle.spec.specs.Answers.{afterCheck}
 use Rattle.transcriber.proofs.answers.refused.Statement.{statement}
 use Rattle.transcriber.proofs.answers.refused.Tie as tie

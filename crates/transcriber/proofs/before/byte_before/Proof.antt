@@ -1,11 +1,5 @@
 -- Past the start, the byte before a place stands at the place before it.
--- Assumes nothing.
-use Prim.Native.Nat.{ℕ, suc, _-_}
-use mathlib.Core.Path.{_≡_, ap}
-use mathlib.Core.List.{List}
-use native.Mathlib.Omega.{arith}
-use lib.ListN.{getD}
-use borrow.Author.Needs.{needs}
+use Rattle.laws.proofs.Kit.{ℕ, suc, _-_, _≡_, ap, List, arith, getD, needs}
 use Rattle.transcriber.specs.Sounds.{byteBefore}
 use Rattle.transcriber.proofs.before.byte_before.Statement.{statement}
 use Rattle.transcriber.proofs.before.byte_before.Tie as tie

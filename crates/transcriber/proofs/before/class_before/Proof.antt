@@ -1,6 +1,5 @@
 -- The table has the class of the byte before.
--- Assumes nothing.
-use borrow.Author.Needs.{needs}
+use Rattle.laws.proofs.Kit.{needs}
 use Rattle.transcriber.proofs.before.class_before.Statement.{statement}
 use Rattle.transcriber.proofs.before.class_before.Tie as tie
 

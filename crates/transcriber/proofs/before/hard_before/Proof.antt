@@ -1,18 +1,7 @@
 -- Each branch settles tests of the definition; a byte before that is no pause is a byte of the message, so there are as many bytes before the place as the code goes back.
--- Assumes nothing.
-use Prim.Native.Nat.{ℕ, zero, suc, _-_, _<_}
-use mathlib.Core.Path.{_≡_, refl}
-use mathlib.Core.Bool.{Bool, cond, _||_, false≢true}
-use mathlib.Core.List.{List}
-use native.Mathlib.Omega.{arith}
-use lib.Dec.{eqb}
-use borrow.Author.Needs.{needs}
-use borrow.Author.Tests.{ne-eqb}
-use Rattle.spec.specs.Alphabet.{gap, pause}
-use Rattle.spec.specs.Letters.{small, isGap, isHardOnly}
-use Rattle.spec.specs.Vowels.{hardEnd}
-use Rattle.message.proofs.Bytes.{below-same}
-use Rattle.message.proofs.Computed.{everything}
+use Rattle.laws.proofs.Kit.{ℕ, zero, suc, _-_, _<_, _≡_, refl, Bool, cond, _||_, false≢true, List, arith, eqb, needs, ne-eqb}
+use Rattle.spec.specs.{Alphabet.gap, Alphabet.pause, Letters.small, Letters.isGap, Letters.isHardOnly, Vowels.hardEnd}
+use Rattle.message.proofs.{Bytes.below-same, Computed.everything}
 use Rattle.transcriber.specs.Sounds.{byteBefore, hardBefore, isHardOrPaired}
 use Rattle.transcriber.proofs.before.hard_before.Statement.{statement}
 use Rattle.transcriber.proofs.before.hard_before.Tie as tie

@@ -1,19 +1,9 @@
 -- Between the bounds of an arm, and of what lies between arms, all small letters answer alike, by one computation each.
--- Assumes nothing.
-use Prim.Native.Nat.{ℕ, _≤_}
-use mathlib.Core.Path.{_≡_, refl, sym, _∙_}
-use mathlib.Core.Bool.{Bool, true, false, cond, _&&_, not}
-use mathlib.Core.List.{map}
-use native.Mathlib.Omega.{arith}
-use lib.Dec.{eqb, leb}
-use borrow.Author.Needs.{needs}
-use borrow.Author.Tests.{ne-eqb, le-leb}
+use Rattle.laws.proofs.Kit.{ℕ, _≤_, _≡_, refl, sym, _∙_, Bool, true, false, cond, _&&_, not, map, arith, eqb, leb, needs, ne-eqb, le-leb}
 use Rattle.spec.specs.Letters.{small, between}
-use Rattle.message.proofs.Bytes.{below}
-use Rattle.message.proofs.Computed.{everything}
+use Rattle.message.proofs.{Bytes.below, Computed.everything}
 use Rattle.transcriber.specs.Sounds.{isHardOrPaired}
-use Rattle.transcriber.proofs.Raw.{where-same}
-use Rattle.transcriber.proofs.Walking.{between-true}
+use Rattle.transcriber.proofs.{Raw.where-same, Walking.between-true}
 use Rattle.transcriber.proofs.before.is_hard_or_paired.Statement.{statement}
 use Rattle.transcriber.proofs.before.is_hard_or_paired.Tie as tie
 

@@ -1,12 +1,7 @@
 -- The table has the hard code of the letter under the tone, which its last five bits tell, the groups of the letter and of the sound after it, and what the one makes of the other.
--- Assumes nothing.
-use Prim.Native.Nat.{_≤_}
-use mathlib.Core.Path.{sym}
-use native.Mathlib.Omega.{arith}
-use borrow.Author.Needs.{needs}
+use Rattle.laws.proofs.Kit.{_≤_, sym, arith, needs}
 use Rattle.transcriber.specs.Sounds.{toneBy}
-use Rattle.transcriber.proofs.Raw.{tone-small}
-use Rattle.transcriber.proofs.SoundTable.{Read, code-read}
+use Rattle.transcriber.proofs.{Raw.tone-small, SoundTable.Read, SoundTable.code-read}
 use Rattle.transcriber.proofs.consonants.consonant_code.Statement.{statement}
 use Rattle.transcriber.proofs.consonants.consonant_code.Tie as tie
 

@@ -1,7 +1,5 @@
 -- The answer is the test's.
--- Assumes nothing.
-use native.Mathlib.Omega.{arith}
-use borrow.Author.Needs.{needs}
+use Rattle.laws.proofs.Kit.{arith, needs}
 use Rattle.transcriber.proofs.consonants.sound_of.Statement.{statement}
 use Rattle.transcriber.proofs.consonants.sound_of.Tie as tie
 

@@ -1,8 +1,5 @@
 -- Only a voicing sound has a voiced sound's tone.
--- Assumes nothing.
-use Prim.Native.Nat.{_%_}
-use borrow.Author.Needs.{needs}
-use borrow.Author.Tests.{ne-eqb}
+use Rattle.laws.proofs.Kit.{_%_, needs, ne-eqb}
 use Rattle.transcriber.proofs.Walking.{gap-tone}
 use Rattle.transcriber.proofs.consonants.tone_at_gap.Statement.{statement}
 use Rattle.transcriber.proofs.consonants.tone_at_gap.Tie as tie

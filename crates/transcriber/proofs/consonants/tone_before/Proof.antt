@@ -1,9 +1,6 @@
 -- The table's last part has the tone of each code.
--- Assumes nothing.
-use Prim.Native.Nat.{_+_}
-use native.Mathlib.Omega.{arith}
+use Rattle.laws.proofs.Kit.{_+_, arith, needs}
 use Rattle.transcriber.proofs.SoundTable.{table-small, tone-read}
-use borrow.Author.Needs.{needs}
 use Rattle.transcriber.proofs.consonants.tone_before.Statement.{statement}
 use Rattle.transcriber.proofs.consonants.tone_before.Tie as tie
 

@@ -1,6 +1,5 @@
 -- The look-back tells whether the word has a mark.
--- Assumes nothing.
-use borrow.Author.Needs.{needs}
+use Rattle.laws.proofs.Kit.{needs}
 use Rattle.transcriber.proofs.levels.at_word_end.Statement.{statement}
 use Rattle.transcriber.proofs.levels.at_word_end.Tie as tie
 

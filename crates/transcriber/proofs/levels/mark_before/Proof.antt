@@ -1,16 +1,7 @@
 -- The loop goes back over letters, which are neither marks nor breaks, so the answer at j is the answer at i; a named byte below them is a mark or a break. The measure is j.
--- Assumes nothing.
-use Prim.Native.Nat.{ℕ, suc, _-_, _<_, _≤_}
-use mathlib.Core.Path.{_≡_, refl, ap, _∙_}
-use mathlib.Core.Bool.{Bool, cond, _&&_, _||_, not}
-use mathlib.Core.List.{List}
-use native.Mathlib.Omega.{arith}
-use lib.Dec.{eqb, leb}
-use lib.ListN.{getD}
-use borrow.Author.Tests.{ne-eqb, le-leb, lt-leb}
+use Rattle.laws.proofs.Kit.{ℕ, suc, _-_, _<_, _≤_, _≡_, refl, ap, _∙_, Bool, cond, _&&_, _||_, not, List, arith, eqb, leb, getD, ne-eqb, le-leb, lt-leb}
 use Rattle.spec.specs.Letters.{isBreak, isMark}
-use Rattle.message.specs.Classes.{classOf}
-use Rattle.message.specs.Places.{markBefore}
+use Rattle.message.specs.{Classes.classOf, Places.markBefore}
 use Rattle.message.proofs.Computed.{everything}
 use Rattle.transcriber.proofs.Raw.{where-same}
 use Rattle.transcriber.proofs.levels.mark_before.Statement.{statement}

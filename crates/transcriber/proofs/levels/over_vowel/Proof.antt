@@ -1,6 +1,5 @@
 -- The level is the definition's.
--- Assumes nothing.
-use borrow.Author.Needs.{needs}
+use Rattle.laws.proofs.Kit.{needs}
 use Rattle.transcriber.proofs.levels.over_vowel.Statement.{statement}
 use Rattle.transcriber.proofs.levels.over_vowel.Tie as tie
 

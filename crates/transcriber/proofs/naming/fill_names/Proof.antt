@@ -1,9 +1,6 @@
 -- The invariant says that the names from the place on are in the output; each turn puts those of one byte before them. The measure is the place.
--- Assumes nothing.
-use mathlib.Core.Path.{_≡_, _∙_}
-use native.Mathlib.Omega.{arith}
-use Rattle.transcriber.proofs.Putting.{put-length}
-use Rattle.transcriber.proofs.Namings.{Naming, end-room, naming-none, naming-length, naming-before, naming-ready, naming-more, naming-all}
+use Rattle.laws.proofs.Kit.{_≡_, _∙_, arith}
+use Rattle.transcriber.proofs.{Putting.put-length, Namings.Naming, Namings.end-room, Namings.naming-none, Namings.naming-length, Namings.naming-before, Namings.naming-ready, Namings.naming-more, Namings.naming-all}
 use Rattle.transcriber.proofs.naming.fill_names.Statement.{statement}
 use Rattle.transcriber.proofs.naming.fill_names.Tie as tie
 

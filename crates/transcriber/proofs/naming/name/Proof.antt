@@ -1,13 +1,6 @@
 -- A message that the check accepts has as many names as the check counted, and all of them are put where there is room.
--- Assumes nothing.
-use mathlib.Core.Path.{_≡_, sym, _∙_}
-use native.Mathlib.Omega.{arith}
-use borrow.Author.Needs.{needs}
-use lib.ListN.{length}
-use Rattle.spec.specs.Refusals.{checkOf}
-use Rattle.spec.specs.Tape.{names}
-use Rattle.spec.specs.Answers.{nameAnswer}
-use Rattle.spec.specs.declared.Checked.the-variants.{Accepted}
+use Rattle.laws.proofs.Kit.{_≡_, sym, _∙_, arith, needs, length}
+use Rattle.spec.specs.{Refusals.checkOf, Tape.names, Answers.nameAnswer, declared.Checked.the-variants.Accepted}
 use Rattle.laws.proofs.Accepted.{accepted-counts}
 use Rattle.message.proofs.Steadiness.{accepted-steady}
 use Rattle.transcriber.proofs.Answering.{answered-refused, answered-short, answered-written}

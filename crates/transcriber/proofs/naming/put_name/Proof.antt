@@ -1,6 +1,5 @@
 -- The class before and what is known of the right tell the syllable, and its name is put.
--- Assumes nothing.
-use borrow.Author.Needs.{needs}
+use Rattle.laws.proofs.Kit.{needs}
 use Rattle.transcriber.proofs.Namings.{vowel-room, named-vowel}
 use Rattle.transcriber.proofs.naming.put_name.Statement.{statement}
 use Rattle.transcriber.proofs.naming.put_name.Tie as tie

@@ -1,10 +1,5 @@
 -- Each class of byte settles its names, and a byte of an accepted message has one.
--- Assumes nothing.
-use Prim.Native.Nat.{ℕ, _<_}
-use mathlib.Core.Path.{_≡_, sym, _∙_}
-use native.Mathlib.Omega.{arith}
-use lib.ListN.{getD}
-use borrow.Author.Needs.{needs}
+use Rattle.laws.proofs.Kit.{ℕ, _<_, _≡_, sym, _∙_, arith, getD, needs}
 use Rattle.message.specs.Classes.{classOf}
 use Rattle.transcriber.proofs.Namings.{vowel-class, named-letter, named-mark, break-room, named-break}
 use Rattle.transcriber.proofs.naming.step.Statement.{statement}

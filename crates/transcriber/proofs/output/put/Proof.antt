@@ -1,6 +1,5 @@
 -- A store right before a place is a code put there.
--- Assumes nothing.
-use borrow.Author.Needs.{needs}
+use Rattle.laws.proofs.Kit.{needs}
 use Rattle.transcriber.proofs.Putting.{put-one}
 use Rattle.transcriber.proofs.output.put.Statement.{statement}
 use Rattle.transcriber.proofs.output.put.Tie as tie

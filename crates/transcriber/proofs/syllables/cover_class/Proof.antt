@@ -1,6 +1,5 @@
 -- The test is the definition's.
--- Assumes nothing.
-use borrow.Author.Needs.{needs}
+use Rattle.laws.proofs.Kit.{needs}
 use Rattle.transcriber.proofs.syllables.cover_class.Statement.{statement}
 use Rattle.transcriber.proofs.syllables.cover_class.Tie as tie
 

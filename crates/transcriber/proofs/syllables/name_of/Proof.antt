@@ -1,7 +1,6 @@
 -- Each arm is a case of the definition.
--- Assumes nothing.
 use Rattle.spec.specs.Syllables.{nameIn, nameOf}
-use borrow.Author.Needs.{needs}
+use Rattle.laws.proofs.Kit.{needs}
 use Rattle.transcriber.proofs.syllables.name_of.Statement.{statement}
 use Rattle.transcriber.proofs.syllables.name_of.Tie as tie
 

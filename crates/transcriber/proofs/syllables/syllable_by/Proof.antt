@@ -1,6 +1,5 @@
 -- The cover is the definition's.
--- Assumes nothing.
-use borrow.Author.Needs.{needs}
+use Rattle.laws.proofs.Kit.{needs}
 use Rattle.transcriber.proofs.syllables.syllable_by.Statement.{statement}
 use Rattle.transcriber.proofs.syllables.syllable_by.Tie as tie
 

@@ -1,6 +1,5 @@
 -- The numbers are the rule's, by one computation.
--- Assumes nothing.
-use mathlib.Core.Path.{refl}
+use Rattle.laws.proofs.Kit.{refl}
 use Rattle.message.proofs.Computed.{everything}
 use Rattle.transcriber.specs.Sounds.{toneNo, tonedCode, letterGroup, soundGroup, groupOf, softIn, softNo, soundTable}
 use Rattle.transcriber.proofs.tables.sound_table.Statement.{statement}

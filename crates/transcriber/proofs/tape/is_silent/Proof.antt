@@ -1,11 +1,5 @@
 -- Only т and д can be silent, and only after a consonant of class 7.
--- Assumes nothing.
-use Prim.Native.Nat.{ℕ, _<_}
-use mathlib.Core.Path.{_≡_, sym, _∙_}
-use mathlib.Core.Bool.{false}
-use mathlib.Core.List.{List}
-use lib.ListN.{getD}
-use borrow.Author.Needs.{needs}
+use Rattle.laws.proofs.Kit.{ℕ, _<_, _≡_, sym, _∙_, false, List, getD, needs}
 use Rattle.message.specs.Classes.{elidedAt}
 use Rattle.message.proofs.StepTable.{class-spoken, before-spoken}
 use Rattle.transcriber.specs.Sounds.{byteBefore, classBefore}

@@ -1,10 +1,5 @@
 -- A break puts its mark; the tone left of it is voiceless at a pause, and told by the first sound after it at a gap.
--- Assumes nothing.
-use mathlib.Core.Path.{refl, sym, _∙_}
-use mathlib.Core.Bool.{true, false}
-use lib.ListN.{getD}
-use borrow.Author.Needs.{needs}
-use borrow.Author.Tests.{eq-eqb, ne-eqb}
+use Rattle.laws.proofs.Kit.{refl, sym, _∙_, true, false, getD, needs, eq-eqb, ne-eqb}
 use Rattle.message.specs.Classes.{classOf}
 use Rattle.transcriber.proofs.Walking.{ready-break, break-room, break-steps}
 use Rattle.transcriber.proofs.tape.put_break.Statement.{statement}

@@ -1,18 +1,9 @@
 -- The code that the table gives is the consonant's, and it is what stands right of the letter before; a silent letter puts nothing.
--- Assumes nothing.
-use Prim.Native.Nat.{suc, _%_, _<_}
-use mathlib.Core.Path.{_≡_, refl, sym, ap, _∙_}
-use mathlib.Core.Bool.{false}
-use mathlib.Core.List.{[], _∷_}
-use native.Mathlib.Omega.{arith}
-use lib.Dec.{leb}
-use lib.ListN.{getD}
-use borrow.Author.Needs.{needs}
+use Rattle.laws.proofs.Kit.{suc, _%_, _<_, _≡_, refl, sym, ap, _∙_, false, [], _∷_, arith, leb, getD, needs}
 use Rattle.spec.specs.Letters.{small}
 use Rattle.message.specs.Places.{toneAt, codesAt}
 use Rattle.transcriber.specs.Sounds.{toneNo, toneBy}
-use Rattle.transcriber.proofs.Raw.{consonant-small}
-use Rattle.transcriber.proofs.Walking.{Spelt, spelt-consonant, consonant-softens, consonant-codes, ready-consonant, elided-steps, letter-room, right-sound, tone-by, plain-levels, letter-steps}
+use Rattle.transcriber.proofs.{Raw.consonant-small, Walking.Spelt, Walking.spelt-consonant, Walking.consonant-softens, Walking.consonant-codes, Walking.ready-consonant, Walking.elided-steps, Walking.letter-room, Walking.right-sound, Walking.tone-by, Walking.plain-levels, Walking.letter-steps}
 use Rattle.transcriber.proofs.tape.put_consonant.Statement.{statement}
 use Rattle.transcriber.proofs.tape.put_consonant.Tie as tie
 

@@ -1,14 +1,7 @@
 -- The sound is put first, and the glide before it where there is one.
--- Assumes nothing.
-use Prim.Native.Nat.{_<_}
-use mathlib.Core.Bool.{Bool, true, false, cond}
-use mathlib.Core.List.{[], _∷_}
-use native.Mathlib.Omega.{arith}
-use lib.ListN.{length}
-use borrow.Author.Needs.{needs}
+use Rattle.laws.proofs.Kit.{_<_, Bool, true, false, cond, [], _∷_, arith, length, needs}
 use Rattle.spec.specs.Codes.{J}
-use Rattle.transcriber.specs.Walk.{sungCodes}
-use Rattle.transcriber.specs.declared.Vowel.{Vowel}
+use Rattle.transcriber.specs.{Walk.sungCodes, declared.Vowel.Vowel}
 use Rattle.transcriber.proofs.Putting.{put-over, put-length}
 use Rattle.transcriber.proofs.tape.put_sung.Statement.{statement}
 use Rattle.transcriber.proofs.tape.put_sung.Tie as tie

@@ -1,15 +1,8 @@
 -- The codes that are put are the vowel's, and their first is what stands right of the letter before.
--- Assumes nothing.
-use Prim.Native.Nat.{suc}
-use mathlib.Core.Path.{_≡_, sym, _∙_}
-use mathlib.Core.Bool.{false, true, not}
-use lib.Dec.{eqb}
-use lib.ListN.{getD}
-use borrow.Author.Needs.{needs}
+use Rattle.laws.proofs.Kit.{suc, _≡_, sym, _∙_, false, true, not, eqb, getD, needs}
 use Rattle.message.specs.Places.{codesAt, toneAt, soundAt}
 use Rattle.transcriber.specs.Walk.{VowelAt, sungCodes}
-use Rattle.transcriber.proofs.Levelling.{levels-vowel}
-use Rattle.transcriber.proofs.Walking.{Spelt, spelt-vowel, vowel-softens, vowel-ready, vowel-sings, sung-codes, sung-tone, sung-first, letter-room, letter-steps}
+use Rattle.transcriber.proofs.{Levelling.levels-vowel, Walking.Spelt, Walking.spelt-vowel, Walking.vowel-softens, Walking.vowel-ready, Walking.vowel-sings, Walking.sung-codes, Walking.sung-tone, Walking.sung-first, Walking.letter-room, Walking.letter-steps}
 use Rattle.transcriber.proofs.tape.put_vowel.Statement.{statement}
 use Rattle.transcriber.proofs.tape.put_vowel.Tie as tie
 

@@ -1,7 +1,5 @@
 -- No letter follows the message's end, nothing voices there, and the last word's mark is looked for before it.
--- Assumes nothing.
-use mathlib.Core.Path.{refl}
-use borrow.Author.Needs.{needs}
+use Rattle.laws.proofs.Kit.{refl, needs}
 use Rattle.transcriber.proofs.Filling.{stands-end}
 use Rattle.transcriber.proofs.tape.start.Statement.{statement}
 use Rattle.transcriber.proofs.tape.start.Tie as tie

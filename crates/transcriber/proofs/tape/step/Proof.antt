@@ -1,11 +1,5 @@
 -- Each class of byte is handled by its own function, and a byte of an accepted message has one.
--- Assumes nothing.
-use Prim.Native.Nat.{ℕ, _≤_}
-use mathlib.Core.Path.{_≡_, sym, _∙_}
-use native.Mathlib.Omega.{arith}
-use lib.ListN.{getD}
-use borrow.Author.Needs.{needs}
-use borrow.Author.Tests.{eq-eqb}
+use Rattle.laws.proofs.Kit.{ℕ, _≤_, _≡_, sym, _∙_, arith, getD, needs, eq-eqb}
 use Rattle.message.specs.Classes.{classOf}
 use Rattle.message.proofs.Bytes.{ByClass, by-class}
 use Rattle.transcriber.proofs.Walking.{ready-for, sign-steps, mark-steps}

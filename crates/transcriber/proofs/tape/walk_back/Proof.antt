@@ -1,11 +1,7 @@
 -- The walk so far is carried by one record, to which each step adds the piece of its byte.
--- Assumes nothing.
-use lib.ListN.{length}
+use Rattle.laws.proofs.Kit.{length, arith, _≡_, suc, _-_, _<_, _≤_}
 use Rattle.transcriber.proofs.Filling.{walked-none, walked-length, walked-ready, walked-more}
 use Rattle.transcriber.specs.Walk.{Walked}
-use native.Mathlib.Omega.{arith}
-use mathlib.Core.Path.{_≡_}
-use Prim.Native.Nat.{suc, _-_, _<_, _≤_}
 use Rattle.transcriber.proofs.tape.walk_back.Statement.{statement}
 use Rattle.transcriber.proofs.tape.walk_back.Tie as tie
 

@@ -1,8 +1,6 @@
 -- The walk over the whole message, from its end to its start, puts its tape.
--- Assumes nothing.
 use Rattle.transcriber.proofs.Filling.{walked-all}
-use native.Mathlib.Omega.{arith}
-use borrow.Author.Needs.{needs}
+use Rattle.laws.proofs.Kit.{arith, needs}
 use Rattle.transcriber.proofs.tape.write_tape.Statement.{statement}
 use Rattle.transcriber.proofs.tape.write_tape.Tie as tie
 

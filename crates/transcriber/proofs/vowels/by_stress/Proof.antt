@@ -1,6 +1,5 @@
 -- Each arm is a case of the definition.
--- Assumes nothing.
-use borrow.Author.Needs.{needs}
+use Rattle.laws.proofs.Kit.{needs}
 use Rattle.spec.specs.Vowels.{byStress}
 use Rattle.transcriber.proofs.vowels.by_stress.Statement.{statement}
 use Rattle.transcriber.proofs.vowels.by_stress.Tie as tie

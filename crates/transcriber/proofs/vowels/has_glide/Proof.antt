@@ -1,10 +1,7 @@
 -- Each branch settles tests of the definition.
--- Assumes nothing.
-use mathlib.Core.Bool.{or-false}
-use borrow.Author.Tests.{ne-eqb}
+use Rattle.laws.proofs.Kit.{or-false, ne-eqb, needs}
 use Rattle.message.specs.Classes.{isSignClass}
 use Rattle.spec.specs.Vowels.{bare}
-use borrow.Author.Needs.{needs}
 use Rattle.transcriber.proofs.vowels.has_glide.Statement.{statement}
 use Rattle.transcriber.proofs.vowels.has_glide.Tie as tie
 

@@ -1,6 +1,5 @@
 -- The two breaks.
--- Assumes nothing.
-use borrow.Author.Needs.{needs}
+use Rattle.laws.proofs.Kit.{needs}
 use Rattle.spec.specs.Letters.{isBreak}
 use Rattle.transcriber.proofs.vowels.is_initial.Statement.{statement}
 use Rattle.transcriber.proofs.vowels.is_initial.Tie as tie

@@ -1,8 +1,5 @@
 -- An arm has a letter of class Q, by one computation each, and no other byte has.
--- Assumes nothing.
-use mathlib.Core.Path.{refl, sym}
-use mathlib.Core.Logic.{⊎-elim}
-use native.Mathlib.Omega.{arith}
+use Rattle.laws.proofs.Kit.{refl, sym, ⊎-elim, arith}
 use Rattle.spec.specs.Letters.{small, isSoftOnly}
 use Rattle.message.proofs.Computed.{everything}
 use Rattle.transcriber.proofs.Raw.{none, neither, outside}

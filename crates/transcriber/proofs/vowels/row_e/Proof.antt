@@ -1,6 +1,5 @@
 -- The level is the arm's; a hard boundary stands only before a word's first letter.
--- Assumes nothing.
-use borrow.Author.Needs.{needs}
+use Rattle.laws.proofs.Kit.{needs}
 use Rattle.spec.specs.Vowels.{byLevel, rowЭ}
 use Rattle.transcriber.proofs.Raw.{boundary-initial}
 use Rattle.transcriber.proofs.vowels.row_e.Statement.{statement}

@@ -1,6 +1,5 @@
 -- What the byte before tells, and the boundary, settle the test of the row.
--- Assumes nothing.
-use borrow.Author.Needs.{needs}
+use Rattle.laws.proofs.Kit.{needs}
 use Rattle.spec.specs.Vowels.{rowИ}
 use Rattle.transcriber.proofs.Raw.{boundary-initial}
 use Rattle.transcriber.proofs.vowels.row_i.Statement.{statement}

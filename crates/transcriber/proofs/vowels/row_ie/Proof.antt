@@ -1,6 +1,5 @@
 -- The level is the arm's, and what the byte before tells settles the tests of the row.
--- Assumes nothing.
-use borrow.Author.Needs.{needs}
+use Rattle.laws.proofs.Kit.{needs}
 use Rattle.spec.specs.Vowels.{byLevel, rowЕ}
 use Rattle.transcriber.proofs.vowels.row_ie.Statement.{statement}
 use Rattle.transcriber.proofs.vowels.row_ie.Tie as tie

@@ -1,6 +1,5 @@
 -- The level is the arm's, and the third is the sound that а has there.
--- Assumes nothing.
-use borrow.Author.Needs.{needs}
+use Rattle.laws.proofs.Kit.{needs}
 use Rattle.spec.specs.Vowels.{byLevel, rowО}
 use Rattle.transcriber.proofs.vowels.row_o.Statement.{statement}
 use Rattle.transcriber.proofs.vowels.row_o.Tie as tie

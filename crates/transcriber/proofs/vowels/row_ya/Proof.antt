@@ -1,6 +1,5 @@
 -- The level is the arm's, and the byte before tells whether the vowel is initial.
--- Assumes nothing.
-use borrow.Author.Needs.{needs}
+use Rattle.laws.proofs.Kit.{needs}
 use Rattle.spec.specs.Vowels.{byLevel, rowЯ}
 use Rattle.transcriber.proofs.vowels.row_ya.Statement.{statement}
 use Rattle.transcriber.proofs.vowels.row_ya.Tie as tie

@@ -1,6 +1,5 @@
 -- What the byte before tells settles the tests of the line.
--- Assumes nothing.
-use borrow.Author.Needs.{needs}
+use Rattle.laws.proofs.Kit.{needs}
 use Rattle.transcriber.proofs.vowels.second_a.Statement.{statement}
 use Rattle.transcriber.proofs.vowels.second_a.Tie as tie
 

@@ -1,7 +1,5 @@
 -- The syllable, the sound and the glide are those of the vowel in its word, since the byte before tells the letter before.
--- Assumes nothing.
-use native.Mathlib.Omega.{arith}
-use borrow.Author.Needs.{needs}
+use Rattle.laws.proofs.Kit.{arith, needs}
 use Rattle.transcriber.proofs.Walking.{vowel-sings, sung-by}
 use Rattle.transcriber.proofs.vowels.vowel_at.Statement.{statement}
 use Rattle.transcriber.proofs.vowels.vowel_at.Tie as tie

@@ -1,10 +1,5 @@
 -- Each arm is its letter's row, by computation at the small letter and at the capital; a vowel has an arm.
--- Assumes nothing.
-use mathlib.Core.Path.{refl, sym, _∙_}
-use mathlib.Core.Bool.{Bool, false≢true}
-use mathlib.Core.Logic.{⊎-elim}
-use native.Mathlib.Omega.{arith}
-use borrow.Author.Needs.{needs}
+use Rattle.laws.proofs.Kit.{refl, sym, _∙_, Bool, false≢true, ⊎-elim, arith, needs}
 use Rattle.spec.specs.Refusals.{vowelByte}
 use Rattle.message.proofs.Computed.{everything}
 use Rattle.transcriber.specs.Sounds.{hardBefore}
