@@ -10,7 +10,7 @@ use Rattle.spec.specs.Codes.{markOf}
 use Rattle.spec.specs.Tape.{tape}
 use Rattle.message.specs.Places.{Steady}
 use Rattle.spec.specs.Refusals.{checkOf}
-use Rattle.spec.specs.Joints.{badCut, joinedFrom, markIndex, liveCount}
+use Rattle.spec.specs.Joints.{Rising, joinedFrom, markIndex, liveCount}
 use Rattle.spec.specs.declared.Counts.{Counts}
 use Rattle.spec.specs.declared.Checked.the-variants.{Accepted}
 use Rattle.laws.proofs.Parts.{changedAfter, changedBefore}
@@ -19,11 +19,16 @@ use Rattle.transcriber.specs.Walk.{Put}
 use Rattle.joiner.specs.declared.Changes.{Changes}
 use Rattle.joiner.specs.declared.Progress.{Progress}
 
--- the message and its cuts are accepted, and an output of this size is as long as its tape
-pub record TapeDue (m cuts : List ℕ) (size : ℕ) : Type 0 where
+-- an accepted message
+pub record Valid (m : List ℕ) : Type 0 where
   pub counts : Counts
   pub accepted : checkOf m ≡ Accepted counts
-  pub rising : badCut m cuts ≡ length cuts
+  pub steady : Steady m
+
+-- the message and its cuts are accepted, and an output of this size is as long as its tape
+pub record TapeDue (m cuts : List ℕ) (size : ℕ) : Type 0 where
+  pub valid : Valid m
+  pub rising : Rising m cuts
   pub fits : size ≡ length (tape m)
 
 -- the part p may be written right before index at of the output, and where no cut changes it its tape stands there
@@ -37,23 +42,23 @@ pub record PartDue (p out : List ℕ) (at : ℕ) (changed : Bool) : Type 0 where
 abbrev pub outside : ℕ → ℕ → ℕ → Bool
 outside low high b = not (between low high b)
 
--- some element of the list before index i passes the test
-pub record Behind (test : ℕ → Bool) (x : List ℕ) (i : ℕ) : Type 0 where
-  pub within : i ≤ length x
+-- A look back from index i has passed all down to index j: they fail the test, and an element before j passes it.
+pub record Looks (test : ℕ → Bool) (x : List ℕ) (i j : ℕ) : Type 0 where
+  pub within : j ≤ length x
   pub least : ℕ
-  pub below : least < i
+  pub below : least < j
   pub here : test (getD x least 0) ≡ true
+  pub high : j ≤ i
+  pub past : (k : ℕ) → j ≤ k → k < i → test (getD x k 0) ≡ false
 
 -- the accepted message's tape stands in t up to index n
 pub record Whole (m t : List ℕ) (n : ℕ) : Type 0 where
-  pub counts : Counts
-  pub accepted : checkOf m ≡ Accepted counts
+  pub valid : Valid m
   pub size : n ≤ length t
   pub same : (j : ℕ) → j < n → getD t j 0 ≡ getD (tape m) j 0
 
 -- index n is that of the mark of place e, which is a break or the message's end, and the break at place c is not behind it
 pub record Reach (m t : List ℕ) (c e n : ℕ) : Type 0 where
-  pub steady : Steady m
   pub whole : Whole m t n
   pub break : isBreak (getD m c 0) ≡ true
   pub order : c ≤ e
@@ -63,10 +68,10 @@ pub record Reach (m t : List ℕ) (c e n : ℕ) : Type 0 where
 
 -- index at is that of the mark of the break at place c, and on both sides of it stand codes of the whole tape
 pub record Beside (m t : List ℕ) (c at : ℕ) : Type 0 where
-  pub steady : Steady m
   pub whole : Whole m t (suc (suc at))
   pub some : 0 < at
   pub break : isBreak (getD m c 0) ≡ true
+  pub within : c < length m
   pub place : at ≡ markIndex m c
 
 -- w says which clauses of 'Joints' hold at a cut at place c: (a) changes the code before its mark, (b) the code after it
@@ -86,17 +91,11 @@ restOf m (c ∷ cuts) = markOf (getD m c 0) ∷ joinedFrom m (suc c) cuts
 
 -- All cuts but the first k are passed: before the mark of the last one of them, or the message's end, the whole tape stands in the output, and from there on the second one.
 pub record Laid (m cuts : List ℕ) (k : ℕ) (out : List ℕ) (p : Progress) : Type 0 where
+  pub valid : Valid m
+  pub rising : Rising m cuts
   pub within : k ≤ length cuts
   pub ends : p .e ≡ endOf m (drop k cuts)
   pub place : p .at ≡ markIndex m (p .e)
   pub bytes : out ≡ take (p .at) (tape m) ++ restOf m (drop k cuts)
   pub counted : p .live ≡ liveCount m (drop k cuts)
   pub last : p .changed ≡ changedBefore m (p .e)
-
--- the cut of index k is next
-pub record CutDue (m cuts : List ℕ) (k : ℕ) (out : List ℕ) (p : Progress) : Type 0 where
-  pub counts : Counts
-  pub accepted : checkOf m ≡ Accepted counts
-  pub rising : badCut m cuts ≡ length cuts
-  pub steady : Steady m
-  pub laid : Laid m cuts (suc k) out p

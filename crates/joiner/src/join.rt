@@ -1,16 +1,14 @@
 // The joiner: the whole message's tape, and over it the tapes of the parts that a cut changes.
 ghost use mathlib.Core.Path.{_≡_};
-ghost use Prim.Native.Nat.{_-_};
+ghost use Prim.Native.Nat.{suc, _-_};
 ghost use lib.ListN.{length};
-ghost use Rattle.message.specs.Classes.{classes};
 ghost use Rattle.spec.specs.Letters.{between, isBreak};
 ghost use Rattle.spec.specs.Tape.{tape};
 ghost use Rattle.spec.specs.Joints.{badCut, row12, joined, liveCount, markIndex};
 ghost use Rattle.spec.specs.Answers.{JoinPromise};
-ghost use Rattle.transcriber.specs.Sounds.{soundTable};
-ghost use Rattle.transcriber.specs.Walk.{Put};
+ghost use Rattle.transcriber.specs.Walk.{Lent, Put};
 ghost use Rattle.laws.proofs.MarkIndex.{Last};
-ghost use Rattle.joiner.specs.Writing.{TapeDue, PartDue, outside, Behind, Reach, Laid, CutDue};
+ghost use Rattle.joiner.specs.Writing.{TapeDue, PartDue, outside, Looks, Reach, Laid};
 use crate::Progress;
 use crate::joints::changes_at;
 use message::alphabet;
@@ -77,7 +75,7 @@ fn is_between(b: u8, low: u8, high: u8) -> bool
 
 // The last index before i where the list has none of low to high; there is one.
 fn last_outside(x: &[u8], i: usize, low: u8, high: u8) -> usize
-    requires { ⌜ Behind (outside low high) (now x) i ⌝ }
+    requires { ⌜ Looks (outside low high) (now x) i i ⌝ }
     ensures { λ r. ⌜ Last (outside low high) (now (x .entry)) i r ⌝ }
 {
     let mut j = i - 1;
@@ -103,7 +101,7 @@ fn mark_of(m: &[u8], t: &[u8], c: usize, e: usize, end: usize) -> usize
 
 // Of a part the whole message's codes stand right before place end of the output; where a cut changes them the part's own tape is written over them.
 fn write_part(p: &[u8], changed: bool, out: &mut [u8], end: usize, t: &ClassTable, s: &SoundTable)
-    requires { ⌜ (now t ≡ classes) × (now s ≡ soundTable) × PartDue (now p) (now out) end changed ⌝ }
+    requires { ⌜ Lent (now t) (now s) × PartDue (now p) (now out) end changed ⌝ }
     ensures { λ _. ⌜ Put (tape (now (p .entry))) (now (out .entry)) (now (out .exit)) end (end - length (tape (now (p .entry)))) ⌝ }
 {
     if changed {
@@ -121,7 +119,7 @@ fn lay_part(
     t: &ClassTable,
     s: &SoundTable,
 ) -> Progress
-    requires { ⌜ (now t ≡ classes) × (now s ≡ soundTable) × CutDue (now m) (now cuts) k (now out) p ⌝ }
+    requires { ⌜ Lent (now t) (now s) × Laid (now m) (now cuts) (suc k) (now out) p ⌝ }
     ensures { λ r. ⌜ Laid (now (m .entry)) (now (cuts .entry)) k (now (out .exit)) r ⌝ }
 {
     let c = cuts[k];
@@ -144,7 +142,7 @@ fn lay_part(
 
 // Writes the second tape and counts the live cuts: the whole message's tape, and then from the right, over it, the parts that a cut changes.
 fn write_joined(m: &[u8], cuts: &[usize], out: &mut [u8], t: &ClassTable, s: &SoundTable) -> usize
-    requires { ⌜ (now t ≡ classes) × (now s ≡ soundTable) × TapeDue (now m) (now cuts) (length (now out)) ⌝ }
+    requires { ⌜ Lent (now t) (now s) × TapeDue (now m) (now cuts) (length (now out)) ⌝ }
     ensures { λ r. ⌜ (now (out .exit) ≡ joined (now (m .entry)) (now (cuts .entry))) × (r ≡ liveCount (now (m .entry)) (now (cuts .entry))) ⌝ }
 {
     let n = out.len();

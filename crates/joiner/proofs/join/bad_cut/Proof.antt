@@ -1,47 +1,32 @@
--- Each turn passes one cut of the definition's walk or ends it; the measure is what is left of the list.
-use Rattle.laws.proofs.Kit.{_-_, sym, _∙_, arith, length, needs}
-use Rattle.joiner.proofs.BadCuts.{Passed, passed-within, passed-none, passed-bad, passed-more, passed-all}
+-- Each turn passes one cut of the definition's walk or ends it: no cut before index k is bad, and least is the least place that the next one may have.
+use Rattle.laws.proofs.Kit.{ℕ, _-_, _<_, _≤_, _≡_, refl, sym, _∙_, false, true≢false, ⊎-elim, List, add-one, arith, length, drop, List·getD-eq-default, drop-cons, drop-of-length-le, needs}
+use Rattle.spec.specs.{Letters.isBreak, Joints.row12, Joints.badCutFrom, Joints.badCut}
+use Rattle.laws.proofs.Classes.{below-or}
 use Rattle.joiner.proofs.join.bad_cut.Statement.{statement}
 use Rattle.joiner.proofs.join.bad_cut.Tie as tie
 
 abbrev Inv-loop : tie.InvT-loop
-Inv-loop m cuts least₀ k₀ least k = Passed m cuts least k
+Inv-loop m cuts least₀ k₀ least k = badCutFrom m least k (drop k cuts) ≡ badCut m cuts
 
 abbrev μ-loop : tie.MeasureT-loop
 μ-loop m cuts least₀ k₀ least k = length cuts - k
 
-loop-holds : tie.Need-loop-holds Inv-loop μ-loop
-loop-holds c = passed-none _ _
-
-returns : tie.Need-returns Inv-loop μ-loop
-returns c =
-    let n = c .before .before .before in
-    passed-bad _ _ _ _ (n .before .loop .inv) (n .loop-test .taken) (sym (c .before .is-bad .ensures) ∙ c .if1 .taken)
-
-add-least : tie.Need-add-least Inv-loop μ-loop
-add-least c = omega (arith, passed-within _ _ _ (sym (c .before .is-bad .ensures) ∙ c .if1 .left))
-
-loop-again : tie.Need-loop-again Inv-loop μ-loop
-loop-again c =
-    let n = c .before .before .before in
-    passed-more _ _ _ _ (n .before .loop .inv) (n .loop-test .taken) (sym (c .before .is-bad .ensures) ∙ c .if1 .left)
-
-returns-2 : tie.Need-returns-2 Inv-loop μ-loop
-returns-2 c = passed-all _ _ _ _ (c .before .loop .inv) (c .loop-test .left)
+-- a cut that number 12 does not fit is within the message
+within : (m : List ℕ) (least c : ℕ) → row12 m least c ≡ false → c < length m
+unfolding row12 isBreak
+within m least c e = ⊎-elim (λ h. h) (λ (h : length m ≤ c). absurd (true≢false (rw (List·getD-eq-default m 0 h) at e))) (below-or c (length m))
 
 pub bad-cut-spec : {M : Type 1} → statement M
+unfolding badCut badCutFrom
 bad-cut-spec =
     tie.close
     (tie.spec
     Inv-loop
     μ-loop
-    loop-holds
-    (λ c. search needs)
-    (λ c. search needs)
-    (λ c κs. search needs)
-    returns
-    add-least
-    (λ c. search needs)
-    (λ c. search needs)
-    loop-again
-    returns-2)
+    (λ c. refl)
+    (λ c. search needs) (λ c. search needs) (λ c κs. search needs)
+    (λ c. let n = c .before .before .before in rw (drop-cons {A = ℕ} _ _ 0 (n .loop-test .taken), sym (c .before .is-bad .ensures) ∙ c .if1 .taken) at (n .before .loop .inv))
+    (λ c. omega (arith, within _ _ _ (sym (c .before .is-bad .ensures) ∙ c .if1 .left)))
+    (λ c. search needs) (λ c. search needs)
+    (λ c. let n = c .before .before .before in simp add-one (rw (drop-cons {A = ℕ} _ _ 0 (n .loop-test .taken), sym (c .before .is-bad .ensures) ∙ c .if1 .left) at (n .before .loop .inv)))
+    (λ c. rw (drop-of-length-le _ (c .loop-test .left)) at (c .before .loop .inv)))

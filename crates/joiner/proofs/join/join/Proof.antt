@@ -1,61 +1,42 @@
 -- The refusals come in the definition's order, and else the second tape is written, which is as long as the message's.
-use Rattle.laws.proofs.Kit.{_≡_, sym, _∙_, length-take-le, needs}
+use Rattle.laws.proofs.Kit.{_≡_, sym, _∙_, arith, length-take-le, needs}
 use Rattle.spec.specs.{Refusals.checkOf, Answers.afterCheck, declared.Checked.the-variants.Accepted}
 use Rattle.joiner.proofs.Answering.{join-refused, join-cut, join-short, tape-due, join-written}
 use Rattle.joiner.proofs.join.join.Statement.{statement}
 use Rattle.joiner.proofs.join.join.Tie as tie
 
-returns : tie.Need-returns
-unfolding afterCheck
-returns c =
-    let e = c .before .enum-told .given .1 in
-    rw (c .refused .ensures, e) (join-refused _ _ _ (sym (c .before .before .before .check .ensures .answer) ∙ e))
-
 -- the check accepted
 accepted : (c : tie.After-bad-cut) → checkOf (c .before .before .before .before .before .before .before .before .args .m .now) ≡ Accepted (c .before .before .checked .given .0 .0)
 accepted c = let d = c .before .before in sym (d .before .before .check .ensures .answer) ∙ d .checked .given .1
-
-returns-2 : tie.Need-returns-2
-returns-2 c =
-    let b = c .before in
-    join-cut _ _ _ (accepted b) (b .bad-cut .result) (b .bad-cut .ensures) (c .if1 .taken)
-
-returns-3 : tie.Need-returns-3
-returns-3 c = let b = c .before .before in join-short _ _ _ (accepted b) (sym (b .bad-cut .ensures) ∙ c .before .if1 .left) (c .if2 .taken)
-
-slice-aggregate-write-joined : tie.Need-slice-aggregate-write-joined
-slice-aggregate-write-joined c = sym (length-take-le _ _ (c .before .before .before .if2 .left))
 
 write-joined-requires : tie.Need-write-joined-requires
 write-joined-requires c κs =
     let a = c .before .before .before in
     let f = a .before .before in
-    let b = f .before .before in
-    (a .before .class-table .ensures, a .sound-table .ensures, tape-due _ _ _ (accepted b) (sym (b .bad-cut .ensures) ∙ f .before .if1 .left) (f .if2 .left))
+    let b = f .before .before in (
+      record { byte = a .before .class-table .ensures; sound = a .sound-table .ensures },
+      tape-due _ _ _ (accepted b) (b .bad-cut .ensures) (f .before .if1 .left) (f .if2 .left) (λ j. omega (arith, b .before .before .before .before .before .before .before .shared-slice-known .given j)),
+    )
 
 returns-4 : tie.Need-returns-4
 returns-4 c =
     let w = c .before .before in
     let f = w .before .before .before .before .before .before in
     let b = f .before .before in
-    join-written _ _ _ (accepted b) (sym (b .bad-cut .ensures) ∙ f .before .if1 .left) (w .write-joined .last .1 .1 .0) _ (f .if2 .left) (w .write-joined .ensures)
+    join-written _ _ _ (accepted b) (b .bad-cut .ensures) (f .before .if1 .left) (f .if2 .left) (w .write-joined .last .1 .1 .0) _ (w .write-joined .ensures)
 
 pub join-spec : {M : Type 1} → statement M
+unfolding afterCheck
 join-spec =
     tie.close
     (tie.spec
+    (λ c κs. search needs) (λ c. search needs) (λ c. search needs) (λ c κs. search needs)
+    (λ c. let e = c .before .enum-told .given .1 in rw (c .refused .ensures, e) (join-refused _ _ _ (sym (c .before .before .before .check .ensures .answer) ∙ e)))
     (λ c κs. search needs)
-    (λ c. search needs)
-    (λ c. search needs)
-    (λ c κs. search needs)
-    returns
-    (λ c κs. search needs)
-    returns-2
-    returns-3
-    (λ c κs. search needs)
-    (λ c κs. search needs)
-    (λ c. search needs)
-    slice-aggregate-write-joined
+    (λ c. let b = c .before in join-cut _ _ _ (accepted b) (b .bad-cut .ensures) (c .if1 .taken))
+    (λ c. let b = c .before .before in join-short _ _ _ (accepted b) (b .bad-cut .ensures) (c .before .if1 .left) (c .if2 .taken))
+    (λ c κs. search needs) (λ c κs. search needs) (λ c. search needs)
+    (λ c. sym (length-take-le _ _ (c .before .before .before .if2 .left)))
     write-joined-requires
     (λ c. search needs)
     returns-4)

@@ -1,11 +1,8 @@
 -- The whole tape is written, then the parts from the last one on, and with the first one the second tape stands.
-use Rattle.laws.proofs.Kit.{suc, _-_, _≡_, sym, ap, _∙_, arith, length, length-take-le}
-use Rattle.message.specs.Places.{Steady}
-use Rattle.message.proofs.Steadiness.{accepted-steady}
-use Rattle.spec.specs.Joints.{Rising}
-use Rattle.laws.proofs.{Cuts.rising-of, Cutting.equal-lengths}
+use Rattle.laws.proofs.Kit.{suc, _-_, _≡_, sym, ap, _∙_, arith, length, length-take-le, needs}
+use Rattle.laws.proofs.Cutting.{equal-lengths}
 use Rattle.joiner.specs.Writing.{Laid}
-use Rattle.joiner.proofs.Laying.{laid-none, first-part, first-within, laid-all}
+use Rattle.joiner.proofs.Laying.{next, laid-none, first-part, laid-all}
 use Rattle.joiner.proofs.join.write_joined.Statement.{statement}
 use Rattle.joiner.proofs.join.write_joined.Tie as tie
 
@@ -14,23 +11,6 @@ Inv-loop m cuts out₀ t s n p₀ k₀ out p k = Laid m cuts k out p
 
 abbrev μ-loop : tie.MeasureT-loop
 μ-loop m cuts out₀ t s n p₀ k₀ out p k = k
-
--- the message is steady
-steady : (c : tie.After-shared-slice-known Inv-loop μ-loop) → Steady (c .before .args .m .now)
-steady c = accepted-steady (c .before .args .m .now) _ (c .before .pre .2 .accepted) (λ j. omega (arith, c .shared-slice-known .given j))
-
--- the cuts rise
-rises : (s : tie.Start Inv-loop μ-loop) → Rising (s .args .m .now) (s .args .cuts .now)
-rises s = rising-of (s .args .m .now) (s .args .cuts .now) (s .pre .2 .rising)
-
--- the invariant in the loop, before the cut that is stepped to
-inside : (c : tie.In-loop Inv-loop μ-loop)
-    → let l = c .before in
-    let s = l .before .before .before .before .before .before .before .before in
-    Laid (s .args .m .now) (s .args .cuts .now) (suc (l .loop .k - 1)) (l .loop .out) (l .loop .p)
-inside c =
-    let e : suc (c .before .loop .k - 1) ≡ c .before .loop .k = omega (arith, c .loop-test .taken) in
-    rw e (c .before .loop .inv)
 
 -- the invariant after the loop
 final : (c : tie.After-loop Inv-loop μ-loop)
@@ -41,44 +21,11 @@ final c =
     let e : c .before .loop .k ≡ 0 = omega (arith, c .loop-test .left) in
     rw e at (c .before .loop .inv)
 
-write-tape-requires : tie.Need-write-tape-requires Inv-loop μ-loop
-write-tape-requires c κs = let k = c .before .before .before in
-    (k .before .pre .0, k .before .pre .1, steady k, omega (arith, k .before .pre .2 .fits), omega arith)
-
-loop-holds : tie.Need-loop-holds Inv-loop μ-loop
-loop-holds c = laid-none _ _ _ _ _ (c .before .before .before .before .before .before .before .pre .2 .fits) (c .before .before .write-tape .ensures)
-
-lay-part-requires : tie.Need-lay-part-requires Inv-loop μ-loop
-lay-part-requires c κs =
-    let i = c .before in
-    let k = i .before .before .before .before .before .before .before .before in
-    let d = k .before .pre in
-    (d .0, d .1, record { counts = d .2 .counts; accepted = d .2 .accepted; rising = d .2 .rising; steady = steady k; laid = inside i })
-
-loop-again : tie.Need-loop-again Inv-loop μ-loop
-loop-again c = c .before .before .lay-part .ensures
-
-slice-aggregate-write-part : tie.Need-slice-aggregate-write-part Inv-loop μ-loop
-slice-aggregate-write-part c = let a = c .before in
-    let s = a .before .before .before .before .before .before .before .before .before in
-    sym (length-take-le (a .before .loop .p .e) (s .args .m .now) (first-within (rises s) (final a)))
-
-write-part-requires : tie.Need-write-part-requires Inv-loop μ-loop
-write-part-requires c κs = let a = c .before .before in
-    let k = a .before .before .before .before .before .before .before .before in
-    let d = k .before .pre in
-    (d .0, d .1, first-part (rises (k .before)) (final a) (d .2 .accepted) (steady k))
-
 returns : tie.Need-returns Inv-loop μ-loop
 returns c =
     let w = c .before .before in
     let a = w .before .before .before in
-    (laid-all (rises (a .before .before .before .before .before .before .before .before .before)) (final a) (w .write-part .ensures), final a .counted)
-
-same-length : tie.Need-same-length Inv-loop μ-loop
-same-length c =
-    let s = c .before .before .before .before .before .before .before .before .before .before .before .before .before .before in
-    ap length (returns c .0) ∙ equal-lengths (s .args .m .now) (s .args .cuts .now) (rises s) ∙ sym (s .pre .2 .fits)
+    (laid-all (final a) (w .write-part .ensures), final a .counted)
 
 pub write-joined-spec : {M : Type 1} → statement M
 write-joined-spec =
@@ -86,13 +33,16 @@ write-joined-spec =
     (tie.spec
     Inv-loop
     μ-loop
-    write-tape-requires
-    loop-holds
+    (λ c κs. search needs)
+    (λ c. laid-none (c .before .before .before .before .before .before .before .pre .1) (c .before .before .write-tape .ensures))
     (λ c. omega arith)
-    lay-part-requires
+    (λ c κs. let i = c .before in let l = i .before in
+    let e : suc (l .loop .k - 1) ≡ l .loop .k = omega (arith, i .loop-test .taken) in
+    (l .before .before .before .before .before .before .before .before .pre .0, rw e (l .loop .inv)))
     (λ c. omega arith)
-    loop-again
-    slice-aggregate-write-part
-    write-part-requires
-    same-length
+    (λ c. c .before .before .lay-part .ensures)
+    (λ c. sym (length-take-le _ _ (next (final (c .before)) .within)))
+    (λ c κs. let a = c .before .before in (a .before .before .before .before .before .before .before .before .before .pre .0, first-part (final a)))
+    (λ c. let d = c .before .before .before .before .before .before .before .before .before .before .before .before .before .before .pre .1 in
+    ap length (returns c .0) ∙ equal-lengths _ _ (d .rising) ∙ sym (d .fits))
     returns)

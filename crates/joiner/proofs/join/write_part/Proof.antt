@@ -11,8 +11,5 @@ returns c =
     let e : s .args .end - length (tape (s .args .p .now)) ≡ w .write-tape .result = omega (arith, w .write-tape .ensures .place) in
     rw e (w .write-tape .ensures)
 
-returns-2 : tie.Need-returns-2
-returns-2 c = c .before .before .before .pre .2 .stands (c .if1 .left)
-
 pub write-part-spec : {M : Type 1} → statement M
-write-part-spec = tie.close (tie.spec (λ c κs. search needs) (λ c. search needs) returns returns-2)
+write-part-spec = tie.close (tie.spec (λ c κs. search needs) (λ c. search needs) returns (λ c. c .before .before .before .pre .1 .stands (c .if1 .left)))
