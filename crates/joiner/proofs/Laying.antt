@@ -6,7 +6,7 @@ use Rattle.message.proofs.Steadiness.{accepted-steady}
 use Rattle.transcriber.specs.Walk.{Put}
 use Rattle.transcriber.proofs.Putting.{put-first}
 use Rattle.laws.proofs.{Accepted.countsOf, Accepted.accepted-passes, Classes.below-or, Cuts.rising-length, Cuts.break-within, Parts.part, Parts.Begins, Parts.changedAfter, Parts.or-false, Parts.live-here, Parts.mark-there, Parts.part-first, Parts.first-own, PartsAccepted.part-accepted, Bounds.live-bound, Heard.tape-heard, Marks.mark-first, Marks.mark-next, Marks.mark-last, MarkIndex.Ends, MarkIndex.Placed, MarkIndex.stretch, MarkIndex.end-own, MarkIndex.placed, MarkIndex.own-length, MarkIndex.own-codes}
-use Rattle.joiner.specs.{Writing.Valid, Writing.TapeDue, Writing.PartDue, Writing.Whole, Writing.Reach, Writing.Beside, Writing.Changing, Writing.endOf, Writing.restOf, Writing.Laid, declared.Changes.Changes, declared.Progress.Progress}
+use Rattle.joiner.specs.{Writing.Valid, Writing.TapeDue, Writing.PutBefore, Writing.PartDue, Writing.Whole, Writing.Reach, Writing.Beside, Writing.Changing, Writing.endOf, Writing.restOf, Writing.Laid, declared.Changes.Changes, declared.Progress.Progress}
 use Rattle.joiner.proofs.Looking.{whole-less}
 use mir.Val.{boolByte}
 
@@ -15,6 +15,10 @@ joined-part : (m : List ℕ) (a : ℕ) (cuts : List ℕ) → joinedFrom m a cuts
 unfolding joinedFrom
 joined-part m a [] = rw (append-nil (tape (part m a (length m))), take-all (length m - a) (drop a m) (omega (arith, length-drop a m)))
 joined-part m a (c ∷ cuts) = refl
+
+-- where codes were put before a place they begin
+pub put-before : {codes out out′ : List ℕ} {at r : ℕ} → Put codes out out′ at r → PutBefore codes out out′ at
+put-before {codes} {out} {out′} {at} {r} p = let e : at - length codes ≡ r = omega (arith, p .place) in rw e p
 
 -- a byte of a test adds one where it holds
 count-byte : (t : Bool) (n : ℕ) → n + boolByte t ≡ cond t (suc n) n
@@ -115,7 +119,7 @@ module _ {m cuts out : List ℕ} {k : ℕ} {q : Progress} (l : Laid m cuts k out
   }
 
   -- and with it the second tape stands from its place on
-  next-laid : {out′ : List ℕ} → Put (own next) out out′ (q .at) (q .at - length (own next)) → out′ ≡ take (markIndex m a) (tape m) ++ joinedFrom m a (drop k cuts)
+  next-laid : {out′ : List ℕ} → PutBefore (own next) out out′ (q .at) → out′ ≡ take (markIndex m a) (tape m) ++ joinedFrom m a (drop k cuts)
   next-laid p = p .bytes ∙ rw (kept, past, joined-part m a (drop k cuts), ← l .ends)
 
   -- there are no more live cuts than bytes
@@ -136,6 +140,10 @@ laid-none {m} {cuts} {out} d p = record {
   counted = rw (drop-length cuts);
   last = sym (end-own m);
 }
+
+-- the last one of the cuts that are left
+pub laid-on : {m cuts out : List ℕ} {k : ℕ} {q : Progress} → Laid m cuts k out q → 0 < k → Laid m cuts (suc (k - 1)) out q
+laid-on {m} {cuts} {out} {k} l h = let e : suc (k - 1) ≡ k = omega arith in rw e l
 
 -- One cut more.
 module _ {m cuts out : List ℕ} {k : ℕ} {q : Progress} (l : Laid m cuts (suc k) out q) where
@@ -170,7 +178,7 @@ module _ {m cuts out : List ℕ} {k : ℕ} {q : Progress} (l : Laid m cuts (suc 
       cut-part = rw (add-one c) (next-due l (q .changed || v .after) (λ u. let o = or-false (q .changed) (v .after) u in (o .0, sym (h .after) ∙ o .1)))
 
       -- and then it is passed
-      pub cut-laid : {out′ : List ℕ} → let p = part m (c + 1) (q .e) in Put (tape p) out out′ (q .at) (q .at - length (tape p))
+      pub cut-laid : {out′ : List ℕ} → PutBefore (tape (part m (c + 1) (q .e))) out out′ (q .at)
           → Laid m cuts k out′ (record { e = c; at = n; live = q .live + boolByte (v .before || v .after); changed = v .before })
       unfolding leastAt liveCount
       cut-laid p =
@@ -188,14 +196,17 @@ module _ {m cuts out : List ℕ} {k : ℕ} {q : Progress} (l : Laid m cuts (suc 
             last = h .before;
           }
 
--- The first part.
-module _ {m cuts out : List ℕ} {q : Progress} (l : Laid m cuts 0 out q) where
+-- The first part: no cut is left.
+module _ {m cuts out : List ℕ} {k : ℕ} {q : Progress} (l : Laid m cuts k out q) (none : k ≤ 0) where
+  at-start : Laid m cuts 0 out q
+  at-start = let e : k ≡ 0 = omega arith in rw e at l
+
   -- it may be written
   pub first-part : PartDue (take (q .e) m) out (q .at) (q .changed)
   unfolding leastAt
-  first-part = rw (← part-first m (q .e)) (next-due l (q .changed) (λ u. (u, first-own m)))
+  first-part = rw (← part-first m (q .e)) (next-due at-start (q .changed) (λ u. (u, first-own m)))
 
   -- and with it all are laid
-  pub laid-all : {out′ : List ℕ} → Put (tape (take (q .e) m)) out out′ (q .at) (q .at - length (tape (take (q .e) m))) → out′ ≡ joined m cuts
+  pub laid-all : {out′ : List ℕ} → PutBefore (tape (take (q .e) m)) out out′ (q .at) → (out′ ≡ joined m cuts) × (q .live ≡ liveCount m cuts)
   unfolding leastAt joined
-  laid-all p = next-laid l (rw (← part-first m (q .e)) at p) ∙ rw (mark-first m)
+  laid-all p = (next-laid at-start (rw (← part-first m (q .e)) at p) ∙ rw (mark-first m), at-start .counted)

@@ -44,11 +44,11 @@ module _ {m t : List ℕ} {c i n : ℕ} (r : Reach m t c i n) where
   pub reach-there : i ≤ c → n ≡ markIndex m c
   reach-there h = let e : i ≡ c = omega (arith, r .order) in r .place ∙ rw e
 
-  module _ (h : c < i) where
-    -- what is told of a byte before place i
-    same : (j : ℕ) → j < i → isBreak (getD m j 0) ≡ outside 0x2A 0xFF (getD m j 0)
-    same j w = sym (break-outside m (r .whole .valid .steady) j (omega (arith, r .within)))
+  -- what is told of a byte before place i
+  same : (j : ℕ) → j < i → isBreak (getD m j 0) ≡ outside 0x2A 0xFF (getD m j 0)
+  same j w = sym (break-outside m (r .whole .valid .steady) j (omega (arith, r .within)))
 
+  module _ (h : c < i) where
     -- the break at place c stands before place i
     pub reach-break : Looks (outside 0x2A 0xFF) m i i
     reach-break = looks-for c (r .within) h (sym (same c h) ∙ r .break)

@@ -31,12 +31,16 @@ pub record TapeDue (m cuts : List ℕ) (size : ℕ) : Type 0 where
   pub rising : Rising m cuts
   pub fits : size ≡ length (tape m)
 
+-- these codes were put right before index at of the output
+abbrev pub PutBefore : List ℕ → List ℕ → List ℕ → ℕ → Type 0
+PutBefore codes out out′ at = Put codes out out′ at (at - length codes)
+
 -- the part p may be written right before index at of the output, and where no cut changes it its tape stands there
 pub record PartDue (p out : List ℕ) (at : ℕ) (changed : Bool) : Type 0 where
   pub steady : Steady p
   pub room : length (tape p) ≤ at
   pub place : at ≤ length out
-  pub stands : changed ≡ false → Put (tape p) out out at (at - length (tape p))
+  pub stands : changed ≡ false → PutBefore (tape p) out out at
 
 -- a byte that is none of low to high
 abbrev pub outside : ℕ → ℕ → ℕ → Bool

@@ -1,14 +1,14 @@
 // The joiner: the whole message's tape, and over it the tapes of the parts that a cut changes.
 ghost use mathlib.Core.Path.{_≡_};
-ghost use Prim.Native.Nat.{suc, _-_};
+ghost use Prim.Native.Nat.{suc};
 ghost use lib.ListN.{length};
 ghost use Rattle.spec.specs.Letters.{between, isBreak};
 ghost use Rattle.spec.specs.Tape.{tape};
 ghost use Rattle.spec.specs.Joints.{badCut, row12, joined, liveCount, markIndex};
 ghost use Rattle.spec.specs.Answers.{JoinPromise};
-ghost use Rattle.transcriber.specs.Walk.{Lent, Put};
+ghost use Rattle.transcriber.specs.Walk.{Lent};
 ghost use Rattle.laws.proofs.MarkIndex.{Last};
-ghost use Rattle.joiner.specs.Writing.{TapeDue, PartDue, outside, Looks, Reach, Laid};
+ghost use Rattle.joiner.specs.Writing.{TapeDue, PutBefore, PartDue, outside, Looks, Reach, Laid};
 use crate::Progress;
 use crate::joints::changes_at;
 use message::alphabet;
@@ -102,7 +102,7 @@ fn mark_of(m: &[u8], t: &[u8], c: usize, e: usize, end: usize) -> usize
 // Of a part the whole message's codes stand right before place end of the output; where a cut changes them the part's own tape is written over them.
 fn write_part(p: &[u8], changed: bool, out: &mut [u8], end: usize, t: &ClassTable, s: &SoundTable)
     requires { ⌜ Lent (now t) (now s) × PartDue (now p) (now out) end changed ⌝ }
-    ensures { λ _. ⌜ Put (tape (now (p .entry))) (now (out .entry)) (now (out .exit)) end (end - length (tape (now (p .entry)))) ⌝ }
+    ensures { λ _. ⌜ PutBefore (tape (now (p .entry))) (now (out .entry)) (now (out .exit)) end ⌝ }
 {
     if changed {
         write_tape(p, out, end, t, s);

@@ -11,10 +11,9 @@ accepted c = let d = c .before .before in sym (d .before .before .check .ensures
 
 write-joined-requires : tie.Need-write-joined-requires
 write-joined-requires c κs =
-    let a = c .before .before .before in
-    let f = a .before .before in
+    let f = c .before .before .before .before .before in
     let b = f .before .before in (
-      record { byte = a .before .class-table .ensures; sound = a .sound-table .ensures },
+      search needs,
       tape-due _ _ _ (accepted b) (b .bad-cut .ensures) (f .before .if1 .left) (f .if2 .left) (λ j. omega (arith, b .before .before .before .before .before .before .before .shared-slice-known .given j)),
     )
 
