@@ -1,47 +1,40 @@
--- What is answered in each case: the check's refusal, then number 12, then 11, and else the tape and then the output's own bytes.
+-- What is answered where the check does not refuse: number 12, then 11, and else the tape and then the output's own bytes.
 use Rattle.laws.proofs.Kit.{ℕ, _<_, _≤_, _≡_, refl, sym, _∙_, List, _++_, arith, eq-eqb, ne-eqb, le-leb, lt-leb, length, take, drop, getD, length-take-le}
-use Rattle.spec.specs.{Refusals.refusal, Refusals.checkOf, Joints.Rising, Joints.joined, Joints.liveCount, Joints.badCut, Answers.within, Answers.afterCheck, Answers.outputAfter, Answers.joinAnswer, Answers.JoinPromise, declared.Counts.Counts, declared.Refusal.Refusal, declared.Answer.the-variants.Written, declared.Answer.the-variants.Refused}
+use Rattle.spec.specs.{Refusals.refusal, Refusals.checkOf, Joints.Rising, Joints.joined, Joints.liveCount, Joints.badCut, Answers.within, Answers.afterCheck, Answers.outputAfter, Answers.joinAnswer, Answers.JoinPromise, declared.Counts.Counts, declared.Checked.the-variants.Accepted, declared.Answer.the-variants.Written, declared.Answer.the-variants.Refused}
 use Rattle.message.proofs.Steadiness.{accepted-steady}
 use Rattle.laws.proofs.{Accepted.accepted-counts, Cuts.rising-of, Cutting.equal-lengths, Promises.promised}
 use Rattle.joiner.specs.Writing.{TapeDue}
-use Rattle.spec.specs.declared.Checked.the-variants as checked
 
-module _ (m cuts out : List ℕ) where
-  -- the check refuses
-  pub join-refused : {f : Refusal} → checkOf m ≡ checked.Refused f → JoinPromise m cuts out out (Refused f)
+module _ (m cuts out : List ℕ) {counts : Counts} (accepted : checkOf m ≡ Accepted counts) {n : ℕ} (e : n ≡ badCut m cuts) where
+  -- number 12
+  pub join-cut : (n ≡ length cuts → ⊥) → JoinPromise m cuts out out (Refused (refusal 12 n))
   unfolding joinAnswer afterCheck outputAfter
-  join-refused e = rw e (promised _ _ _ _ _ refl refl)
+  join-cut h = rw (accepted, ← e, ne-eqb n (length cuts) h) (promised _ _ _ _ _ refl refl)
 
-  module _ {counts : Counts} (accepted : checkOf m ≡ checked.Accepted counts) {n : ℕ} (e : n ≡ badCut m cuts) where
-    -- number 12
-    pub join-cut : (n ≡ length cuts → ⊥) → JoinPromise m cuts out out (Refused (refusal 12 n))
-    unfolding joinAnswer afterCheck outputAfter
-    join-cut h = rw (accepted, ← e, ne-eqb n (length cuts) h) (promised _ _ _ _ _ refl refl)
+  module _ (good : n ≡ length cuts) where
+    rising : Rising m cuts
+    rising = rising-of m cuts (sym e ∙ good)
 
-    module _ (good : n ≡ length cuts) where
-      rising : Rising m cuts
-      rising = rising-of m cuts (sym e ∙ good)
+    -- the check has counted the second tape's codes
+    size : counts .codes ≡ length (joined m cuts)
+    size = accepted-counts m counts accepted .0 ∙ sym (equal-lengths m cuts rising)
 
-      -- the check has counted the second tape's codes
-      size : counts .codes ≡ length (joined m cuts)
-      size = accepted-counts m counts accepted .0 ∙ sym (equal-lengths m cuts rising)
+    -- number 11
+    pub join-short : length out < counts .codes → JoinPromise m cuts out out (Refused (refusal 11 (counts .codes)))
+    unfolding joinAnswer afterCheck within outputAfter
+    join-short h = rw (accepted, ← e, eq-eqb _ _ good, size, lt-leb (length (joined m cuts)) (length out) (omega (arith, size))) (promised _ _ _ _ _ refl refl)
 
-      -- number 11
-      pub join-short : length out < counts .codes → JoinPromise m cuts out out (Refused (refusal 11 (counts .codes)))
+    module _ (room : counts .codes ≤ length out) where
+      -- the output's bytes that are written are as many as the tape's codes
+      pub tape-due : ((j : ℕ) → getD m j 0 < 256) → TapeDue m cuts (length (take (counts .codes) out))
+      tape-due bytes = record {
+        valid = record { counts = counts; accepted = accepted; steady = accepted-steady m counts accepted bytes };
+        rising = rising;
+        fits = length-take-le (counts .codes) out room ∙ accepted-counts m counts accepted .0;
+      }
+
+      -- with the second tape there the joiner has answered
+      pub join-written : (last : List ℕ) (live : ℕ) → (last ≡ joined m cuts) × (live ≡ liveCount m cuts) → JoinPromise m cuts out (last ++ drop (counts .codes) out) (Written (counts .codes) live)
       unfolding joinAnswer afterCheck within outputAfter
-      join-short h = rw (accepted, ← e, eq-eqb _ _ good, size, lt-leb (length (joined m cuts)) (length out) (omega (arith, size))) (promised _ _ _ _ _ refl refl)
-
-      module _ (room : counts .codes ≤ length out) where
-        -- the output's bytes that are written are as many as the tape's codes
-        pub tape-due : ((j : ℕ) → getD m j 0 < 256) → TapeDue m cuts (length (take (counts .codes) out))
-        tape-due bytes = record {
-          valid = record { counts = counts; accepted = accepted; steady = accepted-steady m counts accepted bytes };
-          rising = rising;
-          fits = length-take-le (counts .codes) out room ∙ accepted-counts m counts accepted .0;
-        }
-
-        -- with the second tape there the joiner has answered
-        pub join-written : (last : List ℕ) (live : ℕ) → (last ≡ joined m cuts) × (live ≡ liveCount m cuts) → JoinPromise m cuts out (last ++ drop (counts .codes) out) (Written (counts .codes) live)
-        unfolding joinAnswer afterCheck within outputAfter
-        join-written last live w =
-            rw (accepted, ← e, eq-eqb _ _ good, w .0, w .1, size, le-leb (length (joined m cuts)) (length out) (omega (arith, size))) (promised _ _ _ _ _ refl refl)
+      join-written last live w =
+          rw (accepted, ← e, eq-eqb _ _ good, w .0, w .1, size, le-leb (length (joined m cuts)) (length out) (omega (arith, size))) (promised _ _ _ _ _ refl refl)

@@ -1,11 +1,11 @@
 -- The second tape is laid from the right over the whole message's: a part's codes there are as many as its own, and they are its own where no cut changes the first or the last of them.
-use Rattle.laws.proofs.Kit.{ℕ, zero, suc, _+_, _-_, _<_, _≤_, _≡_, refl, sym, ap, _∙_, Bool, true, false, cond, _||_, inl, inr, ⊎-elim, List, [], _∷_, _++_, append-nil, append-assoc, arith, add-one, length, take, drop, getD, length-append, length-take, length-drop, List·getD-append, List·getD-eq-default, take-all, take-length, take-at, take-suc, take-take, take-append-le, drop-at, drop-length, drop-cons, append-snoc, getD-take, getD-drop, length-take-le}
+use Rattle.laws.proofs.Kit.{ℕ, zero, suc, _+_, _-_, _<_, _≤_, _≡_, refl, sym, ap, _∙_, Bool, true, false, cond, _||_, inl, inr, ⊎-elim, List, [], _∷_, _++_, append-nil, append-assoc, arith, add-one, length, take, drop, getD, length-append, length-take, length-drop, List·getD-append, List·getD-eq-default, take-all, take-length, take-at, take-suc, take-take, take-append-le, drop-at, drop-length, drop-cons, append-snoc, getD-take, length-take-le}
 use Rattle.spec.specs.{Tape.tape, Refusals.checkOf, Joints.RisingFrom, Joints.joinedFrom, Joints.joined, Joints.liveCount, Joints.markIndex, Joints.leastAt, declared.Checked.the-variants.Accepted}
 use Rattle.message.specs.Places.{Steady}
 use Rattle.message.proofs.Steadiness.{accepted-steady}
 use Rattle.transcriber.specs.Walk.{Put}
 use Rattle.transcriber.proofs.Putting.{put-first}
-use Rattle.laws.proofs.{Accepted.countsOf, Accepted.accepted-passes, Classes.below-or, Cuts.rising-length, Cuts.break-within, Parts.part, Parts.Begins, Parts.changedAfter, Parts.or-false, Parts.live-here, Parts.mark-there, Parts.part-first, Parts.first-own, PartsAccepted.part-accepted, Bounds.live-bound, Heard.tape-heard, Marks.mark-first, Marks.mark-next, Marks.mark-last, MarkIndex.Ends, MarkIndex.Placed, MarkIndex.stretch, MarkIndex.end-own, MarkIndex.placed, MarkIndex.own-length, MarkIndex.own-codes}
+use Rattle.laws.proofs.{Accepted.countsOf, Accepted.accepted-passes, Classes.below-or, Cuts.rising-length, Cuts.break-within, Parts.part, Parts.Begins, Parts.changedAfter, Parts.or-false, Parts.live-here, Parts.mark-there, Parts.part-first, Parts.first-own, PartsAccepted.part-at, PartsAccepted.part-accepted, Bounds.live-bound, Heard.tape-heard, Marks.mark-first, Marks.mark-next, Marks.mark-last, MarkIndex.Ends, MarkIndex.Placed, MarkIndex.stretch, MarkIndex.end-own, MarkIndex.placed, MarkIndex.own-length, MarkIndex.own-codes}
 use Rattle.joiner.specs.{Writing.Valid, Writing.TapeDue, Writing.PutBefore, Writing.PartDue, Writing.Whole, Writing.Reach, Writing.Beside, Writing.Changing, Writing.endOf, Writing.restOf, Writing.Laid, declared.Changes.Changes, declared.Progress.Progress}
 use Rattle.joiner.proofs.Looking.{whole-less}
 use mir.Val.{boolByte}
@@ -55,7 +55,7 @@ module _ {m : List ℕ} {a e : ℕ} (s : Piece m a e) where
   piece-size : markIndex m a + length own ≡ markIndex m e
   piece-size = omega (arith, here .size, own-length m a e (s .begins) (s .order) (s .ends))
 
-  -- they end there
+  -- and end within it
   piece-end : markIndex m e ≤ length (tape m)
   piece-end = omega (arith, here .start, here .size, simp length-append at (ap length (here .split)))
 
@@ -76,7 +76,7 @@ module _ {m : List ℕ} {a e : ℕ} (s : Piece m a e) where
   -- and is steady
   piece-steady : Steady (part m a e)
   piece-steady = accepted-steady (part m a e) (countsOf (part m a e)) passed (λ j. ⊎-elim
-      (λ (h : j < e - a). rw (getD-take (e - a) (drop a m) j 0 h, getD-drop a m j 0) (s .valid .steady .bytes (a + j)))
+      (λ (h : j < e - a). rw (part-at m a e j h) (s .valid .steady .bytes (a + j)))
       (λ (h : e - a ≤ j). rw (List·getD-eq-default (part m a e) 0 {n = j} (simp length-take (omega arith))) (omega arith)) (below-or j (e - a)))
 
 -- The part after the first k cuts is next.
@@ -87,10 +87,11 @@ module _ {m cuts out : List ℕ} {k : ℕ} {q : Progress} (l : Laid m cuts k out
   pub next : Piece m a (q .e)
   next = rw (l .ends) (piece-at (l .valid) 0 cuts k tt (omega arith) (l .rising) (l .within))
 
-  -- before it the whole tape stands in the output, and after it the second one
+  -- the whole tape has codes up to its end
   size : length (take (q .at) (tape m)) ≡ q .at
   size = length-take-le (q .at) (tape m) (omega (arith, l .place, piece-end next))
 
+  -- before it the whole tape stands in the output, and after it the second one
   kept : take (q .at - length (own next)) out ≡ take (markIndex m a) (tape m)
   kept =
       let e : q .at - length (own next) ≡ markIndex m a = omega (arith, l .place, piece-size next) in
@@ -100,6 +101,7 @@ module _ {m cuts out : List ℕ} {k : ℕ} {q : Progress} (l : Laid m cuts k out
   past : drop (q .at) out ≡ restOf m (drop k cuts)
   past = rw (l .bytes) (drop-at (take (q .at) (tape m)) (restOf m (drop k cuts)) (q .at) size)
 
+  -- up to its end the output's codes are the whole tape's
   next-whole : Whole m out (q .at)
   next-whole = record {
     valid = l .valid;

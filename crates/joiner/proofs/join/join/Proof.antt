@@ -1,7 +1,8 @@
 -- The refusals come in the definition's order, and else the second tape is written, which is as long as the message's.
 use Rattle.laws.proofs.Kit.{_≡_, sym, _∙_, arith, length-take-le, needs}
-use Rattle.spec.specs.{Refusals.checkOf, Answers.afterCheck, declared.Checked.the-variants.Accepted}
-use Rattle.joiner.proofs.Answering.{join-refused, join-cut, join-short, tape-due, join-written}
+use Rattle.spec.specs.{Refusals.checkOf, Answers.joinAnswer, declared.Checked.the-variants.Accepted}
+use Rattle.transcriber.proofs.Answering.{answered-refused}
+use Rattle.joiner.proofs.Answering.{join-cut, join-short, tape-due, join-written}
 use Rattle.joiner.proofs.join.join.Statement.{statement}
 use Rattle.joiner.proofs.join.join.Tie as tie
 
@@ -25,12 +26,12 @@ returns-4 c =
     join-written _ _ _ (accepted b) (b .bad-cut .ensures) (f .before .if1 .left) (f .if2 .left) (w .write-joined .last .1 .1 .0) _ (w .write-joined .ensures)
 
 pub join-spec : {M : Type 1} → statement M
-unfolding afterCheck
+unfolding joinAnswer
 join-spec =
     tie.close
     (tie.spec
     (λ c κs. search needs) (λ c. search needs) (λ c. search needs) (λ c κs. search needs)
-    (λ c. let e = c .before .enum-told .given .1 in rw (c .refused .ensures, e) (join-refused _ _ _ (sym (c .before .before .before .check .ensures .answer) ∙ e)))
+    (λ c. let k = c .before .before .before in rw (c .refused .ensures, k .check .ensures .answer) (answered-refused _ _ (sym (k .check .ensures .answer) ∙ c .before .enum-told .given .1)))
     (λ c κs. search needs)
     (λ c. let b = c .before in join-cut _ _ _ (accepted b) (b .bad-cut .ensures) (c .if1 .taken))
     (λ c. let b = c .before .before in join-short _ _ _ (accepted b) (b .bad-cut .ensures) (c .before .if1 .left) (c .if2 .taken))
