@@ -5,7 +5,7 @@ use Rattle.message.specs.Places.{Steady}
 use Rattle.message.proofs.Steadiness.{accepted-steady}
 use Rattle.transcriber.specs.Walk.{Put}
 use Rattle.transcriber.proofs.Putting.{put-first}
-use Rattle.laws.proofs.{Accepted.countsOf, Accepted.accepted-passes, Classes.below-or, Cuts.rising-length, Cuts.break-within, Parts.part, Parts.Begins, Parts.changedAfter, Parts.or-false, Parts.live-here, Parts.mark-there, Parts.part-first, Parts.first-own, PartsAccepted.part-at, PartsAccepted.part-accepted, Bounds.live-bound, Heard.tape-heard, Marks.mark-first, Marks.mark-next, Marks.mark-last, MarkIndex.Ends, MarkIndex.Placed, MarkIndex.stretch, MarkIndex.end-own, MarkIndex.placed, MarkIndex.own-length, MarkIndex.own-codes}
+use Rattle.laws.proofs.{Accepted.countsOf, Accepted.accepted-passes, Classes.below-or, Cuts.rising-length, Cuts.break-within, Cutting.equal-lengths, Parts.part, Parts.Begins, Parts.changedAfter, Parts.or-false, Parts.live-here, Parts.mark-there, Parts.part-first, Parts.first-own, PartsAccepted.part-at, PartsAccepted.part-accepted, Bounds.live-bound, Heard.tape-heard, Marks.mark-first, Marks.mark-next, Marks.mark-last, MarkIndex.Ends, MarkIndex.Placed, MarkIndex.stretch, MarkIndex.end-own, MarkIndex.placed, MarkIndex.own-length, MarkIndex.own-codes}
 use Rattle.joiner.specs.{Writing.Valid, Writing.TapeDue, Writing.PutBefore, Writing.PartDue, Writing.Whole, Writing.Reach, Writing.Beside, Writing.Changing, Writing.endOf, Writing.restOf, Writing.Laid, declared.Changes.Changes, declared.Progress.Progress}
 use Rattle.joiner.proofs.Looking.{whole-less}
 use mir.Val.{boolByte}
@@ -123,6 +123,10 @@ module _ {m cuts out : List ℕ} {k : ℕ} {q : Progress} (l : Laid m cuts k out
   -- and with it the second tape stands from its place on
   next-laid : {out′ : List ℕ} → PutBefore (own next) out out′ (q .at) → out′ ≡ take (markIndex m a) (tape m) ++ joinedFrom m a (drop k cuts)
   next-laid p = p .bytes ∙ rw (kept, past, joined-part m a (drop k cuts), ← l .ends)
+
+  -- which is as long as the whole one
+  pub laid-length : length (joined m cuts) ≡ length (tape m)
+  laid-length = equal-lengths m cuts (l .rising)
 
   -- there are no more live cuts than bytes
   pub laid-few : q .live ≤ 4096

@@ -24,9 +24,9 @@ bad-cut-spec =
     Inv-loop
     μ-loop
     (λ c. refl)
-    (λ c. search needs) (λ c. search needs) (λ c κs. search needs)
+    (search needs) (search needs) (search needs)
     (λ c. let n = c .before .before .before in rw (drop-cons {A = ℕ} _ _ 0 (n .loop-test .taken), sym (c .before .is-bad .ensures) ∙ c .if1 .taken) at (n .before .loop .inv))
     (λ c. omega (arith, within _ _ _ (sym (c .before .is-bad .ensures) ∙ c .if1 .left)))
-    (λ c. search needs) (λ c. search needs)
+    (search needs) (search needs)
     (λ c. let n = c .before .before .before in simp add-one (rw (drop-cons {A = ℕ} _ _ 0 (n .loop-test .taken), sym (c .before .is-bad .ensures) ∙ c .if1 .left) at (n .before .loop .inv)))
     (λ c. rw (drop-of-length-le _ (c .loop-test .left)) at (c .before .loop .inv)))

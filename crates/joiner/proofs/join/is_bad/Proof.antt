@@ -11,5 +11,5 @@ is-bad-spec =
     (tie.spec
     (λ c. rw (List·getD-eq-default (c .before .before .args .m .now) 0 (c .if1 .taken)))
     (λ c. rw (lt-leb _ _ (c .if2 .taken), or-true))
-    (λ c. search needs) (λ c κs. search needs)
+    (search needs) (search needs)
     (λ c. rw (c .is-break .ensures, le-leb _ _ (c .before .before .if2 .left), or-false)))

@@ -30,13 +30,13 @@ unfolding joinAnswer
 join-spec =
     tie.close
     (tie.spec
-    (λ c κs. search needs) (λ c. search needs) (λ c. search needs) (λ c κs. search needs)
+    (search needs) (search needs) (search needs) (search needs)
     (λ c. let k = c .before .before .before in rw (c .refused .ensures, k .check .ensures .answer) (answered-refused _ _ (sym (k .check .ensures .answer) ∙ c .before .enum-told .given .1)))
-    (λ c κs. search needs)
+    (search needs)
     (λ c. let b = c .before in join-cut _ _ _ (accepted b) (b .bad-cut .ensures) (c .if1 .taken))
     (λ c. let b = c .before .before in join-short _ _ _ (accepted b) (b .bad-cut .ensures) (c .before .if1 .left) (c .if2 .taken))
-    (λ c κs. search needs) (λ c κs. search needs) (λ c. search needs)
+    (search needs) (search needs) (search needs)
     (λ c. sym (length-take-le _ _ (c .before .before .before .if2 .left)))
     write-joined-requires
-    (λ c. search needs)
+    (search needs)
     returns-4)

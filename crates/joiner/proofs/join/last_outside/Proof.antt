@@ -11,7 +11,7 @@ Inv-loop x i low high j₀ j = Looks (outside low high) x i (suc j)
 abbrev μ-loop : tie.MeasureT-loop
 μ-loop x i low high j₀ j = j
 
--- the byte in hand is not outside
+-- a byte from low to high is passed over
 more : (c : tie.Then1 Inv-loop μ-loop) → let s = c .before .before .before .before .before .args in Looks (outside (s .low) (s .high)) (s .x .now) (s .i) (c .before .before .before .loop .j)
 more c = looks-more (c .before .before .before .loop .inv) (rw (sym (c .before .is-between .ensures) ∙ c .if1 .taken))
 
@@ -21,8 +21,8 @@ last-outside-spec =
     (tie.spec
     Inv-loop
     μ-loop
-    (λ c. omega (arith, c .before .pre .below))
+    (search needs)
     (λ c. looks-on (c .before .pre))
-    (λ c. search needs) (λ c κs. search needs)
+    (search needs) (search needs)
     (λ c. omega (arith, more c .below)) (λ c. omega (arith, more c .below)) (λ c. looks-on (more c))
     (λ c. let l = c .before .before .before .loop .inv in record { below = l .high; here = rw (sym (c .before .is-between .ensures) ∙ c .if1 .left); past = l .past }))

@@ -19,13 +19,13 @@ unfolding leastAt
 lay-part-spec =
     tie.close
     (tie.spec
-    (λ c. search needs) (λ c. search needs)
+    (search needs) (search needs)
     (λ c κs. cut-reach (c .before .before .before .before .before .pre .1))
     (λ c κs. cut-beside (c .before .before .before .before .before .before .before .pre .1) (c .before .mark-of .ensures))
     (λ c. let n = next (entry c .pre .1) in omega arith) (λ c. let n = next (entry c .pre .1) in omega arith)
     (λ c. let n = next (entry c .pre .1) in omega arith) (λ c. let n = next (entry c .pre .1) in omega arith)
     (λ c κs. let h = c .before .before in (search needs, cut-part (entry h .pre .1) (h .before .before .mark-of .ensures) (h .changes-at .ensures)))
-    (λ c. search needs)
+    (search needs)
     (λ c. omega (arith, laid-few (returns c)))
-    (λ c. search needs)
+    (search needs)
     returns)

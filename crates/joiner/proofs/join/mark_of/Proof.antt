@@ -20,6 +20,6 @@ mark-of-spec =
     (λ c. search needs)
     (λ c κs. reach-break (c .before .loop .inv) (c .loop-test .taken))
     (λ c κs. let l = c .before in reach-mark (l .before .loop .inv) (l .loop-test .taken) (c .last-outside .ensures))
-    (λ c. search needs)
+    (search needs)
     (λ c. let b = c .before in let l = b .before in reach-more (l .before .loop .inv) (l .loop-test .taken) (b .last-outside .ensures) (c .last-outside2 .ensures))
     (λ c. reach-there (c .before .loop .inv) (c .loop-test .left)))

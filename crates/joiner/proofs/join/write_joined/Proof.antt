@@ -1,8 +1,7 @@
 -- The whole tape is written, then the parts from the last one on, and with the first one the second tape stands.
-use Rattle.laws.proofs.Kit.{sym, ap, _∙_, length, length-take-le, needs}
-use Rattle.laws.proofs.Cutting.{equal-lengths}
+use Rattle.laws.proofs.Kit.{sym, ap, arith, length, length-take-le, needs}
 use Rattle.joiner.specs.Writing.{Laid}
-use Rattle.joiner.proofs.Laying.{next, laid-none, laid-on, first-part, laid-all}
+use Rattle.joiner.proofs.Laying.{next, laid-none, laid-on, laid-length, first-part, laid-all}
 use Rattle.joiner.proofs.join.write_joined.Statement.{statement}
 use Rattle.joiner.proofs.join.write_joined.Tie as tie
 
@@ -18,10 +17,6 @@ returns c =
     let a = w .before .before .before in
     laid-all (a .before .loop .inv) (a .loop-test .left) (w .write-part .ensures)
 
-same-length : tie.Need-same-length Inv-loop μ-loop
-same-length c = let d = c .before .before .before .before .before .before .before .before .before .before .before .before .before .before .pre .1 in
-    ap length (returns c .0) ∙ equal-lengths _ _ (d .rising) ∙ sym (d .fits)
-
 pub write-joined-spec : {M : Type 1} → statement M
 write-joined-spec =
     tie.close
@@ -30,10 +25,10 @@ write-joined-spec =
     μ-loop
     (λ c κs. search needs)
     (λ c. laid-none (c .before .before .before .before .before .before .before .pre .1) (c .before .before .write-tape .ensures))
-    (λ c. search needs)
+    (search needs)
     (λ c κs. let i = c .before in (search needs, laid-on (i .before .loop .inv) (i .loop-test .taken)))
-    (λ c. search needs) (λ c. search needs)
+    (search needs) (λ c. search needs)
     (λ c. sym (length-take-le _ _ (next (c .before .before .loop .inv) .within)))
     (λ c κs. let a = c .before .before in (search needs, first-part (a .before .loop .inv) (a .loop-test .left)))
-    same-length
+    (λ c. omega (arith, ap length (returns c .0), laid-length (c .before .before .before .before .before .before .loop .inv)))
     returns)

@@ -8,6 +8,6 @@ pub write-part-spec : {M : Type 1} → statement M
 write-part-spec =
     tie.close
     (tie.spec
-    (λ c κs. search needs) (λ c. search needs)
+    (λ c κs. search needs) (search needs)
     (λ c. put-before (c .before .before .write-tape .ensures))
     (λ c. c .before .before .before .pre .1 .stands (c .if1 .left)))

@@ -6,7 +6,7 @@ use Rattle.joiner.proofs.Sides.{voice-told, hardness-told}
 use Rattle.joiner.proofs.joints.changes_at.Statement.{statement}
 use Rattle.joiner.proofs.joints.changes_at.Tie as tie
 
--- (a) and (b)
+-- the code before the mark tells (a), and the one after it with the next letter (b)
 told : (c : tie.After-is-high) → let v = c .before .before in
     let s = v .before .before .before .before .args in
     (v .is-voiced .result ≡ changedBefore (s .m .now) (s .c)) × ((c .is-high .result && isIOrE (letterAt (s .m .now) (s .c + 1))) ≡ changedAfter (s .m .now) (suc (s .c)))
@@ -18,8 +18,6 @@ pub changes-at-spec : {M : Type 1} → statement M
 changes-at-spec =
     tie.close
     (tie.spec
-    (λ c. search needs) (λ c. search needs) (λ c κs. search needs)
-    (λ c. search needs) (λ c. search needs) (λ c κs. search needs)
-    (λ c. search needs) (λ c κs. search needs) (λ c κs. search needs)
+    (search needs) (search needs) (search needs) (search needs) (search needs) (search needs) (search needs) (search needs) (search needs)
     (λ c. let t = told (c .before .before .before) in record { before = t .0; after = c .is-i-or-e .ensures ∙ rw (c .before .letter-at .ensures) (rw (c .before .before .if1 .taken) at (t .1)) })
     (λ c. let t = told (c .before) in record { before = t .0; after = rw (c .if1 .left) at (t .1) }))
