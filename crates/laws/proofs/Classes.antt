@@ -23,10 +23,20 @@ pub yes-or : (t : Bool) → (t ≡ true) ⊎ (t ≡ false)
 yes-or true = inl refl
 yes-or false = inr refl
 
+-- so what follows from either follows
+pub either : {P : Type 0} (t : Bool) → (t ≡ true → P) → (t ≡ false → P) → P
+either true f g = f refl
+either false f g = g refl
+
 -- a test that cannot hold fails
 pub refuted : (t : Bool) → (t ≡ true → ⊥) → t ≡ false
 refuted true f = absurd (f refl)
 refuted false f = refl
+
+-- an or that fails fails twice
+pub or-false : (s t : Bool) → (s || t) ≡ false → (s ≡ false) × (t ≡ false)
+or-false true t e = absurd (true≢false e)
+or-false false t e = (refl, e)
 
 -- a number is below another or not
 pub below-or : (a b : ℕ) → (a < b) ⊎ (b ≤ a)

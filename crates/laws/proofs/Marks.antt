@@ -1,5 +1,5 @@
 -- How many codes stand before a place of a message: those that the bytes before it make, since neither bit from over a break changes their number.
-use Rattle.laws.proofs.Kit.{ℕ, zero, suc, _+_, _-_, _≡_, refl, sym, _∙_, Bool, true, false, _&&_, List, [], _∷_, _++_, append-assoc, arith, length, take, getD, length-append, take-suc, take-length}
+use Rattle.laws.proofs.Kit.{ℕ, zero, suc, _≡_, refl, sym, _∙_, Bool, true, false, _&&_, List, [], _∷_, _++_, append-assoc, arith, length, take, getD, length-append, take-suc, take-length}
 use Rattle.spec.specs.{Letters.read, Letters.isGap, Letters.isBreak, Codes.markOf, Voicing.voices, Tape.segment, Tape.tape, Joints.markIndex}
 use Rattle.spec.proofs.Computed.{everything}
 use Rattle.laws.proofs.{Cuts.break-within, Stretch.read-join, Stretch.segment-join, Stretch.segment-length, Parts.Begins, Parts.onward, Parts.voicedAt, Parts.onward-first, Parts.tape-cut, Parts.mark-index}

@@ -2,6 +2,7 @@
 use Rattle.laws.proofs.Kit.{ℕ, zero, suc, _+_, _-_, _<_, _≤_, _≡_, refl, sym, ap, _∙_, Bool, true, false, _&&_, _||_, and-comm, and-or-distrib-left, true≢false, inl, inr, ⊎-elim, _≢_, List, [], _∷_, _++_, append-assoc, append-nil, arith, length, take, drop, getD, length-append, take-append-drop, drop-cons, drop-drop, drop-append-add, take-add, getD-at}
 use Rattle.spec.specs.{Letters.Message, Letters.read, Letters.firstByte, Letters.firstWord, Letters.lastWord, Letters.isGap, Letters.isBreak, Codes.markOf, Voicing.voices, Vowels.endsHard, Palatalization.firstCode, Tape.segment, Tape.tape, Joints.RisingFrom, Joints.CutOf, Joints.joinedFrom, Joints.markIndex, Joints.marksOf, Joints.breakMarks, Joints.wordBefore, Joints.wordAfter, Joints.endsInObstruent, Joints.beginsWithIOrE, Joints.liveByVoice, Joints.liveByHardness, Joints.isLive, Joints.NoneLive}
 use Rattle.laws.proofs.{Word.isHigh, Word.isIOrE, Word.lastCodeFrom, Beside.isVoiced, Beside.mark-unvoiced, Beside.segment-ends, Beside.segment-starts, Codes.Spells, Codes.marks-mark, Codes.bytes-marks, Codes.marks-append, Codes.breaks-append, Cuts.break-within, Cuts.cut-above, Stretch.first-meet, Stretch.last-meet, Stretch.read-join, Stretch.segment-join, Stretch.segment-length, Stretch.segment-quiet, Stretch.segment-firm, Stretch.last-append}
+pub use Rattle.laws.proofs.Classes.{or-false}
 
 -- the bytes from place a up to place c
 abbrev pub part : List ℕ → ℕ → ℕ → List ℕ
@@ -57,11 +58,6 @@ unfolding firstCode
 after-mark [] x [] k e = refl
 after-mark [] x (c ∷ t) k e = rw (← e)
 after-mark (y ∷ s) x t k e = rw (← e) (after-mark s x t (length s) refl)
-
--- an or that fails fails twice
-pub or-false : (s t : Bool) → (s || t) ≡ false → (s ≡ false) × (t ≡ false)
-or-false true t e = absurd (true≢false e)
-or-false false t e = (refl, e)
 
 -- 'a gap, and this and that' is 'a gap and that, and this'
 and-swap : (g s t : Bool) → (g && (s && t)) ≡ (g && t && s)
