@@ -2,7 +2,7 @@
 use Rattle.laws.proofs.Kit.{ℕ, suc, _+_, _*_, _≤_, _≡_, refl, ap, Bool, true, false, _&&_, _||_, ⊎-elim, List, [], _∷_, _++_, arith, length, length-append}
 use Rattle.spec.specs.{Letters.Letter, Letters.Message, Letters.last, Letters.more, Letters.read, Letters.putLetter, Letters.beginsWithMark, Letters.small, Letters.isGap, Letters.isBreak, Letters.isMark, Letters.isSign, Letters.isVowel, Letters.isConsonant, Letters.plainVowels, Letters.softeningVowels, Elision.elides, Elision.elideFrom, Elision.elide, Syllables.Facts, Syllables.factsOf, Syllables.syllableOf, Syllables.incomplete, Syllables.namesFrom, Vowels.Phone, Vowels.glides, Vowels.vowelPhones, Vowels.phonesOf, Vowels.phonesFrom, Vowels.endsHard, Voicing.voices, Voicing.voice, Palatalization.palatalize, Tape.wordTape, Tape.segment, Tape.tape, Tape.wordNames, Tape.namesOf, Tape.names}
 use Rattle.spec.proofs.Computed.{everything}
-use Rattle.laws.proofs.Classes.{cond-both, yes-or, among-same}
+use Rattle.laws.proofs.{Classes.cond-both, Classes.either, Classes.among-same, Word.phones-cases, Word.sounds-length}
 
 -- the letters and breaks of a message
 abbrev pub sizeOf : Message → ℕ
@@ -37,28 +37,17 @@ elide-size p (l ∷ w) =
 
 -- a letter makes at most two sounds
 phones-one : (hard : Bool) (facts : Facts) (p : ℕ) (l : Letter) (w : List Letter) → length (phonesOf hard facts p l w) ≤ 2
-unfolding phonesOf vowelPhones
-phones-one hard facts p l w =
-    cond-both Few (isSign (l .byte)) (omega arith) (cond-both Few (isVowel (l .byte)) (cond-both Few (glides p (syllableOf facts p l w .cover) (l .byte)) (omega arith) (omega arith)) (omega arith))
-  where
-    Few : List Phone → Type 0
-    Few xs = length xs ≤ 2
+phones-one hard facts p l w = phones-cases (λ xs. length xs ≤ 2) hard facts p l w (λ _. omega arith) (λ _ _. (omega arith, omega arith)) (λ _ _. omega arith)
 
 phones-size : (hard : Bool) (facts : Facts) (p : ℕ) (w : List Letter) → length (phonesFrom hard facts p w) ≤ 2 * length w
 unfolding phonesFrom
 phones-size hard facts p [] = omega arith
 phones-size hard facts p (l ∷ w) = simp length-append (omega (arith, phones-one hard facts p l w, phones-size false facts (l .byte) w))
 
--- passes 4 and 5 keep their number
-sounds-size : (next : Bool) (xs : List Phone) → length (palatalize (voice next xs)) ≡ length xs
-unfolding palatalize voice
-sounds-size next [] = refl
-sounds-size next (x ∷ xs) = ap suc (sounds-size next xs)
-
 word-size : (hard next : Bool) (w : List Letter) → length (wordTape hard next w) ≤ 2 * length w
 unfolding wordTape elide
 word-size hard next w =
-    omega (arith, sounds-size next (phonesFrom hard (factsOf w) 0 (elideFrom 0 w)), phones-size hard (factsOf w) 0 (elideFrom 0 w), elide-size 0 w)
+    omega (arith, sounds-length next (phonesFrom hard (factsOf w) 0 (elideFrom 0 w)), phones-size hard (factsOf w) 0 (elideFrom 0 w), elide-size 0 w)
 
 segment-size : (hard next : Bool) (r : Message) → length (segment hard next r) ≤ 2 * sizeOf r
 unfolding segment
@@ -92,7 +81,7 @@ unfolding namesFrom
 names-from-size facts p [] = omega arith
 names-from-size facts p (l ∷ w) =
     let h = names-from-size facts (l .byte) w in
-    ⊎-elim (λ v. rw v (omega (arith, ap length (vowel-complete (l .byte) v)))) (λ v. rw v (omega (arith, incomplete-one (l .byte)))) (yes-or (isVowel (l .byte)))
+    either (isVowel (l .byte)) (λ v. rw v (omega (arith, ap length (vowel-complete (l .byte) v)))) (λ v. rw v (omega (arith, incomplete-one (l .byte))))
 
 word-names-size : (w : List Letter) → length (wordNames w) ≤ length w
 unfolding wordNames elide
