@@ -139,6 +139,26 @@ rest-first m i b r e =
     let s = sym (drop-cons m i 0 h) ∙ e in
     (h, cc s, cc s)
 
+-- no row fits at any of these bytes, behind those before them
+abbrev pub ClearFrom : List ℕ → List ℕ → Type 0
+ClearFrom before [] = Unit {0}
+ClearFrom before (b ∷ m) = Clear before b m × ClearFrom (b ∷ before) m
+
+module _ (m : List ℕ) where
+  -- so it is from a place on where no row fits at any
+  pub places-clear : ((i : ℕ) → i < length m → ClearAt m i) → (r : List ℕ) (a : ℕ) → drop a m ≡ r → ClearFrom (beforeAt m a) r
+  unfolding beforeAt
+  places-clear c [] a e = tt
+  places-clear c (b ∷ r) a e = let s = rest-first m a b r e in (rw (s .1, s .2) at (c a (s .0)), rw (s .1) at (places-clear c r (suc a) (s .2)))
+
+  -- and the other way round
+  pub clear-places : (r : List ℕ) (a : ℕ) → drop a m ≡ r → ClearFrom (beforeAt m a) r → (i : ℕ) → a ≤ i → i < length m → ClearAt m i
+  unfolding beforeAt
+  clear-places [] a e c i l h = absurd (omega (arith, length-drop a m, ap length e))
+  clear-places (b ∷ r) a e c i l h =
+      let s = rest-first m a b r e in
+      ⊎-elim (λ g. clear-places r (suc a) (s .2) (rw (s .1) (c .1)) i g h) (λ g. let q : i ≡ a = omega arith in rw (q, s .1, s .2) (c .0)) (below-or a i)
+
 -- In a message of 1 to 4,096 bytes only rows can fit.
 module _ (m : List ℕ) (z : 0 < length m) (s : length m ≤ 4096) where
   -- at a place of it

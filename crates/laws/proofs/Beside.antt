@@ -1,9 +1,9 @@
 -- What the codes at the two ends of a stretch tell of the bits that come from its neighbours: the last one is voiced just where the bit of what follows voices an obstruent, and at the
 -- start и and э sound Ы just behind a hard boundary. Why: only pass 4's last step looks at what follows, and only the first letter's row at what stands before.
-use Rattle.laws.proofs.Kit.{ℕ, suc, _≡_, refl, sym, _∙_, Bool, true, false, cond, not, _&&_, _||_, and-true, and-false, and-eq-true-iff, true≢false, List, [], _∷_, _++_, append-assoc, eqb}
-use Rattle.spec.specs.{Alphabet.pause, Letters.Letter, Letters.Message, Letters.last, Letters.more, Letters.between, Letters.firstByte, Letters.firstWord, Letters.lastWord, Letters.hardOnly, Letters.paired, Letters.softOnly, Letters.obstruents, Letters.isConsonant, Letters.isVowel, Letters.isObstruent, Codes.Б, Codes.З', Codes.J, Codes.Ц1, Codes.Ч1, Codes.markOf, Codes.isSound, Elision.elideFrom, Elision.elide, Syllables.Facts, Syllables.factsOf, Vowels.Phone, Vowels.vowelSound, Vowels.writtenCode, Vowels.phonesFrom, Voicing.voiced, Voicing.voiceless, Voicing.voicedCode, Voicing.voicelessCode, Voicing.toneOf, Voicing.toned, Voicing.voiceOne, Voicing.voice, Palatalization.isSoft, Palatalization.firstCode, Palatalization.palatalize, Tape.wordTape, Tape.segment, Joints.endsInObstruent, Joints.beginsWithIOrE, declared.Cover.Cover, declared.Level.Level, declared.Level.the-variants.Stressed, declared.Level.the-variants.First, declared.Level.the-variants.Second}
+use Rattle.laws.proofs.Kit.{ℕ, suc, _≡_, refl, sym, _∙_, Bool, true, false, cond, not, _&&_, and-true, and-false, and-eq-true-iff, true≢false, List, [], _∷_, _++_, append-assoc, eqb}
+use Rattle.spec.specs.{Alphabet.pause, Letters.Letter, Letters.Message, Letters.last, Letters.more, Letters.firstByte, Letters.firstWord, Letters.lastWord, Letters.obstruents, Letters.isObstruent, Codes.markOf, Codes.isSound, Vowels.Phone, Voicing.voiced, Voicing.voiceless, Voicing.voicedCode, Voicing.voicelessCode, Voicing.toneOf, Voicing.toned, Voicing.voiceOne, Voicing.voice, Palatalization.isSoft, Palatalization.firstCode, Palatalization.palatalize, Tape.wordTape, Tape.segment, Joints.endsInObstruent, Joints.beginsWithIOrE}
 use Rattle.spec.proofs.Computed.{everything}
-use Rattle.laws.proofs.{Codes.Spells, Codes.isVoiced, Codes.both, Codes.fine, Codes.Fine, Codes.word-fine, Codes.soft-both, Classes.cond-both, Classes.either, Classes.among-same, Classes.vowel-single, Classes.vowel-quiet, Word.lastCodeFrom, Word.endsToned, Word.word-toned, Word.word-starts, Stretch.last-append}
+use Rattle.laws.proofs.{Codes.Spells, Codes.isVoiced, Codes.both, Codes.fine, Codes.Fine, Codes.word-fine, Codes.soft-both, Classes.cond-both, Classes.either, Classes.among-same, Word.lastCodeFrom, Word.endsToned, Word.word-toned, Word.word-starts, Stretch.last-append}
 pub use Rattle.laws.proofs.{Word.isHigh, Word.isIOrE, Codes.isVoiced}
 
 -- a test has this answer

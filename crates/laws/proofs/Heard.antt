@@ -1,6 +1,6 @@
 -- An accepted message is heard: its first letter is no sign and is not elided, so it has a sound.
-use Rattle.laws.proofs.Kit.{ℕ, _<_, _≡_, sym, _∙_, Bool, true, false, and-true, true≢false, List, [], _∷_, _++_, arith, length, length-append}
-use Rattle.spec.specs.{Letters.Letter, Letters.Message, Letters.last, Letters.more, Letters.read, Letters.putLetter, Letters.isSign, Letters.isVowel, Elision.elideFrom, Elision.elide, Syllables.factsOf, Vowels.Phone, Vowels.glides, Vowels.vowelPhones, Vowels.phonesOf, Vowels.phonesFrom, Voicing.voice, Palatalization.palatalize, Tape.wordTape, Tape.segment, Tape.tape, Refusals.none, Refusals.first, Refusals.signByte, Refusals.row4, Refusals.row5, Refusals.row6, Refusals.rows, Refusals.fitsIn, Refusals.beforeAt}
+use Rattle.laws.proofs.Kit.{ℕ, _<_, _≡_, sym, _∙_, Bool, false, and-true, true≢false, List, [], _∷_, arith, length, length-append}
+use Rattle.spec.specs.{Letters.Letter, Letters.Message, Letters.last, Letters.more, Letters.read, Letters.putLetter, Letters.isSign, Elision.elideFrom, Elision.elide, Syllables.factsOf, Vowels.phonesFrom, Tape.wordTape, Tape.segment, Tape.tape, Refusals.none, Refusals.first, Refusals.signByte, Refusals.row4, Refusals.row5, Refusals.row6, Refusals.rows, Refusals.fitsIn, Refusals.beforeAt}
 use Rattle.laws.proofs.{Accepted.Passes, Word.first-kept, Word.phones-cases, Word.sounds-length}
 
 -- a word that begins with a letter that is no sign; its first letter is not elided

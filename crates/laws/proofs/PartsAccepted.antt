@@ -1,7 +1,7 @@
 -- A part of an accepted message, cut at its breaks, is accepted: every row looks back no further than the break before, and a break last in a part would stand before a break or last in the message.
-use Rattle.laws.proofs.Kit.{ℕ, zero, suc, _+_, _-_, _<_, _≤_, _≡_, refl, sym, _∙_, Bool, true, false, _||_, or-true, true≢false, List, [], _∷_, _++_, _⊎_, inl, inr, ⊎-elim, arith, length, take, drop, getD, length-take, length-drop, take-all, drop-length, getD-take, getD-drop}
+use Rattle.laws.proofs.Kit.{ℕ, zero, suc, _+_, _-_, _<_, _≤_, _≡_, refl, sym, _∙_, Bool, true, false, _||_, or-true, true≢false, List, [], _∷_, _++_, _⊎_, inl, inr, ⊎-elim, arith, length, take, drop, getD, length-take, length-drop, take-all, take-append-drop, drop-cons, drop-drop, drop-length, getD-take, getD-drop}
 use Rattle.spec.specs.{Letters.isBreak, Letters.isMark, Refusals.vowelByte, Refusals.signByte, Refusals.hardSignByte, Refusals.first, Refusals.none, Refusals.adjacent, Refusals.vowelSign, Refusals.lettersBefore, Refusals.row3, Refusals.row4, Refusals.row5, Refusals.row6, Refusals.row7, Refusals.row8, Refusals.row9, Refusals.row10, Refusals.rows, Refusals.fitsIn, Refusals.beforeAt, Refusals.checkOf, Refusals.NoneFits, Joints.RisingFrom, Joints.EachPartFrom, declared.Counts.Counts, declared.Checked.the-variants.Accepted}
-use Rattle.laws.proofs.{Accepted.countsOf, Accepted.Clear, Accepted.Passes, Accepted.accepted-passes, Accepted.passes-accepted, Accepted.passes-none, Classes.cond-app, Classes.yes-or, Classes.refuted, Classes.NoBreak, Classes.break-mark, Classes.break-vowel, Classes.break-sign, Classes.break-hard-sign, Cuts.break-within, Parts.part, Parts.Begins, Parts.or-false}
+use Rattle.laws.proofs.{Accepted.countsOf, Accepted.Clear, Accepted.Passes, Accepted.ClearFrom, Accepted.places-clear, Accepted.clear-places, Accepted.accepted-passes, Accepted.passes-accepted, Accepted.passes-none, Classes.cond-app, Classes.either, Classes.refuted, Classes.NoBreak, Classes.break-mark, Classes.break-vowel, Classes.break-sign, Classes.break-hard-sign, Cuts.break-within, Parts.part, Parts.Begins, Classes.or-false}
 
 -- the bytes before a part, nearest first: none, or a break is next
 abbrev pub Opens : List ℕ → Type 0
@@ -77,7 +77,7 @@ rows-over k x t b after o =
 -- Of the bytes after it a row asks only whether a break is last.
 pub rows-after : (k : ℕ) (x : List ℕ) (b : ℕ) (after after′ : List ℕ) → (isBreak b ≡ true → none after ≡ none after′) → fitsIn rows k x b after ≡ fitsIn rows k x b after′
 unfolding fitsIn rows row3 row4 row5 row6 row7 row8 row9 row10
-rows-after k x b after after′ n = ⊎-elim (λ d. rw (n d)) (λ d. rw d) (yes-or (isBreak b))
+rows-after k x b after after′ n = either (isBreak b) (λ d. rw (n d)) (λ d. rw d)
 
 -- a clear break is not last
 pub clear-followed : (x : List ℕ) (b : ℕ) (after : List ℕ) → Clear x b after → isBreak b ≡ true → none after ≡ false
@@ -89,6 +89,19 @@ clear-part : (x t : List ℕ) (b : ℕ) (after after′ : List ℕ) → Opens t 
 clear-part x t b after after′ o n c k =
     rows-after k x b after′ after (λ d. n d ∙ sym (clear-followed (x ++ t) b after c d)) ∙ sym (rows-over k x t b after o) ∙ c k
 
+-- a clear byte that is last, or before a break, is no break
+pub last-firm : (x : List ℕ) (b : ℕ) (y : List ℕ) → Opens y → ClearFrom x (b ∷ y) → isBreak b ≡ false
+unfolding fitsIn rows row4 none first
+last-firm x b [] o c = refuted _ (λ d. true≢false (rw (d, or-true) at (c .0 4)))
+last-firm x b (d ∷ y) o c = refuted _ (λ e. true≢false (rw (o, e, or-true) at (c .1 .0 4)))
+
+-- so clear bytes with breaks around a part of them are clear in the part alone
+part-clear : (x t p y : List ℕ) → Opens t → Opens y → ClearFrom (x ++ t) (p ++ y) → ClearFrom x p
+unfolding none
+part-clear x t [] y o q c = tt
+part-clear x t (b ∷ []) y o q c = (clear-part x t b y [] o (λ d. absurd (true≢false (sym d ∙ last-firm (x ++ t) b y q c))) (c .0), tt)
+part-clear x t (b ∷ d ∷ p) y o q c = (clear-part x t b _ (d ∷ p) o (λ _. refl) (c .0), part-clear (b ∷ x) t (d ∷ p) y o q (c .1))
+
 module _ (m : List ℕ) (a e : ℕ) where
   -- a part has its length
   pub part-length : e ≤ length m → length (part m a e) ≡ e - a
@@ -98,65 +111,45 @@ module _ (m : List ℕ) (a e : ℕ) where
   pub part-at : (i : ℕ) → i < e - a → getD (part m a e) i 0 ≡ getD m (a + i) 0
   part-at i k = rw (getD-take, getD-drop)
 
-  -- before a place in it stand the part's bytes, then those before the part
-  pub part-before : (i : ℕ) → i ≤ e - a → beforeAt m (a + i) ≡ beforeAt (part m a e) i ++ beforeAt m a
+module _ (m : List ℕ) (p : Passes m) where
+  -- what stands at the end of a part
+  ends-opens : (e : ℕ) → (isBreak (getD m e 0) ≡ true) ⊎ (e ≡ length m) → Opens (drop e m)
+  ends-opens e = ⊎-elim (λ k. rw (drop-cons m e 0 (break-within m e k)) k) (λ k. rw (k, drop-length) tt)
+
+  -- no part is empty
+  part-some : (a : ℕ) → Begins m a → Opens (drop a m) → ⊥
+  unfolding beforeAt fitsIn rows row4 none
+  part-some zero b o = let d : isBreak (getD m 0 0) ≡ true = rw (drop-cons m 0 0 (p .some)) at o in true≢false (rw d at (p .rows 0 (p .some) 4))
+  part-some (suc c) b o = true≢false (sym b ∙ last-firm (beforeAt m c) _ _ o (rw (drop-cons m c 0 (break-within m c b)) at (places-clear m (p .rows) _ c refl)))
+
+  -- nothing of the table fits a part
+  part-passes : (a e : ℕ) → Begins m a → a ≤ e → e ≤ length m → (isBreak (getD m e 0) ≡ true) ⊎ (e ≡ length m) → Passes (part m a e)
   unfolding beforeAt
-  part-before zero k = let z : a + 0 ≡ a = omega arith in rw z
-  part-before (suc i) k = let z : a + suc i ≡ suc (a + i) = omega arith in rw (z, part-at i k, part-before i (omega arith))
-
--- only an empty list has no first byte
-none-empty : (x : List ℕ) → none x ≡ true → length x ≡ 0
-unfolding none
-none-empty [] e = refl
-none-empty (b ∷ x) e = absurd (true≢false (sym e))
-
-module _ (m : List ℕ) (p : Passes m) (e : ℕ) (s : (isBreak (getD m e 0) ≡ true) ⊎ (e ≡ length m)) where
-  -- no break stands last in a part that ends at e
-  last-firm : (j : ℕ) → suc j ≡ e → isBreak (getD m j 0) ≡ true → ⊥
-  unfolding fitsIn rows row4 beforeAt none first
-  last-firm j q d =
-      ⊎-elim (λ k. true≢false (rw (k, ← q, d, or-true) at (p .rows e (break-within m e k) 4)))
-      (λ k. let r : suc j ≡ length m = q ∙ k in true≢false (rw (d, r, drop-length, or-true) at (p .rows j (break-within m j d) 4)))
-      s
-
-  -- and no part is empty
-  part-some : (a : ℕ) → Begins m a → a ≡ e → ⊥
-  unfolding fitsIn rows row4 beforeAt none
-  part-some zero b q = ⊎-elim (λ k. true≢false (rw (k, ← q) at (p .rows e (break-within m e k) 4))) (λ k. omega (arith, p .some)) s
-  part-some (suc c) b q = last-firm c q b
-
-  module _ (a : ℕ) (b : Begins m a) (h : a ≤ e) (l : e ≤ length m) where
-    -- so a byte stands after each break of a part
-    after-some : (i : ℕ) → i < e - a → isBreak (getD m (a + i) 0) ≡ true → none (drop (suc i) (part m a e)) ≡ false
-    after-some i k d = refuted _ (λ q. last-firm (a + i) (omega (arith, none-empty (drop (suc i) (part m a e)) q, length-drop (suc i) (part m a e), part-length m a e l)) d)
-
-    -- nothing of the table fits a part
-    part-passes : Passes (part m a e)
-    part-passes =
-        let n = part-length m a e l in
-        let w : a ≡ e → ⊥ = part-some a b in
-        record {
-          some = omega arith;
-          short = omega (arith, p .short);
-          rows = λ i k.
-              let j : i < e - a = omega arith in
-              rw (part-at m a e i j)
-              (clear-part (beforeAt (part m a e) i) (beforeAt m a) (getD m (a + i) 0) (drop (suc (a + i)) m) (drop (suc i) (part m a e)) (begins-opens m a b) (after-some i j)
-              (rw (part-before m a e i (omega arith)) at (p .rows (a + i) (omega arith))));
-        }
+  part-passes a e b h l s =
+      let o = ends-opens e s in
+      let n = part-length m a e l in
+      let w : a ≡ e → ⊥ = λ q. part-some a b (rw q o) in
+      let z : a + (e - a) ≡ e = omega arith in
+      let t : drop a m ≡ part m a e ++ drop e m = sym (take-append-drop (e - a) (drop a m)) ∙ rw (drop-drop, z) in
+      record {
+        some = omega arith;
+        short = omega (arith, p .short);
+        rows = λ i k. clear-places (part m a e) (part m a e) 0 refl
+            (part-clear [] (beforeAt m a) (part m a e) (drop e m) (begins-opens m a b) o (places-clear m (p .rows) _ a t)) i (omega arith) k;
+      }
 
 -- the bytes from a up to e, where a is the start or follows a break, and e is the end or the place of a break
 pub part-accepted : (m : List ℕ) (counts : Counts) (a e : ℕ) → checkOf m ≡ Accepted counts
     → Begins m a → a ≤ e → e ≤ length m → (isBreak (getD m e 0) ≡ true) ⊎ (e ≡ length m)
     → checkOf (take (e - a) (drop a m)) ≡ Accepted (countsOf (take (e - a) (drop a m)))
-part-accepted m counts a e c b h l s = passes-accepted (part m a e) (part-passes m (accepted-passes m counts c) e s a b h l)
+part-accepted m counts a e c b h l s = passes-accepted (part m a e) (part-passes m (accepted-passes m counts c) a e b h l s)
 
 -- Each part of an accepted message, cut at breaks, is accepted.
 module _ (m : List ℕ) (p : Passes m) where
   pub parts-none : (a : ℕ) (cuts : List ℕ) → Begins m a → a ≤ length m → RisingFrom m a cuts → EachPartFrom NoneFits m a cuts
   parts-none a [] b l r =
-      let e = part-passes m p (length m) (inr refl) a b l (omega arith) in
+      let e = part-passes m p a (length m) b l (omega arith) (inr refl) in
       passes-none (drop a m) (rw (take-all (length m - a) (drop a m) (omega (arith, length-drop a m))) at e)
   parts-none a (c ∷ cuts) b l r =
       let n = break-within m c (r .1) in
-      (passes-none (part m a c) (part-passes m p c (inl (r .1)) a b (r .0) (omega arith)), parts-none (suc c) cuts (r .1) n (r .2))
+      (passes-none (part m a c) (part-passes m p a c b (r .0) (omega arith) (inl (r .1))), parts-none (suc c) cuts (r .1) n (r .2))
