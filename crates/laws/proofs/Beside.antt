@@ -1,9 +1,9 @@
 -- What the codes at the two ends of a stretch tell of the bits that come from its neighbours: the last one is voiced just where the bit of what follows voices an obstruent, and at the
 -- start и and э sound Ы just behind a hard boundary. Why: only pass 4's last step looks at what follows, and only the first letter's row at what stands before.
-use Rattle.laws.proofs.Kit.{ℕ, suc, _≡_, refl, sym, _∙_, Bool, true, false, cond, not, _&&_, and-true, and-false, and-eq-true-iff, true≢false, List, [], _∷_, _++_, append-assoc, eqb}
-use Rattle.spec.specs.{Alphabet.pause, Letters.Letter, Letters.Message, Letters.last, Letters.more, Letters.firstByte, Letters.firstWord, Letters.lastWord, Letters.obstruents, Letters.isObstruent, Codes.markOf, Codes.isSound, Vowels.Phone, Voicing.voiced, Voicing.voiceless, Voicing.voicedCode, Voicing.voicelessCode, Voicing.toneOf, Voicing.toned, Voicing.voiceOne, Voicing.voice, Palatalization.isSoft, Palatalization.firstCode, Palatalization.palatalize, Tape.wordTape, Tape.segment, Joints.endsInObstruent, Joints.beginsWithIOrE}
+use Rattle.laws.proofs.Kit.{ℕ, suc, _≡_, refl, sym, _∙_, Bool, true, false, cond, not, _&&_, and-true, and-false, and-eq-true-iff, true≢false, List, [], _∷_, _++_, append-assoc}
+use Rattle.spec.specs.{Letters.Letter, Letters.Message, Letters.last, Letters.more, Letters.firstByte, Letters.firstWord, Letters.lastWord, Letters.obstruents, Letters.isObstruent, Codes.markOf, Codes.isSound, Vowels.Phone, Voicing.voiced, Voicing.voiceless, Voicing.voicedCode, Voicing.voicelessCode, Voicing.toneOf, Voicing.toned, Voicing.voiceOne, Voicing.voice, Palatalization.isSoft, Palatalization.firstCode, Palatalization.palatalize, Tape.wordTape, Tape.segment, Joints.endsInObstruent, Joints.beginsWithIOrE}
 use Rattle.spec.proofs.Computed.{everything}
-use Rattle.laws.proofs.{Codes.Spells, Codes.isVoiced, Codes.both, Codes.fine, Codes.Fine, Codes.word-fine, Codes.soft-both, Classes.cond-both, Classes.either, Classes.among-same, Word.lastCodeFrom, Word.endsToned, Word.word-toned, Word.word-starts, Stretch.last-append}
+use Rattle.laws.proofs.{Codes.Spells, Codes.isVoiced, Codes.both, Codes.fine, Codes.Fine, Codes.word-fine, Codes.soft-both, Classes.mark-both, Classes.either, Classes.among-same, Word.lastCodeFrom, Word.endsToned, Word.word-toned, Word.word-starts, Stretch.last-append}
 pub use Rattle.laws.proofs.{Word.isHigh, Word.isIOrE, Codes.isVoiced}
 
 -- a test has this answer
@@ -50,8 +50,7 @@ word-ends-differ h h′ w e q = true≢false (sym (told h true) ∙ rw q (told h
 
 -- a break's mark is not voiced
 pub mark-unvoiced : (x : ℕ) → isVoiced (markOf x) ≡ false
-unfolding markOf
-mark-unvoiced x = cond-both (λ c. isVoiced c ≡ false) (eqb x pause) refl refl
+mark-unvoiced x = mark-both (λ c. isVoiced c ≡ false) x refl refl
 
 -- The last code of a stretch is voiced just where its last word ends in an obstruent and what follows voices it.
 pub segment-ends : (h n : Bool) (d : ℕ) (r : Message) → isVoiced d ≡ false → Spells r → isVoiced (lastCodeFrom d (segment h n r)) ≡ (n && endsInObstruent (lastWord r))

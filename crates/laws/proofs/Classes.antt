@@ -1,12 +1,17 @@
 -- A test has two outcomes, so what holds in both holds; and a class is a list of bytes, so what holds of all its letters is one computation over that list.
 use Rattle.laws.proofs.Kit.{ℕ, suc, _<_, _≤_, _≡_, refl, sym, ap, _∙_, Bool, true, false, cond, _||_, true≢false, false≢true, _⊎_, inl, inr, List, [], _∷_, _++_, map, arith, eqb, leb, eqb-true, leb-true, leb-false}
-use Rattle.spec.specs.{Tables.among, Alphabet.gap, Alphabet.pause, Letters.isBreak, Letters.isMark, Letters.plainVowels, Letters.softeningVowels, Letters.isVowel, Letters.isObstruent, Letters.isPaired, Refusals.vowelByte, Refusals.signByte, Refusals.hardSignByte, Refusals.consonantByte}
+use Rattle.spec.specs.{Tables.among, Alphabet.gap, Alphabet.pause, Codes.markOf, Letters.isBreak, Letters.isMark, Letters.plainVowels, Letters.softeningVowels, Letters.isVowel, Letters.isObstruent, Letters.isPaired, Refusals.vowelByte, Refusals.signByte, Refusals.hardSignByte, Refusals.consonantByte}
 use Rattle.spec.proofs.Computed.{everything}
 
 -- what holds of both choices holds of what a test chooses
 pub cond-both : {A : Type 0} (P : A → Type 0) (t : Bool) {x y : A} → P x → P y → P (cond t x y)
 cond-both P true a b = a
 cond-both P false a b = b
+
+-- and what holds of both marks holds of a break's
+pub mark-both : (P : ℕ → Type 0) (x : ℕ) → P 0 → P 63 → P (markOf x)
+unfolding markOf
+mark-both P x g p = cond-both P (eqb x pause) p g
 
 -- a function of what a test chooses
 pub cond-app : {A B : Type 0} (f : A → B) (t : Bool) (x y : A) → f (cond t x y) ≡ cond t (f x) (f y)

@@ -1,9 +1,9 @@
 -- The codes of a tape. Every letter of an accepted message is one of the alphabet, so each code of its words is a sound, 1 to 13 or 16 to 56,
 -- and the marks on its tape are those of its breaks.
-use Rattle.laws.proofs.Kit.{ℕ, zero, suc, _+_, _-_, _<_, _≡_, refl, sym, ap, _∙_, Bool, true, false, cond, not, _&&_, _||_, and-eq-true-iff, and-true, or-false, false≢true, List, [], _∷_, _++_, arith, eqb, length, take, drop, getD, length-take, length-drop, take-length, getD-take, getD-drop, eqb-true}
-use Rattle.spec.specs.{Alphabet.pause, Letters.Letter, Letters.Message, Letters.last, Letters.more, Letters.read, Letters.putLetter, Letters.beginsWithMark, Letters.small, Letters.hardOnly, Letters.paired, Letters.softOnly, Letters.plainVowels, Letters.softeningVowels, Letters.obstruents, Letters.between, Letters.isGap, Letters.isBreak, Letters.isMark, Letters.isPaired, Letters.isConsonant, Letters.isSign, Letters.isVowel, Letters.isObstruent, Codes.Б, Codes.З', Codes.J, Codes.Ц1, Codes.Ч1, Codes.markOf, Codes.isMarkCode, Codes.isSound, Codes.isCode, Elision.elides, Elision.elideFrom, Elision.elide, Syllables.Facts, Syllables.factsOf, Syllables.syllableOf, Syllables.nameIn, Syllables.nameOf, Syllables.isName, Syllables.incomplete, Syllables.namesFrom, Vowels.Phone, Vowels.vowelSound, Vowels.writtenCode, Vowels.phonesFrom, Vowels.endsHard, Voicing.Tone, Voicing.voiced, Voicing.voiceless, Voicing.asWritten, Voicing.voicedCode, Voicing.voicelessCode, Voicing.voices, Voicing.toneOf, Voicing.toned, Voicing.codesOf, Voicing.voiceOne, Voicing.voice, Palatalization.isSoft, Palatalization.palatalize, Tape.wordTape, Tape.segment, Tape.tape, Tape.wordNames, Tape.namesOf, Tape.names, Refusals.consonantByte, Refusals.signByte, Refusals.vowelByte, Refusals.letterByte, Refusals.row3, Refusals.rows, Refusals.fitsIn, Refusals.NoneFits, Joints.joinedFrom, Joints.joined, Joints.marksOf, Joints.breakMarks, declared.Cover.Cover, declared.Cover.the-variants.Bare, declared.Cover.the-variants.Covered, declared.Syllable.Syllable, declared.Level.Level, declared.Level.the-variants.Stressed, declared.Level.the-variants.First, declared.Level.the-variants.Second}
+use Rattle.laws.proofs.Kit.{ℕ, zero, suc, _+_, _-_, _<_, _≡_, refl, sym, ap, _∙_, Bool, true, false, cond, not, _&&_, _||_, and-eq-true-iff, and-true, or-false, false≢true, List, [], _∷_, _++_, arith, eqb, length, take, drop, getD, length-take, length-drop, take-length, getD-take, getD-drop, eqb-true, not-false}
+use Rattle.spec.specs.{Letters.Letter, Letters.Message, Letters.last, Letters.more, Letters.read, Letters.putLetter, Letters.hardOnly, Letters.paired, Letters.softOnly, Letters.plainVowels, Letters.softeningVowels, Letters.obstruents, Letters.between, Letters.isGap, Letters.isBreak, Letters.isMark, Letters.isPaired, Letters.isConsonant, Letters.isSign, Letters.isVowel, Letters.isObstruent, Codes.Б, Codes.З', Codes.J, Codes.Ц1, Codes.Ч1, Codes.markOf, Codes.isMarkCode, Codes.isSound, Codes.isCode, Elision.elides, Elision.elideFrom, Elision.elide, Syllables.Facts, Syllables.factsOf, Syllables.syllableOf, Syllables.nameIn, Syllables.nameOf, Syllables.isName, Syllables.incomplete, Syllables.namesFrom, Vowels.Phone, Vowels.vowelSound, Vowels.writtenCode, Vowels.phonesFrom, Vowels.endsHard, Voicing.Tone, Voicing.voiced, Voicing.voiceless, Voicing.asWritten, Voicing.voicedCode, Voicing.voicelessCode, Voicing.voices, Voicing.toneOf, Voicing.toned, Voicing.codesOf, Voicing.voiceOne, Voicing.voice, Palatalization.isSoft, Palatalization.palatalize, Tape.wordTape, Tape.segment, Tape.tape, Tape.wordNames, Tape.namesOf, Tape.names, Refusals.consonantByte, Refusals.signByte, Refusals.vowelByte, Refusals.letterByte, Refusals.row3, Refusals.rows, Refusals.fitsIn, Refusals.NoneFits, Joints.joinedFrom, Joints.joined, Joints.marksOf, Joints.breakMarks, declared.Cover.Cover, declared.Cover.the-variants.Bare, declared.Cover.the-variants.Covered, declared.Syllable.Syllable, declared.Level.Level, declared.Level.the-variants.Stressed, declared.Level.the-variants.First, declared.Level.the-variants.Second}
 use Rattle.spec.proofs.Computed.{everything}
-use Rattle.laws.proofs.{Classes.cond-both, Classes.cond-app, Classes.cond-same, Classes.either, Classes.refuted, Classes.among-same, Classes.vowel-single, Classes.vowel-quiet, Word.phones-cases, Accepted.Passes, Accepted.none-passes}
+use Rattle.laws.proofs.{Classes.cond-both, Classes.mark-both, Classes.cond-app, Classes.cond-same, Classes.either, Classes.refuted, Classes.among-same, Classes.vowel-single, Classes.vowel-quiet, Word.phones-cases, Accepted.Passes, Accepted.none-passes}
 
 -- a claim on each code of a tape, or on each name
 abbrev pub Each : (ℕ → Bool) → List ℕ → Type 0
@@ -141,17 +141,10 @@ put-spells l (more w x q) s r = ((s, r .0), r .1)
 pub read-spells : (m : List ℕ) → ((i : ℕ) → i < length m → row3 [] (getD m i 0) [] ≡ false) → Spells (read m)
 unfolding read row3 letterByte consonantByte signByte vowelByte spells
 read-spells [] n = tt
-read-spells (b ∷ m) n = by (isBreak b) refl (isMark b) refl (n 0 (omega arith)) (read-spells m (λ i l. n (suc i) (omega arith)))
-  where
-    named : (t : Bool) → not (t || false) ≡ false → t ≡ true
-    named true e = refl
-    named false e = sym e
-
-    by : (s : Bool) → isBreak b ≡ s → (t : Bool) → isMark b ≡ t → row3 [] b [] ≡ false → Spells (read m)
-        → Spells (cond s (more [] b (read m)) (cond t (read m) (putLetter (record { byte = small b; stressed = beginsWithMark m }) (read m))))
-    by true q t r n s = (tt, s)
-    by false q true r n s = s
-    by false q false r n s = put-spells _ (read m) (named (spells (small b)) (rw (q, r) at n)) s
+read-spells (b ∷ m) n =
+    let r = read-spells m (λ i l. n (suc i) (omega arith)) in
+    either (isBreak b) (λ q. rw q (tt, r)) (λ q. rw q (either (isMark b) (λ t. rw t r) (λ t.
+    rw t (put-spells _ (read m) (not-false _ (rw (q, t, or-false) at (n 0 (omega arith)))) r))))
 
 -- so it is in every stretch of an accepted message
 pub part-spells : (m : List ℕ) → Passes m → (a n : ℕ) → Spells (read (take n (drop a m)))
@@ -174,8 +167,8 @@ sounds-unmarked (c ∷ s) h = rw (sound-unmarked c (h .0)) (sounds-unmarked s (h
 
 -- and a break's mark is one
 pub marks-mark : (x : ℕ) (t : List ℕ) → marksOf (markOf x ∷ t) ≡ markOf x ∷ marksOf t
-unfolding marksOf markOf isMarkCode
-marks-mark x t = cond-both (λ c. marksOf (c ∷ t) ≡ c ∷ marksOf t) (eqb x pause) refl refl
+unfolding marksOf isMarkCode
+marks-mark x t = mark-both (λ c. marksOf (c ∷ t) ≡ c ∷ marksOf t) x refl refl
 
 -- the marks of a message's breaks
 unfoldable pub marksIn : Message → List ℕ
@@ -227,8 +220,8 @@ unbroken (b ∷ p) n = rw (n 0 (omega arith)) (unbroken p (λ i l. n (suc i) (om
 
 -- a break's mark is one
 mark-code : (x : ℕ) → isCode (markOf x) ≡ true
-unfolding isCode isSound isMarkCode markOf
-mark-code x = cond-both (λ c. isCode c ≡ true) (eqb x pause) refl refl
+unfolding isCode isSound isMarkCode
+mark-code x = mark-both (λ c. isCode c ≡ true) x refl refl
 
 segment-codes : (h n : Bool) (r : Message) → Spells r → Each isCode (segment h n r)
 unfolding segment isCode

@@ -1,8 +1,8 @@
 -- Where the codes of a part and the marks of breaks stand on a tape: before a place as many codes stand as the bytes before it make, so a part's codes in the whole tape are as many
 -- as its own, and since each code of a word is a sound the last mark before that of a place is that of the last break before it.
-use Rattle.laws.proofs.Kit.{ℕ, suc, _+_, _-_, _<_, _≤_, _≡_, refl, sym, ap, _∙_, Bool, true, false, not, _&&_, _||_, and-eq-true-iff, true≢false, _⊎_, ⊎-elim, List, [], _∷_, _++_, append-nil, arith, eqb, leb, length, take, drop, getD, length-append, length-drop, List·getD-append, List·getD-eq-default, take-all, getD-append-add, leb-true, le-leb}
-use Rattle.spec.specs.{Alphabet.pause, Letters.between, Letters.read, Letters.firstByte, Letters.isGap, Letters.isBreak, Codes.А*, Codes.Щ, Codes.markOf, Codes.isSound, Tape.segment, Tape.tape, Refusals.checkOf, Joints.markIndex, Joints.wordBefore, Joints.wordAfter, declared.Counts.Counts, declared.Checked.the-variants.Accepted}
-use Rattle.laws.proofs.{Accepted.accepted-passes, Classes.cond-both, Classes.below-or, Stretch.segment-length, PartsAccepted.part-length, PartsAccepted.part-at, Codes.Each, Codes.part-spells, Codes.read-marks, Codes.segment-sounds, Codes.unbroken, Codes.each-at, Parts.part, Parts.Begins, Parts.hardAt, Parts.onward, Parts.voicedAt, Parts.changedAfter, Parts.changedBefore, Parts.last-at, Parts.onward-cut, Parts.part-own, Parts.tape-cut, Parts.mark-index, Parts.mark-there, Parts.code-after, Parts.onward-alone, Marks.tape-from, Marks.mark-next, Marks.mark-last, Beside.isVoiced, Beside.isHigh, Beside.isIOrE, Beside.segment-ends, Beside.segment-starts}
+use Rattle.laws.proofs.Kit.{ℕ, suc, _+_, _-_, _<_, _≤_, _≡_, refl, sym, ap, _∙_, Bool, true, false, not, _&&_, _||_, and-eq-true-iff, true≢false, _⊎_, ⊎-elim, List, [], _∷_, _++_, append-nil, arith, leb, length, take, drop, getD, length-append, length-drop, List·getD-append, List·getD-eq-default, take-all, getD-append-add, leb-true, le-leb}
+use Rattle.spec.specs.{Letters.between, Letters.read, Letters.firstByte, Letters.isGap, Letters.isBreak, Codes.А*, Codes.Щ, Codes.markOf, Codes.isSound, Tape.segment, Tape.tape, Refusals.checkOf, Joints.markIndex, Joints.wordBefore, Joints.wordAfter, declared.Counts.Counts, declared.Checked.the-variants.Accepted}
+use Rattle.laws.proofs.{Accepted.accepted-passes, Classes.mark-both, Classes.below-or, Stretch.segment-length, PartsAccepted.part-length, PartsAccepted.part-at, Codes.Each, Codes.part-spells, Codes.read-marks, Codes.segment-sounds, Codes.unbroken, Codes.each-at, Parts.part, Parts.Begins, Parts.hardAt, Parts.onward, Parts.voicedAt, Parts.changedAfter, Parts.changedBefore, Parts.last-at, Parts.onward-cut, Parts.part-own, Parts.tape-cut, Parts.mark-index, Parts.mark-there, Parts.code-after, Parts.onward-alone, Marks.tape-from, Marks.mark-next, Marks.mark-last, Beside.isVoiced, Beside.isHigh, Beside.isIOrE, Beside.segment-ends, Beside.segment-starts}
 
 -- a part may end at e: at the message's end, or at a break
 abbrev pub Ends : List ℕ → ℕ → Type 0
@@ -26,11 +26,6 @@ last-once test x y i r s same l k =
 -- a code that is no sound
 abbrev pub isNoSound : ℕ → Bool
 isNoSound c = not (between А* Щ c)
-
--- a break's mark is none
-mark-no-sound : (x : ℕ) → isNoSound (markOf x) ≡ true
-unfolding markOf
-mark-no-sound x = cond-both (λ c. isNoSound c ≡ true) (eqb x pause) refl refl
 
 -- the whole message's codes of the bytes from a up to e
 abbrev pub stretch : List ℕ → ℕ → ℕ → List ℕ
@@ -123,7 +118,7 @@ module _ (m : List ℕ) where
         let n = mark-next m b (l .here) in
         record {
           below = omega (arith, s .size, n);
-          here = rw (mark-there m b (l .here)) (mark-no-sound (getD m b 0));
+          here = rw (mark-there m b (l .here)) (mark-both (λ c. isNoSound c ≡ true) (getD m b 0) refl refl);
           past = λ j lo hi.
               let r = sound-range (getD (tape m) j 0) (sounds-between m counts accepted (suc b) e (l .here) (l .below) within ends (λ i p q. l .past i p q) j (omega (arith, n)) hi) in
               rw (le-leb А* (getD (tape m) j 0) (r .0), le-leb (getD (tape m) j 0) Щ (r .1));

@@ -1,6 +1,6 @@
 -- A message from a place on, whole and in parts: each cut splits both tapes at its mark, and the two sides differ in the bits that come from over the cut alone.
 use Rattle.laws.proofs.Kit.{ℕ, zero, suc, _+_, _-_, _<_, _≤_, _≡_, refl, sym, ap, _∙_, Bool, true, false, _&&_, _||_, and-comm, and-or-distrib-left, true≢false, inl, inr, ⊎-elim, _≢_, List, [], _∷_, _++_, append-assoc, append-nil, arith, length, take, drop, getD, length-append, take-append-drop, drop-cons, drop-drop, drop-append-add, take-add, getD-at}
-use Rattle.spec.specs.{Letters.Message, Letters.read, Letters.firstByte, Letters.firstWord, Letters.lastWord, Letters.isGap, Letters.isBreak, Codes.markOf, Voicing.voices, Vowels.endsHard, Palatalization.firstCode, Tape.segment, Tape.tape, Joints.RisingFrom, Joints.CutOf, Joints.joinedFrom, Joints.markIndex, Joints.marksOf, Joints.breakMarks, Joints.wordBefore, Joints.wordAfter, Joints.endsInObstruent, Joints.beginsWithIOrE, Joints.liveByVoice, Joints.liveByHardness, Joints.isLive, Joints.NoneLive}
+use Rattle.spec.specs.{Letters.read, Letters.firstByte, Letters.firstWord, Letters.lastWord, Letters.isGap, Letters.isBreak, Codes.markOf, Voicing.voices, Vowels.endsHard, Palatalization.firstCode, Tape.segment, Tape.tape, Joints.RisingFrom, Joints.CutOf, Joints.joinedFrom, Joints.markIndex, Joints.marksOf, Joints.breakMarks, Joints.wordBefore, Joints.wordAfter, Joints.endsInObstruent, Joints.beginsWithIOrE, Joints.liveByVoice, Joints.liveByHardness, Joints.isLive, Joints.NoneLive}
 use Rattle.laws.proofs.{Word.isHigh, Word.isIOrE, Word.lastCodeFrom, Beside.isVoiced, Beside.mark-unvoiced, Beside.segment-ends, Beside.segment-starts, Codes.Spells, Codes.marks-mark, Codes.bytes-marks, Codes.marks-append, Codes.breaks-append, Cuts.break-within, Cuts.cut-above, Stretch.first-meet, Stretch.last-meet, Stretch.read-join, Stretch.segment-join, Stretch.segment-length, Stretch.segment-quiet, Stretch.segment-firm, Stretch.last-append}
 pub use Rattle.laws.proofs.Classes.{or-false}
 
@@ -64,16 +64,6 @@ and-swap : (g s t : Bool) → (g && (s && t)) ≡ (g && t && s)
 and-swap true s t = and-comm s t
 and-swap false s t = refl
 
--- a stretch that nothing on its left changes is transcribed as if nothing stood there
-own-left : (h n : Bool) (a : Message) → (h && beginsWithIOrE (firstWord a)) ≡ false → segment false n a ≡ segment h n a
-own-left true n a e = segment-firm false true n a e
-own-left false n a e = refl
-
--- and so on its right
-own-right : (h n : Bool) (a : Message) → (n && endsInObstruent (lastWord a)) ≡ false → segment h false a ≡ segment h n a
-own-right h true a e = segment-quiet h false true a e
-own-right h false a e = refl
-
 module _ (m : List ℕ) where
   -- a break splits the bytes from place a on
   rest-split : (a c : ℕ) → a ≤ c → c < length m → drop a m ≡ part m a c ++ (getD m c 0 ∷ drop (suc c) m)
@@ -130,7 +120,7 @@ module _ (m : List ℕ) where
         let p = read (part m a c) in
         let left : (hardAt m a && beginsWithIOrE (firstWord p)) ≡ false = rw first-word at q in
         let right : (voicedAt m c && endsInObstruent (lastWord p)) ≡ false = rw (word-before a c begins le (break-within m c break)) o in
-        own-left (hardAt m a) false p left ∙ own-right (hardAt m a) (voicedAt m c) p right
+        segment-firm (hardAt m a) false p left ∙ segment-quiet (hardAt m a) (voicedAt m c) p right
 
   module _ (c : ℕ) (break : isBreak (getD m c 0) ≡ true) where
     -- the same from the message's start on
@@ -158,20 +148,10 @@ module _ (m : List ℕ) where
     pub code-after : getD (tape m) (suc (markIndex m c)) 0 ≡ firstCode (onward m (suc c))
     code-after = rw tape-cut (after-mark (segment false (voicedAt m c) (read (take c m))) (markOf (getD m c 0)) (onward m (suc c)) (markIndex m c) mark-index)
 
-    -- (a) changes the code before the mark
-    pub before-here : (isGap (getD m c 0) && liveByVoice m c) ≡ changedBefore m c
-    unfolding liveByVoice changedBefore voicedAt
-    before-here = rw (codes-after, and-swap)
-
-    -- (b) changes the code after it
-    pub after-here : (isGap (getD m c 0) && liveByHardness m c) ≡ changedAfter m (suc c)
-    unfolding liveByHardness changedAfter hardAt wordAfter
-    after-here = rw and-swap
-
     -- a cut is live just when one of its two neighbours is changed from over the cut
     pub live-here : isLive m c ≡ (changedBefore m c || changedAfter m (suc c))
-    unfolding isLive
-    live-here = rw (and-or-distrib-left, before-here, after-here)
+    unfolding isLive liveByVoice liveByHardness changedBefore voicedAt changedAfter hardAt wordAfter
+    live-here = rw (and-or-distrib-left, codes-after) (simp and-swap)
 
   -- what the tape from place a on is made of
   onward-open : (a : ℕ) → onward m a ≡ segment (hardAt m a) false (read (drop a m))
@@ -191,7 +171,7 @@ module _ (m : List ℕ) where
   -- where nothing changes what stands at place a, the bytes from there on may be transcribed alone
   pub onward-alone : (a : ℕ) → changedAfter m a ≡ false → tape (drop a m) ≡ onward m a
   unfolding tape changedAfter
-  onward-alone a q = rw (onward-open a) (own-left (hardAt m a) false (read (drop a m)) q)
+  onward-alone a q = rw (onward-open a) (segment-firm (hardAt m a) false (read (drop a m)) q)
 
   -- The two tapes from place a on have equal length.
   pub joined-length : (a : ℕ) (cuts : List ℕ) → Begins m a → RisingFrom m a cuts → length (joinedFrom m a cuts) ≡ length (onward m a)
