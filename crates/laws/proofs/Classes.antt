@@ -45,21 +45,13 @@ or-false false t e = (refl, e)
 
 -- a number is below another or not
 pub below-or : (a b : ℕ) → (a < b) ⊎ (b ≤ a)
-below-or a b = by (leb (suc a) b) refl
-  where
-    by : (t : Bool) → leb (suc a) b ≡ t → (a < b) ⊎ (b ≤ a)
-    by true q = inl (leb-true (suc a) b q)
-    by false q = inr (omega (arith, leb-false (suc a) b q))
+below-or a b = either (leb (suc a) b) (λ q. inl (leb-true (suc a) b q)) (λ q. inr (omega (arith, leb-false (suc a) b q)))
 
 -- two functions that agree on a list agree at each of its bytes
 pub among-same : {A : Type 0} (f g : ℕ → A) (xs : List ℕ) (b : ℕ) → map f xs ≡ map g xs → among xs b ≡ true → f b ≡ g b
 unfolding among
 among-same f g [] b e h = absurd (false≢true h)
-among-same f g (x ∷ xs) b e h = by (eqb b x) refl h (among-same f g xs b (cc))
-  where
-    by : (t : Bool) → eqb b x ≡ t → (t || among xs b) ≡ true → (among xs b ≡ true → f b ≡ g b) → f b ≡ g b
-    by true d h′ r = rw (eqb-true b x d) (cc)
-    by false d h′ r = r h′
+among-same f g (x ∷ xs) b e h = either (eqb b x) (λ d. rw (eqb-true b x d) (cc)) (λ d. among-same f g xs b (cc) (rw d at h))
 
 -- a byte outside a list is none of its bytes
 pub among-none : (xs : List ℕ) (b x : ℕ) → among xs b ≡ false → among xs x ≡ true → eqb b x ≡ false
@@ -82,11 +74,7 @@ NoBreak class = (d : ℕ) → isBreak d ≡ true → class d ≡ false
 -- a class without the gap and the pause
 no-break : (class : ℕ → Bool) → class gap ≡ false → class pause ≡ false → NoBreak class
 unfolding isBreak
-no-break class g p d e = by (eqb d gap) refl e
-  where
-    by : (t : Bool) → eqb d gap ≡ t → (t || eqb d pause) ≡ true → class d ≡ false
-    by true q e = rw (eqb-true d gap q) g
-    by false q e = rw (eqb-true d pause e) p
+no-break class g p d e = either (eqb d gap) (λ q. rw (eqb-true d gap q) g) (λ q. rw (eqb-true d pause (rw q at e)) p)
 
 -- a break is no mark
 pub break-mark : NoBreak isMark

@@ -104,18 +104,13 @@ module _ (m : List ℕ) where
   unfolding badCut
   first-bad cuts i f = first-bad-from 0 cuts i f
 
-  -- The full list. A list that rises from a place on rises from the one before
-  rising-lower : (k : ℕ) (cuts : List ℕ) → RisingFrom m (suc k) cuts → RisingFrom m k cuts
-  rising-lower k [] r = tt
-  rising-lower k (c ∷ cuts) r = (omega (arith, r .0), r .1, r .2)
-
-  full-from : (k : ℕ) (r : List ℕ) → drop k m ≡ r → RisingFrom m k (breaksFrom k r)
+  -- The full list.
+  full-from : (least k : ℕ) (r : List ℕ) → drop k m ≡ r → least ≤ k → RisingFrom m least (breaksFrom k r)
   unfolding breaksFrom
-  full-from k [] e = tt
-  full-from k (b ∷ r) e =
+  full-from least k [] e le = tt
+  full-from least k (b ∷ r) e le =
       let s = rest-first m k b r e in
-      let f = full-from (suc k) r (s .2) in
-      either (isBreak b) (λ q. rw q (omega arith, rw (s .1) q, f)) (λ q. rw q (rising-lower k (breaksFrom (suc k) r) f))
+      either (isBreak b) (λ q. rw q (le, rw (s .1) q, full-from (suc k) (suc k) r (s .2) (omega arith))) (λ q. rw q (full-from least (suc k) r (s .2) (omega arith)))
 
   every-from : (k : ℕ) (r : List ℕ) → drop k m ≡ r → (c : ℕ) → k ≤ c → isBreak (getD m c 0) ≡ true → CutOf c (breaksFrom k r)
   unfolding breaksFrom
@@ -128,7 +123,7 @@ module _ (m : List ℕ) where
   -- The places of all breaks are a rising list,
   pub full-rising : Rising m (breaks m)
   unfolding breaks
-  full-rising = full-from 0 m refl
+  full-rising = full-from 0 0 m refl (omega arith)
 
   -- and every break is in it.
   pub full-every : (c : ℕ) → isBreak (getD m c 0) ≡ true → CutOf c (breaks m)

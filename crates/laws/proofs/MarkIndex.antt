@@ -1,8 +1,8 @@
 -- Where the codes of a part and the marks of breaks stand on a tape: before a place as many codes stand as the bytes before it make, so a part's codes in the whole tape are as many
 -- as its own, and since each code of a word is a sound the last mark before that of a place is that of the last break before it.
-use Rattle.laws.proofs.Kit.{ℕ, suc, _+_, _-_, _<_, _≤_, _≡_, refl, sym, ap, _∙_, Bool, true, false, not, _&&_, _||_, and-eq-true-iff, true≢false, _⊎_, ⊎-elim, List, [], _∷_, _++_, append-nil, arith, leb, length, take, drop, getD, length-append, length-drop, List·getD-append, List·getD-eq-default, take-all, getD-append-add, leb-true, le-leb}
+use Rattle.laws.proofs.Kit.{ℕ, suc, _+_, _-_, _<_, _≤_, _≡_, refl, sym, ap, _∙_, Bool, true, false, not, _&&_, and-eq-true-iff, true≢false, _⊎_, ⊎-elim, List, [], _∷_, _++_, append-nil, arith, leb, length, take, drop, getD, length-append, length-drop, List·getD-append, List·getD-eq-default, take-all, getD-append-add, leb-true, le-leb}
 use Rattle.spec.specs.{Letters.between, Letters.read, Letters.firstByte, Letters.isGap, Letters.isBreak, Codes.А*, Codes.Щ, Codes.markOf, Codes.isSound, Tape.segment, Tape.tape, Refusals.checkOf, Joints.markIndex, Joints.wordBefore, Joints.wordAfter, declared.Counts.Counts, declared.Checked.the-variants.Accepted}
-use Rattle.laws.proofs.{Accepted.accepted-passes, Classes.mark-both, Classes.below-or, Stretch.segment-length, PartsAccepted.part-length, PartsAccepted.part-at, Codes.Each, Codes.part-spells, Codes.read-marks, Codes.segment-sounds, Codes.unbroken, Codes.each-at, Parts.part, Parts.Begins, Parts.hardAt, Parts.onward, Parts.voicedAt, Parts.changedAfter, Parts.changedBefore, Parts.last-at, Parts.onward-cut, Parts.part-own, Parts.tape-cut, Parts.mark-index, Parts.mark-there, Parts.code-after, Parts.onward-alone, Marks.tape-from, Marks.mark-next, Marks.mark-last, Beside.isVoiced, Beside.isHigh, Beside.isIOrE, Beside.segment-ends, Beside.segment-starts}
+use Rattle.laws.proofs.{Accepted.accepted-passes, Classes.mark-both, Classes.either, Classes.below-or, Stretch.segment-length, PartsAccepted.part-length, PartsAccepted.part-at, Codes.Each, Codes.part-spells, Codes.read-marks, Codes.segment-sounds, Codes.unbroken, Codes.each-at, Parts.part, Parts.Begins, Parts.hardAt, Parts.onward, Parts.voicedAt, Parts.changedAfter, Parts.changedBefore, Parts.last-at, Parts.onward-cut, Parts.part-own, Parts.tape-cut, Parts.mark-index, Parts.mark-there, Parts.code-after, Parts.onward-alone, Marks.tape-from, Marks.mark-next, Marks.mark-last, Beside.isVoiced, Beside.isHigh, Beside.isIOrE, Beside.segment-ends, Beside.segment-starts}
 
 -- a part may end at e: at the message's end, or at a break
 abbrev pub Ends : List ℕ → ℕ → Type 0
@@ -101,13 +101,11 @@ module _ (m : List ℕ) (counts : Counts) (accepted : checkOf m ≡ Accepted cou
       rw (s .split) (inside (s .front) (stretch m a e) (s .rest) j (word-here _ _) (omega (arith, s .start)) (omega (arith, s .start, s .size)))
 
 -- a sound is one of 1 to 56
-pub sound-range : (c : ℕ) → isSound c ≡ true → (1 ≤ c) × (c ≤ 56)
+pub sound-between : (c : ℕ) → isSound c ≡ true → between А* Щ c ≡ true
 unfolding isSound
-sound-range c s = by (leb 1 c && leb c 13) refl s
-  where
-    by : (t : Bool) → (leb 1 c && leb c 13) ≡ t → (t || (leb 16 c && leb c 56)) ≡ true → (1 ≤ c) × (c ≤ 56)
-    by true q s = let a = and-eq-true-iff (leb 1 c) (leb c 13) .0 q in (leb-true 1 c (a .0), omega (arith, leb-true c 13 (a .1)))
-    by false q s = let a = and-eq-true-iff (leb 16 c) (leb c 56) .0 s in (omega (arith, leb-true 16 c (a .0)), leb-true c 56 (a .1))
+sound-between c s = either (between 1 13 c)
+    (λ q. let a = and-eq-true-iff (leb 1 c) (leb c 13) .0 q in rw (a .0) (le-leb c 56 (omega (arith, leb-true c 13 (a .1)))))
+    (λ q. let a = and-eq-true-iff (leb 16 c) (leb c 56) .0 (rw q at s) in rw (le-leb 1 c (omega (arith, leb-true 16 c (a .0)))) (a .1))
 
 module _ (m : List ℕ) where
   module _ {counts : Counts} (accepted : checkOf m ≡ Accepted counts) where
@@ -119,9 +117,7 @@ module _ (m : List ℕ) where
         record {
           below = omega (arith, s .size, n);
           here = rw (mark-there m b (l .here)) (mark-both (λ c. isNoSound c ≡ true) (getD m b 0) refl refl);
-          past = λ j lo hi.
-              let r = sound-range (getD (tape m) j 0) (sounds-between m counts accepted (suc b) e (l .here) (l .below) within ends (λ i p q. l .past i p q) j (omega (arith, n)) hi) in
-              rw (le-leb А* (getD (tape m) j 0) (r .0), le-leb (getD (tape m) j 0) Щ (r .1));
+          past = λ j lo hi. ap not (sound-between _ (sounds-between m counts accepted (suc b) e (l .here) (l .below) within ends (λ i p q. l .past i p q) j (omega (arith, n)) hi));
         }
 
     -- A voiced code before the mark of a break, on the whole tape, is one that a cut there changes.
