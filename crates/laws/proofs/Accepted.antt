@@ -1,5 +1,5 @@
 -- The message check gives a number exactly where its condition holds and none earlier does, and accepts exactly what no number fits: the scan goes on over a byte only where no row fits, and at a byte the first row of the list that fits is given.
-use Rattle.laws.proofs.Kit.{ℕ, zero, suc, _<_, _≤_, _≡_, refl, sym, ap, _∙_, _⊎_, inl, inr, ⊎-elim, Bool, true, false, cond, _&&_, and-eq-true-iff, and-false, or-true, true≢false, false≢true, List, [], _∷_, arith, eqb, leb, length, getD, drop, length-drop, drop-cons, eqb-true, eqb-false, eq-eqb, ne-eqb, leb-true, leb-false, le-leb, lt-leb}
+use Rattle.laws.proofs.Kit.{ℕ, zero, suc, _<_, _≤_, _≡_, refl, sym, ap, _∙_, _⊎_, inl, inr, ⊎-elim, true, false, cond, _&&_, and-eq-true-iff, and-false, or-true, true≢false, false≢true, List, [], _∷_, arith, eqb, leb, length, getD, drop, length-drop, drop-cons, eqb-true, eqb-false, eq-eqb, ne-eqb, leb-true, leb-false, le-leb, lt-leb}
 use Rattle.spec.specs.{Tape.tape, Tape.names, Tables.among, Refusals.Row, Refusals._when_, Refusals.rows, Refusals.firstFit, Refusals.faultAt, Refusals.refusal, Refusals.scan, Refusals.checkOf, Refusals.fitsIn, Refusals.beforeAt, Refusals.fits, Refusals.indexIn, Refusals.rank, Refusals.NoneFits, Refusals.Earlier, Refusals.Given, declared.Counts.Counts, declared.Checked.Checked, declared.Checked.the-variants.Accepted, declared.Checked.the-variants.Refused}
 use Rattle.spec.proofs.Computed.{everything}
 use Rattle.laws.proofs.Classes.{cond-app, cond-same, either, refuted, below-or, among-same, among-none}
@@ -21,11 +21,6 @@ table = (1 when λ _ _ _. false) ∷ (2 when λ _ _ _. false) ∷ rows
 table-distinct : Distinct table
 unfolding everything numbers
 table-distinct = (refl, (refl, (refl, (refl, (refl, (refl, (refl, (refl, (refl, (refl, tt))))))))))
-
--- an index below one further on
-later : (v : Bool) (x y : ℕ) → suc x < cond v 0 (suc y) → x < y
-later true x y h = absurd (omega arith)
-later false x y h = omega arith
 
 module _ (before : List ℕ) (b : ℕ) (after : List ℕ) where
   -- a number that fits stands in the list
@@ -49,7 +44,8 @@ module _ (before : List ℕ) (b : ℕ) (after : List ℕ) where
   first-first [] k i = refl
   first-first ((n when test) ∷ rs) k i =
       either (test before b after) (λ q. absurd (omega (arith, rw (q, eq-eqb n n refl) at i)))
-      (λ q. either (eqb n k) (λ u. rw u q) (λ u. rw u (first-first rs k (later (eqb n _) (indexIn rs k) (indexIn rs (firstFit rs before b after)) (rw (q, u) at i)))))
+      (λ q. either (eqb n k) (λ u. rw u q) (λ u. rw u (either (eqb n (firstFit rs before b after))
+      (λ v. absurd (omega (arith, rw (q, u, v) at i))) (λ v. first-first rs k (omega (arith, rw (q, u, v) at i))))))
 
 -- no row fits at a byte
 abbrev pub Clear : List ℕ → ℕ → List ℕ → Type 0
@@ -69,10 +65,6 @@ countsOf m = record { codes = length (tape m); names = length (names m) }
 -- no row fits at place i of a message
 abbrev pub ClearAt : List ℕ → ℕ → Type 0
 ClearAt m i = Clear (beforeAt m i) (getD m i 0) (drop (suc i) m)
-
--- no row fits at the places before suc i, if none fits at those before i and at i
-clear-more : (m : List ℕ) (i : ℕ) → ((j : ℕ) → j < i → ClearAt m j) → ClearAt m i → (j : ℕ) → j < suc i → ClearAt m j
-clear-more m i c d j h = ⊎-elim (λ l. c j l) (λ l. let e : j ≡ i = omega arith in rw e d) (below-or j i)
 
 -- as many bytes stand before a place as it counts
 pub before-length : (m : List ℕ) (i : ℕ) → length (beforeAt m i) ≡ i
@@ -192,7 +184,9 @@ module _ (m : List ℕ) (z : 0 < length m) (s : length m ≤ 4096) where
   scan-finds (b ∷ r) i e h c =
       let f = rest-first m i b r e in
       either (eqb (faultAt (beforeAt m i) b r) 0)
-      (λ q. rw (q, ← f .1) (scan-finds r (suc i) (f .2) (f .0) (clear-more m i c (rw (f .1, f .2) (fault-clear (beforeAt m i) b r (eqb-true _ _ q))))))
+      (λ q. rw (q, ← f .1) (scan-finds r (suc i) (f .2) (f .0) (λ j l. ⊎-elim (c j) (λ g.
+      let d : j ≡ i = omega arith in
+      rw (d, f .1, f .2) (fault-clear (beforeAt m i) b r (eqb-true _ _ q))) (below-or j i))))
       (λ q. rw (q, ← f .1, ← f .2, before-length) (inr (_, i, refl, fault-given i (f .0) c (λ n. eqb-false (faultAt (beforeAt m i) b r) 0 q (rw (f .1, f .2) at n)), omega (arith, f .0))))
 
 -- What the check finds in a message.
@@ -212,21 +206,20 @@ passes-none m p k q =
 none-given : (m : List ℕ) (n p : ℕ) → NoneFits m → Given m n p → ⊥
 none-given m n p f g = true≢false (sym (g .holds) ∙ f n p)
 
+-- nor where something earlier fits
+first-given : {m : List ℕ} {n p k q : ℕ} → Given m n p → Given m k q → Earlier n p k q → ⊥
+first-given g h e = true≢false (sym (g .holds) ∙ h .first _ _ e)
+
 -- At most one number is given, at one place.
 pub given-once : (m : List ℕ) (n p k q : ℕ) → Given m n p → Given m k q → (n ≡ k) × (p ≡ q)
 given-once m n p k q g h =
-    ⊎-elim (λ l. absurd (before (inl l))) (λ x. ⊎-elim (λ l. absurd (after (inl l))) (λ y. at-once (omega arith)) (below-or q p)) (below-or p q)
-  where
-    -- what comes before does not fit
-    before : Earlier n p k q → ⊥
-    before e = true≢false (sym (g .holds) ∙ h .first n p e)
-
-    after : Earlier k q n p → ⊥
-    after e = true≢false (sym (h .holds) ∙ g .first k q e)
-
-    at-once : p ≡ q → (n ≡ k) × (p ≡ q)
-    at-once e = ⊎-elim (λ l. absurd (before (inr (e, l)))) (λ x. ⊎-elim (λ l. absurd (after (inr (sym e, l))))
-        (λ y. let r : rank n ≡ rank k = omega arith in (sym (rank-number m n p (g .holds)) ∙ rw r (rank-number m k q (h .holds)), e)) (below-or (rank k) (rank n))) (below-or (rank n) (rank k))
+    let a : p < q → ⊥ = λ l. first-given g h (inl l) in
+    let b : q < p → ⊥ = λ l. first-given h g (inl l) in
+    let e : p ≡ q = omega arith in
+    let c : rank n < rank k → ⊥ = λ l. first-given g h (inr (e, l)) in
+    let d : rank k < rank n → ⊥ = λ l. first-given h g (inr (sym e, l)) in
+    let r : rank n ≡ rank k = omega arith in
+    (sym (rank-number m n p (g .holds)) ∙ rw r (rank-number m k q (h .holds)), e)
 
 -- Accepted: nothing fits.
 pub accepted-passes : (m : List ℕ) (counts : Counts) → checkOf m ≡ Accepted counts → Passes m

@@ -49,12 +49,9 @@ both f b c = f c && (not (isPaired b) || f (suc c))
 -- pass 5: only a letter that has a palatalized sound is palatalized
 pub soft-both : (f : ℕ → Bool) (x : Phone) (n c : ℕ) → both f (x .letter) c ≡ true → f (cond (isSoft x n) (suc c) c) ≡ true
 unfolding both isSoft
-soft-both f x n c h = by (isPaired (x .letter)) _ (and-eq-true-iff (f c) _ .0 h)
-  where
-    by : (p t : Bool) → (f c ≡ true) × ((not p || f (suc c)) ≡ true) → f (cond (p && t) (suc c) c) ≡ true
-    by true true e = e .1
-    by true false e = e .0
-    by false t e = e .0
+soft-both f x n c h =
+    let e = and-eq-true-iff (f c) _ .0 h in
+    either (isSoft x n) (λ s. rw s (rw (and-eq-true-iff (isPaired (x .letter)) _ .0 s .0) at (e .1))) (λ s. rw s (e .0))
 
 -- a sound that is no voiced obstruent's
 abbrev plain : ℕ → Bool

@@ -21,12 +21,12 @@ first-over class n [] o [] = refl
 first-over class n (d ∷ t) o [] = n d o
 first-over class n t o (b ∷ x) = refl
 
--- is it the start of a word?
-start-over : (t : List ℕ) → Opens t → (x : List ℕ) → (none (x ++ t) || first isBreak (x ++ t)) ≡ (none x || first isBreak x)
+-- is it the start of a word, or does something else hold?
+start-over : (y : Bool) (t : List ℕ) → Opens t → (x : List ℕ) → (none (x ++ t) || (y || first isBreak (x ++ t))) ≡ (none x || (y || first isBreak x))
 unfolding none first
-start-over [] o [] = refl
-start-over (d ∷ t) o [] = o
-start-over t o (b ∷ x) = refl
+start-over y [] o [] = refl
+start-over y (d ∷ t) o [] = rw (o, or-true)
+start-over y t o (b ∷ x) = refl
 
 -- a test that stops at a break stops there from the adjacent letter on
 adjacent-over : (f : List ℕ → Bool) (t : List ℕ) → Opens t → ((x : List ℕ) → f (x ++ t) ≡ f x) → (x : List ℕ) → f (adjacent (x ++ t)) ≡ f (adjacent x)
@@ -53,20 +53,13 @@ letters-over [] o [] = refl
 letters-over (d ∷ t) o [] = rw o
 letters-over t o (b ∷ x) = rw (letters-over t o x)
 
--- alternatives in another order
-or-swap : (x y z : Bool) → (x || (y || z)) ≡ (y || (x || z))
-or-swap true true z = refl
-or-swap true false z = refl
-or-swap false y z = refl
-
 -- So a row fits after the bytes of a part just when it fits after those and what stands before the part.
 pub rows-over : (k : ℕ) (x t : List ℕ) (b : ℕ) (after : List ℕ) → Opens t → fitsIn rows k (x ++ t) b after ≡ fitsIn rows k x b after
 unfolding fitsIn rows row3 row4 row5 row6 row7 row8 row9 row10
 rows-over k x t b after o =
     rw (
-      or-swap (none (x ++ t)) (none after) (first isBreak (x ++ t)),
-      or-swap (none x) (none after) (first isBreak x),
-      start-over t o x,
+      start-over (none after) t o x,
+      start-over false t o x,
       first-over vowelByte break-vowel t o x,
       near-over signByte break-sign t o x,
       near-over hardSignByte break-hard-sign t o x,
