@@ -28,15 +28,10 @@ module _ (m : List ℕ) where
       let p = row12-passes least c q in
       rw q (omega (arith, p .1, break-within m c (p .0), bad-from (suc c) (suc k) cuts)))
 
-  -- a cut of a rising list is not below the least place
-  pub cut-above : (c least : ℕ) (cuts : List ℕ) → RisingFrom m least cuts → CutOf c cuts → least ≤ c
-  cut-above c least [] r i = absurd i
-  cut-above c least (d ∷ cuts) r i = ⊎-elim (λ e. omega (arith, r .0)) (λ j. omega (arith, r .0, cut-above c (suc d) cuts (r .2) j)) i
-
-  -- it is the place of a break
-  pub cut-break : (c least : ℕ) (cuts : List ℕ) → RisingFrom m least cuts → CutOf c cuts → isBreak (getD m c 0) ≡ true
-  cut-break c least [] r i = absurd i
-  cut-break c least (d ∷ cuts) r i = ⊎-elim (λ e. rw e (r .1)) (λ j. cut-break c (suc d) cuts (r .2) j) i
+  -- a cut of a rising list is the place of a break, and not below the least place
+  pub cut-good : {c : ℕ} (least : ℕ) (cuts : List ℕ) → RisingFrom m least cuts → CutOf c cuts → (least ≤ c) × (isBreak (getD m c 0) ≡ true)
+  cut-good least [] r i = absurd i
+  cut-good least (d ∷ cuts) r i = ⊎-elim (λ e. rw e (r .0, r .1)) (λ j. let g = cut-good (suc d) cuts (r .2) j in (omega (arith, r .0, g .0), g .1)) i
 
 -- Number 12 fits no rising list of breaks.
 pub rising-to : (m cuts : List ℕ) → Rising m cuts → badCut m cuts ≡ length cuts

@@ -1,25 +1,17 @@
 -- The two tapes of a message, for every list of cuts: each cut splits both tapes at one index, and a cut is live just when a bit from over it changes a code beside its mark.
-use Rattle.laws.proofs.Kit.{ℕ, zero, suc, _+_, _-_, _≤_, _&&_, _++_, append-assoc, length-append, _<_, _≡_, refl, sym, ap, _∙_, Bool, true, false, cond, true≢false, inl, inr, ⊎-elim, _≢_, _↔_, List, [], _∷_, arith, length, getD, take, drop}
-use Rattle.spec.specs.{Letters.isBreak, Letters.read, Tape.tape, Tape.segment, Refusals.NoneFits, Joints.RisingFrom, Joints.Rising, Joints.joinedFrom, Joints.marksOf, Joints.breakMarks, Joints.wordAfter, Codes.markOf, Letters.firstByte, Palatalization.firstCode, Joints.CutOf, Joints.SplitAt, Joints.DiffersAt, Joints.joined, Joints.isLive, Joints.NoneLive, Joints.liveCount, Joints.markIndex, Demands.TwoTapes}
-use Rattle.laws.proofs.{Accepted.none-passes, Accepted.none-accepted, Classes.either, Classes.refuted, Codes.Spells, Codes.bytes-marks, Codes.part-spells, Beside.segment-ends, Cuts.cut-break, PartsAccepted.parts-none, Parts.onward, Parts.voicedAt, Parts.changedBefore, Parts.part, Parts.Begins, Parts.part-split, Parts.part-first, Parts.last-at, Parts.after-mark, Parts.joined-low, Parts.tape-cut, Parts.mark-index, Parts.live-here, Parts.onward-first, Parts.first-own, Parts.joined-length, Parts.joined-dead, Word.lastCodeFrom, Stretch.last-append, Codes.marks-mark, Codes.marks-append, Codes.breaks-append, Marks.mark-first, Marks.mark-next, MarkIndex.placed, MarkIndex.own-length, MarkIndex.before-told, MarkIndex.after-told, Beside.isVoiced, Beside.isHigh, Beside.isIOrE, Beside.mark-unvoiced, Cuts.cut-above, Cuts.break-within}
-
--- one cut that is not live adds nothing to the count, and a live one does
-counts-not : (t : Bool) (n : ℕ) → (cond t (suc n) n ≡ 0) ↔ ((t ≡ false) × (n ≡ 0))
-counts-not true n = (λ e. absurd (omega arith), λ p. absurd (true≢false (p .0)))
-counts-not false n = (λ e. (refl, e), λ p. p .1)
+use Rattle.laws.proofs.Kit.{ℕ, zero, suc, _+_, _-_, _≤_, _&&_, _++_, append-assoc, length-append, _<_, _≡_, refl, sym, ap, _∙_, true, false, true≢false, inl, inr, ⊎-elim, _≢_, _↔_, List, [], _∷_, arith, length, getD, take, drop}
+use Rattle.spec.specs.{Letters.isBreak, Letters.read, Letters.firstByte, Tape.tape, Tape.segment, Refusals.NoneFits, Joints.RisingFrom, Joints.Rising, Joints.joinedFrom, Joints.marksOf, Joints.breakMarks, Joints.wordAfter, Joints.CutOf, Joints.SplitAt, Joints.DiffersAt, Joints.joined, Joints.isLive, Joints.NoneLive, Joints.liveCount, Joints.markIndex, Codes.markOf, Palatalization.firstCode, Demands.TwoTapes}
+use Rattle.laws.proofs.{Accepted.none-passes, Accepted.none-accepted, Classes.either, Classes.refuted, Codes.Spells, Codes.bytes-marks, Codes.part-spells, Codes.marks-mark, Codes.marks-append, Codes.breaks-append, Beside.segment-ends, Beside.isVoiced, Beside.isHigh, Beside.isIOrE, Beside.mark-unvoiced, Cuts.cut-good, Cuts.break-within, PartsAccepted.parts-none, Parts.onward, Parts.voicedAt, Parts.changedBefore, Parts.part, Parts.Begins, Parts.part-split, Parts.part-first, Parts.last-at, Parts.after-mark, Parts.joined-low, Parts.tape-cut, Parts.mark-index, Parts.live-here, Parts.onward-first, Parts.first-own, Parts.joined-length, Parts.joined-dead, Word.lastCodeFrom, Stretch.last-append, Marks.mark-first, Marks.mark-next, MarkIndex.placed, MarkIndex.own-length, MarkIndex.before-told, MarkIndex.after-told}
 
 -- the count is 0 exactly when no cut is live
 pub counts-none : (m cuts : List ℕ) → (liveCount m cuts ≡ 0) ↔ NoneLive m cuts
 unfolding liveCount
 counts-none m [] = (λ e c i. absurd i, λ f. refl)
 counts-none m (d ∷ cuts) =
-    let one = counts-not (isLive m d) (liveCount m cuts) in
-    let rest = counts-none m cuts in
-    (λ e c. ⊎-elim (λ q. rw q (one .0 e .0)) (λ i. rest .0 (one .0 e .1) c i), λ f. one .1 (f d (inl refl), rest .1 (λ c i. f c (inr i))))
-
--- equal tapes differ nowhere
-differ-nowhere : (s t : List ℕ) (k : ℕ) → t ≡ s → DiffersAt s t k → ⊥
-differ-nowhere s t k e = ⊎-elim (λ n. n .1 (ap (λ (x : List ℕ). getD x (k - 1) 0) (sym e))) (λ n. n (ap (λ (x : List ℕ). getD x (suc k) 0) (sym e)))
+    let rest = counts-none m cuts in (
+      λ e c. let f = refuted (isLive m d) (λ t. omega (arith, rw t at e)) in ⊎-elim (λ q. rw q f) (rest .0 (rw f at e) c),
+      λ f. rw (f d (inl refl)) (rest .1 (λ c i. f c (inr i))),
+    )
 
 -- where two tapes differ just before an index, it is not the first
 apart : (s t : List ℕ) (k : ℕ) → (getD (0 ∷ s) k 0 ≡ getD (0 ∷ t) k 0 → ⊥) → (0 < k) × (getD s (k - 1) 0 ≢ getD t (k - 1) 0)
@@ -76,12 +68,12 @@ module _ (m : List ℕ) (f : NoneFits m) where
   cut-at : (a c : ℕ) (cuts : List ℕ) → Begins m a → RisingFrom m a cuts → CutOf c cuts → CutAt m a c (joinedFrom m a cuts)
   cut-at a c [] b r i = absurd i
   cut-at a c (d ∷ cuts) b r i =
-      ⊎-elim (λ e. rw e (cut-first a d cuts b r)) (λ j. cut-later a c d cuts b r (cut-above m c (suc d) cuts (r .2) j) (cut-at (suc d) c cuts (r .1) (r .2) j)) i
+      ⊎-elim (λ e. rw e (cut-first a d cuts b r)) (λ j. cut-later a c d cuts b r (cut-good m (suc d) cuts (r .2) j .0) (cut-at (suc d) c cuts (r .1) (r .2) j)) i
 
   -- One cut of the list.
   module _ (cuts : List ℕ) (rising : Rising m cuts) (c : ℕ) (cut : CutOf c cuts) where
     break : isBreak (getD m c 0) ≡ true
-    break = cut-break m c 0 cuts rising cut
+    break = cut-good m 0 cuts rising cut .1
 
     -- the tape of the parts, split at its mark
     here : CutAt m 0 c (joined m cuts)
@@ -124,7 +116,7 @@ two-tapes m cuts f r = record {
   parts = parts-none m (none-passes m f) 0 cuts tt (omega arith) r;
   lengths = equal-lengths m cuts r;
   equal = (
-    λ e c i. refuted _ (λ l. differ-nowhere (tape m) (joined m cuts) (markIndex m c) e (differs m f cuts r c i l)),
+    λ e c i. refuted _ (λ l. ⊎-elim (λ n. n .1 refl) (λ n. n refl) (rw e at (differs m f cuts r c i l))),
     λ n. joined-dead m 0 cuts tt r (first-own m) n ∙ onward-first m,
   );
   whole = whole-split m f cuts r;

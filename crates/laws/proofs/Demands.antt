@@ -1,6 +1,6 @@
 -- The operator's three demands, from the promises alone: every operation answers the check's refusal, then number 12, then 11, and else its text, so each way of ending is one case.
 use Rattle.laws.proofs.Kit.{ℕ, _≤_, _≡_, refl, sym, ap, _∙_, cond, _⊎_, inl, inr, ⊎-elim, _↔_, List, [], arith, eqb, length, length-append, length-drop, eq-eqb, ne-eqb, le-leb, lt-leb}
-use Rattle.spec.specs.{Tape.tape, Tape.names, Refusals.refusal, Refusals.checkOf, Refusals.NoneFits, Refusals.Given, Joints.Rising, Joints.joined, Joints.liveCount, Joints.badCutFrom, Joints.badCut, Answers.numberOf, Answers.placeOf, Answers.lengthOf, Answers.liveOf, Answers.checkedNumber, Answers.checkedPlace, Answers.checkedCodes, Answers.checkedNames, Answers.within, Answers.afterCheck, Answers.outputAfter, Answers.nameAnswer, Answers.tapeAnswer, Answers.joinAnswer, Answers.Promise, Answers.CheckPromise, Demands.Due, Demands.turnedAway, Demands.wrongCut, Demands.tooShort, Demands.CarriedOut, Demands.Settled, Demands.CheckTurnedAway, Demands.Exactly, Demands.Demand1, Demands.Demand2, Demands.Demand3, declared.Checked.Checked, declared.Answer.Answer, declared.Answer.the-variants.Written, declared.Answer.the-variants.Refused}
+use Rattle.spec.specs.{Tape.tape, Tape.names, Refusals.refusal, Refusals.checkOf, Refusals.NoneFits, Joints.Rising, Joints.joined, Joints.liveCount, Joints.badCutFrom, Joints.badCut, Answers.numberOf, Answers.placeOf, Answers.lengthOf, Answers.liveOf, Answers.checkedNumber, Answers.checkedPlace, Answers.checkedCodes, Answers.checkedNames, Answers.within, Answers.afterCheck, Answers.outputAfter, Answers.nameAnswer, Answers.tapeAnswer, Answers.joinAnswer, Answers.Promise, Demands.Due, Demands.turnedAway, Demands.wrongCut, Demands.tooShort, Demands.CarriedOut, Demands.Settled, Demands.Exactly, Demands.Demand1, Demands.Demand2, Demands.Demand3, declared.Answer.Answer, declared.Answer.the-variants.Written, declared.Answer.the-variants.Refused}
 use Rattle.laws.proofs.{Accepted.check-finds, Accepted.passes-none, Accepted.none-accepted, Accepted.given-range, Accepted.given-refused, Classes.below-or, Cuts.judged, Cuts.first-bad, Cuts.rising-to, Cuts.full-rising, Cuts.full-every, Cutting.counts-none, Cutting.two-tapes}
 
 -- what is due after the check and the list of cuts
@@ -92,40 +92,12 @@ module _ (m cuts text : List ℕ) (count : ℕ) (out out′ : List ℕ) (r : Ans
         );
       }
 
--- The check.
-module _ (m : List ℕ) (r : Checked) (kept : CheckPromise m r) where
-  -- it accepts, or gives a number and a place
-  check-settled : (checkedNumber r ≡ 0) ⊎ CheckTurnedAway m r
-  unfolding checkedNumber checkedPlace checkedCodes checkedNames
-  check-settled = ⊎-elim (λ f. inl (rw (kept .answer, f .0))) (λ f.
-      inr (rw (kept .answer, f .2) (record { number = given-range (f .3); place = f .3; codes = refl; names = refl }))) (check-finds m)
-
-  -- accepted: nothing fits; and the other way round
-  check-accepts : (checkedNumber r ≡ 0) ↔ NoneFits m
-  unfolding checkedNumber
-  check-accepts = (
-    λ e. ⊎-elim (λ f. passes-none m (f .1)) (λ f. absurd (omega (arith, given-range (f .3) .0, e, kept .number ∙ ap checkedNumber (f .2)))) (check-finds m),
-    λ f. kept .number ∙ ap checkedNumber (none-accepted m f),
-  )
-
-  -- refused: given there; and the other way round
-  check-refuses : (n p : ℕ) → 1 ≤ n → ((checkedNumber r ≡ n) × (checkedPlace r ≡ p)) ↔ Given m n p
-  unfolding checkedNumber checkedPlace
-  check-refuses n p h = (
-    λ e. ⊎-elim (λ f. absurd (omega (arith, e .0, kept .number ∙ ap checkedNumber (f .0)))) (λ f.
-        rw (← e .0, ← e .1, kept .answer, f .2) (f .3)) (check-finds m),
-    λ g. let e = given-refused m n p g in (kept .number ∙ ap checkedNumber e, kept .place ∙ ap checkedPlace e),
-  )
-
-  check-counts : NoneFits m → (checkedCodes r ≡ length (tape m)) × (checkedNames r ≡ length (names m))
-  unfolding checkedCodes checkedNames
-  check-counts f = let e = none-accepted m f in (kept .codes ∙ ap checkedCodes e, kept .names ∙ ap checkedNames e)
-
 -- Demand 1.
 pub demand1 : (m : List ℕ) → Demand1 m
-unfolding nameAnswer tapeAnswer joinAnswer badCut badCutFrom
+unfolding nameAnswer tapeAnswer joinAnswer badCut badCutFrom checkedNumber checkedPlace checkedCodes checkedNames
 demand1 m = record {
-  check = check-settled m;
+  check = λ r kept. ⊎-elim (λ f. inl (rw (kept .answer, f .0)))
+      (λ f. inr (rw (kept .answer, f .2) (record { number = given-range (f .3); place = f .3; codes = refl; names = refl }))) (check-finds m);
   naming = settled m [] (names m) 0;
   transcriber = settled m [] (tape m) 0;
   joiner = λ cuts. settled m cuts (joined m cuts) (liveCount m cuts);
@@ -133,11 +105,17 @@ demand1 m = record {
 
 -- Demand 2.
 pub demand2 : (m : List ℕ) → Demand2 m
-unfolding nameAnswer tapeAnswer joinAnswer badCut badCutFrom
+unfolding nameAnswer tapeAnswer joinAnswer badCut badCutFrom checkedNumber checkedPlace checkedCodes checkedNames
 demand2 m = record {
-  accepts = check-accepts m;
-  refuses = check-refuses m;
-  counts = check-counts m;
+  accepts = λ r kept. (
+    λ e. ⊎-elim (λ f. passes-none m (f .1)) (λ f. absurd (omega (arith, given-range (f .3) .0, e, kept .number ∙ ap checkedNumber (f .2)))) (check-finds m),
+    λ f. kept .number ∙ ap checkedNumber (none-accepted m f),
+  );
+  refuses = λ r kept n p h. (
+    λ e. ⊎-elim (λ f. absurd (omega (arith, e .0, kept .number ∙ ap checkedNumber (f .0)))) (λ f. rw (← e .0, ← e .1, kept .answer, f .2) (f .3)) (check-finds m),
+    λ g. let e = given-refused m n p g in (kept .number ∙ ap checkedNumber e, kept .place ∙ ap checkedPlace e),
+  );
+  counts = λ r kept f. let e = none-accepted m f in (kept .codes ∙ ap checkedCodes e, kept .names ∙ ap checkedNames e);
   transcriber = λ out out′ r k. exactly m [] (tape m) 0 out out′ r k (NoneFits m) (λ f. (f, tt), λ a. a .0);
   naming = λ out out′ r k. exactly m [] (names m) 0 out out′ r k (NoneFits m) (λ f. (f, tt), λ a. a .0);
   joiner = λ cuts out out′ r k. exactly m cuts (joined m cuts) (liveCount m cuts) out out′ r k (NoneFits m × Rising m cuts) (λ a. a, λ a. a);

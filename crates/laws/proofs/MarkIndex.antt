@@ -84,22 +84,6 @@ inside front s rest j h lo hi =
     let e : j ≡ length front + k = omega arith in
     rw (e, getD-append-add front (s ++ rest) k 0, List·getD-append s rest 0 k (omega arith)) (each-at isSound s k h (omega arith))
 
-module _ (m : List ℕ) (counts : Counts) (accepted : checkOf m ≡ Accepted counts) (a e : ℕ) (begins : Begins m a) (le : a ≤ e)
-    (within : e ≤ length m) (ends : Ends m e) (unbroken-here : (i : ℕ) → a ≤ i → i < e → isBreak (getD m i 0) ≡ false) where
-  -- the word from a up to e has sounds only, whatever stands around it
-  word-here : (h n : Bool) → Each isSound (segment h n (read (part m a e)))
-  word-here h n =
-      segment-sounds h n (read (part m a e)) (part-spells m (accepted-passes m counts accepted) a (e - a))
-      (read-marks (part m a e) ∙ unbroken (part m a e) (λ i l.
-      let j : i < e - a = omega (arith, part-length m a e within) in
-      rw (part-at m a e i j) (unbroken-here (a + i) (omega arith) (omega arith))))
-
-  -- Between the marks around a word every code on the tape is a sound: walked back from the mark of e, the next code that is none is the mark of the break before the word.
-  pub sounds-between : (j : ℕ) → markIndex m a ≤ j → j < markIndex m e → isSound (getD (tape m) j 0) ≡ true
-  sounds-between j lo hi =
-      let s = placed m a e begins le ends in
-      rw (s .split) (inside (s .front) (stretch m a e) (s .rest) j (word-here _ _) (omega (arith, s .start)) (omega (arith, s .start, s .size)))
-
 -- a sound is one of 1 to 56
 pub sound-between : (c : ℕ) → isSound c ≡ true → between А* Щ c ≡ true
 unfolding isSound
@@ -109,7 +93,15 @@ sound-between c s = either (between 1 13 c)
 
 module _ (m : List ℕ) where
   module _ {counts : Counts} (accepted : checkOf m ≡ Accepted counts) where
-    -- The last mark before that of a place is the mark of the last break before it.
+    -- a word, from the last break before its end on, has sounds only, whatever stands around it
+    word-here : (b e : ℕ) → e ≤ length m → Last isBreak m e b → (h n : Bool) → Each isSound (segment h n (read (part m (suc b) e)))
+    word-here b e within l h n =
+        segment-sounds h n (read (part m (suc b) e)) (part-spells m (accepted-passes m counts accepted) (suc b) (e - suc b))
+        (read-marks (part m (suc b) e) ∙ unbroken (part m (suc b) e) (λ i k.
+        let j : i < e - suc b = omega (arith, part-length m (suc b) e within) in
+        rw (part-at m (suc b) e i j) (l .past (suc b + i) (omega arith) (omega arith))))
+
+    -- The last mark before that of a place is the mark of the last break before it, since every code between them is a sound.
     pub last-mark : (b e : ℕ) → e ≤ length m → Ends m e → Last isBreak m e b → Last isNoSound (tape m) (markIndex m e) (markIndex m b)
     last-mark b e within ends l =
         let s = placed m (suc b) e (l .here) (l .below) ends in
@@ -117,7 +109,8 @@ module _ (m : List ℕ) where
         record {
           below = omega (arith, s .size, n);
           here = rw (mark-there m b (l .here)) (mark-both (λ c. isNoSound c ≡ true) (getD m b 0) refl refl);
-          past = λ j lo hi. ap not (sound-between _ (sounds-between m counts accepted (suc b) e (l .here) (l .below) within ends (λ i p q. l .past i p q) j (omega (arith, n)) hi));
+          past = λ j lo hi. rw (s .split) (ap not (sound-between _
+              (inside (s .front) (stretch m (suc b) e) (s .rest) j (word-here b e within l _ _) (omega (arith, s .start, n)) (omega (arith, s .start, s .size)))));
         }
 
     -- A voiced code before the mark of a break, on the whole tape, is one that a cut there changes.

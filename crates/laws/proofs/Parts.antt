@@ -1,7 +1,7 @@
 -- A message from a place on, whole and in parts: each cut splits both tapes at its mark, and the two sides differ in the bits that come from over the cut alone.
 use Rattle.laws.proofs.Kit.{ℕ, zero, suc, _+_, _-_, _<_, _≤_, _≡_, refl, sym, ap, _∙_, Bool, true, false, _&&_, _||_, and-comm, and-or-distrib-left, inl, inr, List, [], _∷_, _++_, append-nil, arith, length, take, drop, getD, length-append, take-append-drop, drop-cons, drop-drop, drop-append-add, take-add, getD-at}
 use Rattle.spec.specs.{Letters.read, Letters.firstByte, Letters.firstWord, Letters.lastWord, Letters.isGap, Letters.isBreak, Codes.markOf, Voicing.voices, Vowels.endsHard, Palatalization.firstCode, Tape.segment, Tape.tape, Joints.RisingFrom, Joints.joinedFrom, Joints.markIndex, Joints.wordBefore, Joints.wordAfter, Joints.endsInObstruent, Joints.beginsWithIOrE, Joints.liveByVoice, Joints.liveByHardness, Joints.isLive, Joints.NoneLive}
-use Rattle.laws.proofs.{Word.isHigh, Word.isIOrE, Word.lastCodeFrom, Beside.segment-starts, Cuts.break-within, Stretch.first-meet, Stretch.last-meet, Stretch.read-join, Stretch.segment-join, Stretch.segment-length, Stretch.segment-quiet, Stretch.segment-firm}
+use Rattle.laws.proofs.{Word.isHigh, Word.isIOrE, Word.lastCodeFrom, Beside.segment-starts, Cuts.break-within, Stretch.meet, Stretch.first-meet, Stretch.last-meet, Stretch.read-join, Stretch.segment-join, Stretch.segment-length, Stretch.segment-quiet, Stretch.segment-firm}
 pub use Rattle.laws.proofs.Classes.{or-false}
 
 -- the bytes from place a up to place c
@@ -82,19 +82,18 @@ module _ (m : List ℕ) where
       rw (e, read-join (part m 0 d) (part m (suc d) c) (getD m d 0) b, last-meet)
 
   module _ (a c : ℕ) (begins : Begins m a) (le : a ≤ c) (break : isBreak (getD m c 0) ≡ true) where
+    -- what is read from its start on
+    read-rest : read (drop a m) ≡ meet (read (part m a c)) (getD m c 0) (read (drop (suc c) m))
+    read-rest = ap read (rest-split a c le (break-within m c break)) ∙ read-join (part m a c) (drop (suc c) m) (getD m c 0) break
+
     -- the first word of a part is the first one from its start on
     first-word : firstWord (read (drop a m)) ≡ firstWord (read (part m a c))
-    first-word =
-        ap (λ (t : List ℕ). firstWord (read t)) (rest-split a c le (break-within m c break))
-        ∙ rw (read-join (part m a c) (drop (suc c) m) (getD m c 0) break) (first-meet (read (part m a c)) (getD m c 0) (read (drop (suc c) m)))
+    first-word = rw (read-rest, first-meet)
 
     -- The whole message's tape at a break: the part before it with the bits from its neighbours, the mark, and the rest.
     pub onward-cut : onward m a ≡ segment (hardAt m a) (voicedAt m c) (read (part m a c)) ++ (markOf (getD m c 0) ∷ onward m (suc c))
     unfolding onward voicedAt hardAt
-    onward-cut =
-        let lt = break-within m c break in
-        ap (λ (t : List ℕ). segment (hardAt m a) false (read t)) (rest-split a c le lt)
-        ∙ rw (read-join (part m a c) (drop (suc c) m) (getD m c 0) break, segment-join, word-before a c begins le lt)
+    onward-cut = rw (read-rest, segment-join, word-before a c begins le (break-within m c break))
 
     -- a part whose first and last codes nothing changes has its own tape in the whole
     pub part-own : changedAfter m a ≡ false → changedBefore m c ≡ false → tape (part m a c) ≡ segment (hardAt m a) (voicedAt m c) (read (part m a c))
