@@ -1,29 +1,23 @@
 -- What the codes at the two ends of a stretch tell of the bits that come from its neighbours: the last one is voiced just where the bit of what follows voices an obstruent, and at the
 -- start и and э sound Ы just behind a hard boundary. Why: only pass 4's last step looks at what follows, and only the first letter's row at what stands before.
-use Rattle.laws.proofs.Kit.{ℕ, suc, _≡_, refl, sym, _∙_, Bool, true, false, cond, not, _&&_, and-true, and-false, and-eq-true-iff, true≢false, List, [], _∷_, _++_, append-assoc}
+use Rattle.laws.proofs.Kit.{ℕ, suc, _≡_, refl, sym, _∙_, Bool, true, false, cond, not, _&&_, and-true, and-false, and-eq-true-iff, true≢false, List, [], _∷_, _++_, append-assoc, not-true}
 use Rattle.spec.specs.{Letters.Letter, Letters.Message, Letters.last, Letters.more, Letters.firstByte, Letters.firstWord, Letters.lastWord, Letters.obstruents, Letters.isObstruent, Codes.markOf, Codes.isSound, Vowels.Phone, Voicing.voiced, Voicing.voiceless, Voicing.voicedCode, Voicing.voicelessCode, Voicing.toneOf, Voicing.toned, Voicing.voiceOne, Voicing.voice, Palatalization.isSoft, Palatalization.firstCode, Palatalization.palatalize, Tape.wordTape, Tape.segment, Joints.endsInObstruent, Joints.beginsWithIOrE}
 use Rattle.spec.proofs.Computed.{everything}
 use Rattle.laws.proofs.{Codes.Spells, Codes.isVoiced, Codes.both, Codes.fine, Codes.Fine, Codes.word-fine, Codes.soft-both, Classes.mark-both, Classes.either, Classes.among-same, Word.lastCodeFrom, Word.endsToned, Word.word-toned, Word.word-starts, Stretch.last-append}
 pub use Rattle.laws.proofs.{Word.isHigh, Word.isIOrE, Codes.isVoiced}
 
--- a test has this answer
-abbrev is : Bool → Bool → Bool
-is true t = t
-is false t = not t
-
--- so it is the test's
-told : (r t : Bool) → is r t ≡ true → t ≡ r
+-- a test that has this answer
+told : (r t : Bool) → cond r t (not t) ≡ true → t ≡ r
 told true t e = e
-told false true e = sym e
-told false false e = refl
+told false t e = not-true t e
 
 -- The code c of a letter b is a voiced obstruent's or not, and so is its palatalized one.
 abbrev keeps : Bool → ℕ → ℕ → Bool
-keeps r = both (λ c. is r (isVoiced c))
+keeps r = both (λ c. cond r (isVoiced c) (not (isVoiced c)))
 
 -- pass 5
 soft-keeps : (r : Bool) (x : Phone) (n c : ℕ) → keeps r (x .letter) c ≡ true → isVoiced (cond (isSoft x n) (suc c) c) ≡ r
-soft-keeps r x n c k = told r _ (soft-both (λ c. is r (isVoiced c)) x n c k)
+soft-keeps r x n c k = told r _ (soft-both (λ c. cond r (isVoiced c) (not (isVoiced c))) x n c k)
 
 -- an obstruent at the end of a word, voiced or not
 toned-keeps : (n : Bool) (b c : ℕ) → isObstruent b ≡ true → keeps n b (toned (cond n voiced voiceless) b c) ≡ true

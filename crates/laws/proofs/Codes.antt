@@ -84,6 +84,10 @@ vowel-plain hard p s b h = alike (s .level) ∙ among-same (λ x. plain (vowelSo
     alike First = simp (cond-app plain, cond-same)
     alike Second = simp (cond-app plain, cond-same)
 
+-- so it is a sound
+pub vowel-sound : (hard : Bool) (p : ℕ) (s : Syllable) (b : ℕ) → isVowel b ≡ true → isSound (vowelSound hard p s b) ≡ true
+vowel-sound hard p s b h = and-eq-true-iff (isSound (vowelSound hard p s b)) _ .0 (vowel-plain hard p s b h) .0
+
 -- a consonant's sound as written
 written-fine : (b : ℕ) → isConsonant b ≡ true → fine b (writtenCode b) ≡ true
 unfolding everything isSound fine both

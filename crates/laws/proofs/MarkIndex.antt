@@ -85,11 +85,11 @@ inside front s rest j h lo hi =
     rw (e, getD-append-add front (s ++ rest) k 0, List·getD-append s rest 0 k (omega arith)) (each-at isSound s k h (omega arith))
 
 -- a sound is one of 1 to 56
-pub sound-between : (c : ℕ) → isSound c ≡ true → between А* Щ c ≡ true
+pub sound-range : (c : ℕ) → isSound c ≡ true → (1 ≤ c) × (c ≤ 56)
 unfolding isSound
-sound-between c s = either (between 1 13 c)
-    (λ q. let a = and-eq-true-iff (leb 1 c) (leb c 13) .0 q in rw (a .0) (le-leb c 56 (omega (arith, leb-true c 13 (a .1)))))
-    (λ q. let a = and-eq-true-iff (leb 16 c) (leb c 56) .0 (rw q at s) in rw (le-leb 1 c (omega (arith, leb-true 16 c (a .0)))) (a .1))
+sound-range c s = either (between 1 13 c)
+    (λ q. let a = and-eq-true-iff (leb 1 c) (leb c 13) .0 q in (leb-true 1 c (a .0), omega (arith, leb-true c 13 (a .1))))
+    (λ q. let a = and-eq-true-iff (leb 16 c) (leb c 56) .0 (rw q at s) in (omega (arith, leb-true 16 c (a .0)), leb-true c 56 (a .1)))
 
 module _ (m : List ℕ) where
   module _ {counts : Counts} (accepted : checkOf m ≡ Accepted counts) where
@@ -109,8 +109,9 @@ module _ (m : List ℕ) where
         record {
           below = omega (arith, s .size, n);
           here = rw (mark-there m b (l .here)) (mark-both (λ c. isNoSound c ≡ true) (getD m b 0) refl refl);
-          past = λ j lo hi. rw (s .split) (ap not (sound-between _
-              (inside (s .front) (stretch m (suc b) e) (s .rest) j (word-here b e within l _ _) (omega (arith, s .start, n)) (omega (arith, s .start, s .size)))));
+          past = λ j lo hi. rw (s .split)
+              (let r = sound-range _ (inside (s .front) (stretch m (suc b) e) (s .rest) j (word-here b e within l _ _) (omega (arith, s .start, n)) (omega (arith, s .start, s .size))) in
+              rw (le-leb А* _ (r .0), le-leb _ Щ (r .1)));
         }
 
     -- A voiced code before the mark of a break, on the whole tape, is one that a cut there changes.

@@ -1,5 +1,5 @@
 -- A part of an accepted message, cut at its breaks, is accepted: every row looks back no further than the break before, and a break last in a part would stand before a break or last in the message.
-use Rattle.laws.proofs.Kit.{ℕ, zero, suc, _+_, _-_, _<_, _≤_, _≡_, refl, sym, _∙_, Bool, true, false, _||_, or-true, true≢false, List, [], _∷_, _++_, _⊎_, inl, inr, ⊎-elim, arith, length, take, drop, getD, length-take, length-drop, take-all, take-append-drop, drop-cons, drop-drop, drop-length, getD-take, getD-drop}
+use Rattle.laws.proofs.Kit.{ℕ, zero, suc, _+_, _-_, _<_, _≤_, _≡_, refl, sym, _∙_, Bool, true, false, _||_, or-true, true≢false, List, [], _∷_, _++_, append-nil, _⊎_, inl, inr, ⊎-elim, arith, length, take, drop, getD, length-take, length-drop, take-all, take-append-drop, drop-cons, drop-drop, drop-length, getD-take, getD-drop}
 use Rattle.spec.specs.{Letters.isBreak, Letters.isMark, Refusals.vowelByte, Refusals.signByte, Refusals.hardSignByte, Refusals.first, Refusals.none, Refusals.adjacent, Refusals.vowelSign, Refusals.lettersBefore, Refusals.row3, Refusals.row4, Refusals.row5, Refusals.row6, Refusals.row7, Refusals.row8, Refusals.row9, Refusals.row10, Refusals.rows, Refusals.fitsIn, Refusals.beforeAt, Refusals.checkOf, Refusals.NoneFits, Joints.RisingFrom, Joints.EachPartFrom, declared.Counts.Counts, declared.Checked.the-variants.Accepted}
 use Rattle.laws.proofs.{Accepted.countsOf, Accepted.Clear, Accepted.Passes, Accepted.ClearFrom, Accepted.places-clear, Accepted.clear-places, Accepted.accepted-passes, Accepted.passes-accepted, Accepted.passes-none, Classes.cond-app, Classes.either, Classes.refuted, Classes.NoBreak, Classes.break-mark, Classes.break-vowel, Classes.break-sign, Classes.break-hard-sign, Classes.or-false, Cuts.break-within, Parts.part, Parts.Begins}
 
@@ -14,57 +14,55 @@ unfolding beforeAt
 begins-opens m zero b = tt
 begins-opens m (suc c) b = b
 
--- Each test of the bytes before a byte stops at a break, so it says the same of the part's bytes x alone. First the byte right before.
-first-over : (class : ℕ → Bool) → NoBreak class → (t : List ℕ) → Opens t → (x : List ℕ) → first class (x ++ t) ≡ first class x
-unfolding first
-first-over class n [] o [] = refl
-first-over class n (d ∷ t) o [] = n d o
-first-over class n t o (b ∷ x) = refl
+-- Each test of the bytes before a byte stops at a break d, so it says the same of a part's bytes x alone.
+module _ (d : ℕ) (t : List ℕ) (o : isBreak d ≡ true) where
+  -- of the byte right before
+  first-over : (class : ℕ → Bool) → NoBreak class → (x : List ℕ) → first class (x ++ (d ∷ t)) ≡ first class x
+  unfolding first
+  first-over class n [] = n d o
+  first-over class n (b ∷ x) = refl
 
--- is it the start of a word, or does something else hold?
-start-over : (y : Bool) (t : List ℕ) → Opens t → (x : List ℕ) → (none (x ++ t) || (y || first isBreak (x ++ t))) ≡ (none x || (y || first isBreak x))
-unfolding none first
-start-over y [] o [] = refl
-start-over y (d ∷ t) o [] = rw (o, or-true)
-start-over y t o (b ∷ x) = refl
+  -- is it the start of a word, or does something else hold?
+  start-over : (y : Bool) (x : List ℕ) → (none (x ++ (d ∷ t)) || (y || first isBreak (x ++ (d ∷ t)))) ≡ (none x || (y || first isBreak x))
+  unfolding none first
+  start-over y [] = rw (o, or-true)
+  start-over y (b ∷ x) = refl
 
--- a test that stops at a break stops there from the adjacent letter on
-adjacent-over : (f : List ℕ → Bool) (t : List ℕ) → Opens t → ((x : List ℕ) → f (x ++ t) ≡ f x) → (x : List ℕ) → f (adjacent (x ++ t)) ≡ f (adjacent x)
-unfolding adjacent
-adjacent-over f [] o h [] = refl
-adjacent-over f (d ∷ t) o h [] = rw (break-mark d o) (h [])
-adjacent-over f t o h (b ∷ x) = rw (cond-app f (isMark b) (x ++ t) (b ∷ (x ++ t)), h x, h (b ∷ x)) (sym (cond-app f (isMark b) x (b ∷ x)))
+  -- a test that stops at a break stops there from the adjacent letter on
+  adjacent-over : (f : List ℕ → Bool) → ((x : List ℕ) → f (x ++ (d ∷ t)) ≡ f x) → (x : List ℕ) → f (adjacent (x ++ (d ∷ t))) ≡ f (adjacent x)
+  unfolding adjacent
+  adjacent-over f h [] = rw (break-mark d o) (h [])
+  adjacent-over f h (b ∷ x) = rw (cond-app f (isMark b) (x ++ (d ∷ t)) (b ∷ (x ++ (d ∷ t))), h x, h (b ∷ x)) (sym (cond-app f (isMark b) x (b ∷ x)))
 
--- the class of the adjacent letter
-near-over : (class : ℕ → Bool) → NoBreak class → (t : List ℕ) → Opens t → (x : List ℕ) → first class (adjacent (x ++ t)) ≡ first class (adjacent x)
-near-over class n t o = adjacent-over (first class) t o (first-over class n t o)
+  -- the class of the adjacent letter
+  near-over : (class : ℕ → Bool) → NoBreak class → (x : List ℕ) → first class (adjacent (x ++ (d ∷ t))) ≡ first class (adjacent x)
+  near-over class n = adjacent-over (first class) (first-over class n)
 
--- a sign after a vowel
-sign-over : (t : List ℕ) → Opens t → (x : List ℕ) → vowelSign (x ++ t) ≡ vowelSign x
-unfolding vowelSign
-sign-over [] o [] = refl
-sign-over (d ∷ t) o [] = rw (break-sign d o)
-sign-over t o (b ∷ x) = rw (near-over vowelByte break-vowel t o x)
+  -- a sign after a vowel
+  sign-over : (x : List ℕ) → vowelSign (x ++ (d ∷ t)) ≡ vowelSign x
+  unfolding vowelSign
+  sign-over [] = rw (break-sign d o)
+  sign-over (b ∷ x) = rw (near-over vowelByte break-vowel x)
 
--- the letters of the word
-letters-over : (t : List ℕ) → Opens t → (x : List ℕ) → lettersBefore (x ++ t) ≡ lettersBefore x
-unfolding lettersBefore
-letters-over [] o [] = refl
-letters-over (d ∷ t) o [] = rw o
-letters-over t o (b ∷ x) = rw (letters-over t o x)
+  -- the letters of the word
+  letters-over : (x : List ℕ) → lettersBefore (x ++ (d ∷ t)) ≡ lettersBefore x
+  unfolding lettersBefore
+  letters-over [] = rw o
+  letters-over (b ∷ x) = rw (letters-over x)
 
 -- So a row fits after the bytes of a part just when it fits after those and what stands before the part.
 pub rows-over : (k : ℕ) (x t : List ℕ) (b : ℕ) (after : List ℕ) → Opens t → fitsIn rows k (x ++ t) b after ≡ fitsIn rows k x b after
 unfolding fitsIn rows row3 row4 row5 row6 row7 row8 row9 row10
-rows-over k x t b after o =
+rows-over k x [] b after o = rw append-nil
+rows-over k x (d ∷ t) b after o =
     rw (
-      start-over (none after) t o x,
-      start-over false t o x,
-      first-over vowelByte break-vowel t o x,
-      near-over signByte break-sign t o x,
-      near-over hardSignByte break-hard-sign t o x,
-      adjacent-over vowelSign t o (sign-over t o) x,
-      letters-over t o x,
+      start-over d t o (none after) x,
+      start-over d t o false x,
+      first-over d t o vowelByte break-vowel x,
+      near-over d t o signByte break-sign x,
+      near-over d t o hardSignByte break-hard-sign x,
+      adjacent-over d t o vowelSign (sign-over d t o) x,
+      letters-over d t o x,
     )
 
 -- Of the bytes after it a row asks only whether a break is last.
