@@ -4,93 +4,80 @@ use Rattle.spec.specs.{Tape.tape, Tape.names, Refusals.refusal, Refusals.checkO
 use Rattle.laws.proofs.{Accepted.check-finds, Accepted.passes-none, Accepted.none-accepted, Accepted.given-range, Accepted.given-refused, Classes.below-or, Cuts.judged, Cuts.first-bad, Cuts.rising-to, Cuts.full-rising, Cuts.full-every, Cutting.counts-none, Cutting.two-tapes}
 
 -- what is due after the check and the list of cuts
-abbrev dueAfter : List ℕ → List ℕ → ℕ → ℕ → ℕ → Answer
-dueAfter m cuts size room count =
-    afterCheck (checkOf m) (cond (eqb (badCut m cuts) (length cuts)) (within room size count) (Refused (refusal 12 (badCut m cuts))))
+abbrev dueAfter : List ℕ → List ℕ → List ℕ → ℕ → List ℕ → Answer
+dueAfter m cuts text count out =
+    afterCheck (checkOf m) (cond (eqb (badCut m cuts) (length cuts)) (within (length out) (length text) count) (Refused (refusal 12 (badCut m cuts))))
 
 -- The ways in which an operation can end.
-abbrev Ends : List ℕ → List ℕ → ℕ → ℕ → ℕ → Type 0
-Ends m cuts size room count =
-    let due = dueAfter m cuts size room count in
-    ((due ≡ Written size count) × NoneFits m × Rising m cuts × (size ≤ room)) ⊎ ((n : ℕ) × (p : ℕ) × (due ≡ Refused (refusal n p)) × Due m cuts size room n p)
+abbrev Ends : List ℕ → List ℕ → List ℕ → ℕ → List ℕ → Type 0
+Ends m cuts text count out =
+    let due = dueAfter m cuts text count out in
+    ((due ≡ Written (length text) count) × NoneFits m × Rising m cuts × (length text ≤ length out))
+    ⊎ ((n : ℕ) × (p : ℕ) × (due ≡ Refused (refusal n p)) × Due m cuts (length text) (length out) n p × (1 ≤ n) × (n ≤ 12))
 
-module _ (m cuts : List ℕ) (size room count : ℕ) where
+module _ (m cuts text : List ℕ) (count : ℕ) (out : List ℕ) where
   -- accepted with room: written
-  written-due : NoneFits m → Rising m cuts → size ≤ room → dueAfter m cuts size room count ≡ Written size count
+  written-due : NoneFits m → Rising m cuts → length text ≤ length out → dueAfter m cuts text count out ≡ Written (length text) count
   unfolding afterCheck within
-  written-due f r h = rw (none-accepted m f, eq-eqb _ _ (rising-to m cuts r), le-leb size room h)
+  written-due f r h = rw (none-accepted m f, eq-eqb _ _ (rising-to m cuts r), le-leb (length text) (length out) h)
 
   -- a number and its place: refused so
-  refused-due : (n p : ℕ) → Due m cuts size room n p → dueAfter m cuts size room count ≡ Refused (refusal n p)
+  refused-due : (n p : ℕ) → Due m cuts (length text) (length out) n p → dueAfter m cuts text count out ≡ Refused (refusal n p)
   unfolding afterCheck within
   refused-due n p (turnedAway k q g) = rw (given-refused m k q g)
   refused-due n p (wrongCut i f b) = rw (none-accepted m f, first-bad m cuts i b, ne-eqb i (length cuts) (omega (arith, b .within)))
-  refused-due n p (tooShort f r h) = rw (none-accepted m f, eq-eqb _ _ (rising-to m cuts r), lt-leb size room h)
-
-  -- such a number is 1 to 12
-  due-range : (n p : ℕ) → Due m cuts size room n p → (1 ≤ n) × (n ≤ 12)
-  due-range n p (turnedAway k q g) = let r = given-range g in (r .0, omega arith)
-  due-range n p (wrongCut i f b) = (omega arith, omega arith)
-  due-range n p (tooShort f r h) = (omega arith, omega arith)
+  refused-due n p (tooShort f r h) = rw (none-accepted m f, eq-eqb _ _ (rising-to m cuts r), lt-leb (length text) (length out) h)
 
   -- what is due is one of them
-  ends : Ends m cuts size room count
+  ends : Ends m cuts text count out
   ends = ⊎-elim
       (λ a. let f = passes-none m (a .1) in
-      ⊎-elim (λ r. ⊎-elim (λ h. refused (tooShort f r h)) (λ h. inl (written-due f r h, f, r, h)) (below-or room size)) (λ b. refused (wrongCut _ f b)) (judged m cuts))
-      (λ a. refused (turnedAway _ _ (a .3))) (check-finds m)
+      ⊎-elim (λ r. ⊎-elim (λ h. refused (tooShort f r h) (omega arith) (omega arith)) (λ h. inl (written-due f r h, f, r, h)) (below-or (length out) (length text)))
+      (λ b. refused (wrongCut _ f b) (omega arith) (omega arith)) (judged m cuts))
+      (λ a. let g = given-range (a .3) in refused (turnedAway _ _ (a .3)) (g .0) (omega arith)) (check-finds m)
     where
-      refused : {n p : ℕ} → Due m cuts size room n p → Ends m cuts size room count
-      refused d = inr (_, _, refused-due _ _ d, d)
+      refused : {n p : ℕ} → Due m cuts (length text) (length out) n p → 1 ≤ n → n ≤ 12 → Ends m cuts text count out
+      refused d lo hi = inr (_, _, refused-due _ _ d, d, lo, hi)
 
--- what is promised of an answer that is written
-carried : (text : List ℕ) (count : ℕ) (out out′ : List ℕ) (r : Answer) → Promise (Written (length text) count) text out out′ r → CarriedOut text count out out′ r
-unfolding outputAfter numberOf placeOf lengthOf liveOf
-carried text count out out′ r p = record { output = p .output; number = p .number; place = p .place; length = p .length; live = p .live }
+  -- An operation that promises what is due.
+  module _ (out′ : List ℕ) (r : Answer) (kept : Promise (dueAfter m cuts text count out) text out out′ r) where
+    -- carries it out where that is its text
+    carried : dueAfter m cuts text count out ≡ Written (length text) count → CarriedOut text count out out′ r
+    unfolding outputAfter numberOf placeOf lengthOf liveOf
+    carried e = let p = rw e at kept in record { output = p .output; number = p .number; place = p .place; length = p .length; live = p .live }
 
--- An operation that promises what is due.
-module _ (m cuts text : List ℕ) (count : ℕ) (out out′ : List ℕ) (r : Answer)
-    (kept : Promise (dueAfter m cuts (length text) (length out) count) text out out′ r) where
-  -- is settled
-  settled : Settled (Due m cuts (length text) (length out)) text count out out′ r
-  unfolding outputAfter numberOf placeOf lengthOf liveOf
-  settled = ⊎-elim
-      (λ w. let p = rw (w .0) at kept in
-      record { ended = inl (carried text count out out′ r p); size = ap length (p .output) ∙ simp (length-append, length-drop) (omega (arith, w .3)) })
-      (λ d.
-      let p = rw (d .2) at kept in
-      let n = due-range m cuts (length text) (length out) count _ _ (d .3) in
-      record {
-        ended = inr (record {
-          output = p .output;
-          number = (omega (arith, p .number, n .0), omega (arith, p .number, n .1));
-          place = rw (p .number, p .place) (d .3);
-          length = p .length;
-          live = p .live;
-        });
-        size = ap length (p .output);
-      }) (ends m cuts (length text) (length out) count)
+    -- is settled
+    settled : Settled (Due m cuts (length text) (length out)) text count out out′ r
+    unfolding outputAfter numberOf placeOf lengthOf liveOf
+    settled = ⊎-elim
+        (λ w. let c = carried (w .0) in record { ended = inl c; size = ap length (c .output) ∙ simp (length-append, length-drop) (omega (arith, w .3)) })
+        (λ d.
+        let p = rw (d .2) at kept in
+        record {
+          ended = inr (record {
+            output = p .output;
+            number = (omega (arith, p .number, d .4), omega (arith, p .number, d .5));
+            place = rw (p .number, p .place) (d .3);
+            length = p .length;
+            live = p .live;
+          });
+          size = ap length (p .output);
+        }) ends
 
-  -- and exact
-  exactly : (Accepted : Type 0) → (Accepted ↔ (NoneFits m × Rising m cuts)) → Exactly Accepted (Due m cuts (length text) (length out)) text count out out′ r
-  unfolding numberOf placeOf
-  exactly Accepted same =
-      let e = ends m cuts (length text) (length out) count in
-      let given : length text ≤ length out → Accepted → CarriedOut text count out out′ r = λ h a.
-      carried text count out out′ r (rw (written-due m cuts (length text) (length out) count (same .0 a .0) (same .0 a .1) h) at kept) in
-      record {
-        accepts = λ h. (
-          λ z. same .1 (⊎-elim (λ w. (w .1, w .2))
-              (λ d. absurd (omega (arith, z, kept .number ∙ ap numberOf (d .2), due-range m cuts (length text) (length out) count _ _ (d .3) .0))) e),
-          λ a. given h a .number,
-        );
-        gives = given;
-        refuses = λ n p h. (
-          λ q. ⊎-elim (λ w. absurd (omega (arith, q .0, kept .number ∙ ap numberOf (w .0))))
-              (λ d. rw (← q .0, ← q .1, kept .number, kept .place, d .2) (d .3)) e,
-          λ d. let e = refused-due m cuts (length text) (length out) count n p d in (kept .number ∙ ap numberOf e, kept .place ∙ ap placeOf e),
-        );
-      }
+    -- and exact
+    exactly : (Accepted : Type 0) → (Accepted ↔ (NoneFits m × Rising m cuts)) → Exactly Accepted (Due m cuts (length text) (length out)) text count out out′ r
+    unfolding numberOf placeOf
+    exactly Accepted same = record {
+      accepts = λ h. (
+        λ z. same .1 (⊎-elim (λ w. (w .1, w .2)) (λ d. absurd (omega (arith, z, kept .number ∙ ap numberOf (d .2), d .4))) ends),
+        λ a. carried (written-due (same .0 a .0) (same .0 a .1) h) .number,
+      );
+      gives = λ h a. carried (written-due (same .0 a .0) (same .0 a .1) h);
+      refuses = λ n p h. (
+        λ q. ⊎-elim (λ w. absurd (omega (arith, q .0, kept .number ∙ ap numberOf (w .0)))) (λ d. rw (← q .0, ← q .1, kept .number, kept .place, d .2) (d .3)) ends,
+        λ d. let e = refused-due n p d in (kept .number ∙ ap numberOf e, kept .place ∙ ap placeOf e),
+      );
+    }
 
 -- Demand 1.
 pub demand1 : (m : List ℕ) → Demand1 m
