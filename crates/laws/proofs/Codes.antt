@@ -1,7 +1,7 @@
 -- The codes of a tape. Every letter of an accepted message is one of the alphabet, so each code of its words is a sound, 1 to 13 or 16 to 56,
 -- and the marks on its tape are those of its breaks.
-use Rattle.laws.proofs.Kit.{ℕ, zero, suc, _+_, _-_, _<_, _≡_, refl, sym, ap, _∙_, Bool, true, false, cond, not, _&&_, _||_, and-eq-true-iff, and-true, or-false, false≢true, List, [], _∷_, _++_, arith, eqb, length, take, drop, getD, length-take, length-drop, take-length, getD-take, getD-drop, eqb-true, not-false}
-use Rattle.spec.specs.{Letters.Letter, Letters.Message, Letters.last, Letters.more, Letters.read, Letters.putLetter, Letters.hardOnly, Letters.paired, Letters.softOnly, Letters.plainVowels, Letters.softeningVowels, Letters.obstruents, Letters.between, Letters.isGap, Letters.isBreak, Letters.isMark, Letters.isPaired, Letters.isConsonant, Letters.isSign, Letters.isVowel, Letters.isObstruent, Codes.Б, Codes.З', Codes.J, Codes.Ц1, Codes.Ч1, Codes.markOf, Codes.isMarkCode, Codes.isSound, Codes.isCode, Elision.elides, Elision.elideFrom, Elision.elide, Syllables.Facts, Syllables.factsOf, Syllables.syllableOf, Syllables.nameIn, Syllables.nameOf, Syllables.isName, Syllables.incomplete, Syllables.namesFrom, Vowels.Phone, Vowels.vowelSound, Vowels.writtenCode, Vowels.phonesFrom, Vowels.endsHard, Voicing.Tone, Voicing.voiced, Voicing.voiceless, Voicing.asWritten, Voicing.voicedCode, Voicing.voicelessCode, Voicing.voices, Voicing.toneOf, Voicing.toned, Voicing.codesOf, Voicing.voiceOne, Voicing.voice, Palatalization.isSoft, Palatalization.palatalize, Tape.wordTape, Tape.segment, Tape.tape, Tape.wordNames, Tape.namesOf, Tape.names, Refusals.consonantByte, Refusals.signByte, Refusals.vowelByte, Refusals.letterByte, Refusals.row3, Refusals.rows, Refusals.fitsIn, Refusals.NoneFits, Joints.joinedFrom, Joints.joined, Joints.marksOf, Joints.breakMarks, declared.Cover.Cover, declared.Cover.the-variants.Bare, declared.Cover.the-variants.Covered, declared.Syllable.Syllable, declared.Level.Level, declared.Level.the-variants.Stressed, declared.Level.the-variants.First, declared.Level.the-variants.Second}
+use Rattle.laws.proofs.Kit.{ℕ, zero, suc, _+_, _-_, _<_, _≡_, refl, sym, ap, _∙_, Bool, true, false, cond, not, _&&_, _||_, and-eq-true-iff, and-true, or-false, true≢false, List, [], _∷_, _++_, arith, eqb, length, take, drop, getD, length-take, length-drop, take-length, getD-take, getD-drop, not-false}
+use Rattle.spec.specs.{Tables.among, Letters.Letter, Letters.Message, Letters.last, Letters.more, Letters.read, Letters.putLetter, Letters.hardOnly, Letters.paired, Letters.softOnly, Letters.plainVowels, Letters.softeningVowels, Letters.obstruents, Letters.between, Letters.isGap, Letters.isBreak, Letters.isMark, Letters.isPaired, Letters.isConsonant, Letters.isSign, Letters.isVowel, Letters.isObstruent, Codes.Б, Codes.З', Codes.J, Codes.Ц1, Codes.Ч1, Codes.markOf, Codes.isMarkCode, Codes.isSound, Codes.isCode, Elision.elides, Elision.elideFrom, Elision.elide, Syllables.Facts, Syllables.factsOf, Syllables.syllableOf, Syllables.nameIn, Syllables.nameOf, Syllables.isName, Syllables.incomplete, Syllables.namesFrom, Vowels.Phone, Vowels.vowelSound, Vowels.writtenCode, Vowels.phonesFrom, Vowels.endsHard, Voicing.Tone, Voicing.voiced, Voicing.voiceless, Voicing.asWritten, Voicing.voicedCode, Voicing.voicelessCode, Voicing.voices, Voicing.toneOf, Voicing.toned, Voicing.codesOf, Voicing.voiceOne, Voicing.voice, Palatalization.isSoft, Palatalization.palatalize, Tape.wordTape, Tape.segment, Tape.tape, Tape.wordNames, Tape.namesOf, Tape.names, Refusals.consonantByte, Refusals.signByte, Refusals.vowelByte, Refusals.letterByte, Refusals.row3, Refusals.rows, Refusals.fitsIn, Refusals.NoneFits, Joints.joinedFrom, Joints.joined, Joints.marksOf, Joints.breakMarks, declared.Cover.Cover, declared.Cover.the-variants.Bare, declared.Cover.the-variants.Covered, declared.Syllable.Syllable, declared.Level.Level, declared.Level.the-variants.Stressed, declared.Level.the-variants.First, declared.Level.the-variants.Second}
 use Rattle.spec.proofs.Computed.{everything}
 use Rattle.laws.proofs.{Classes.cond-both, Classes.mark-both, Classes.cond-app, Classes.cond-same, Classes.either, Classes.refuted, Classes.among-same, Classes.vowel-single, Classes.vowel-quiet, Word.phones-cases, Accepted.Passes, Accepted.none-passes}
 
@@ -155,16 +155,12 @@ part-spells m p a n =
     let k = simp (length-take, length-drop) at l in
     rw (getD-take n (drop a m) i 0 (omega arith), getD-drop) (p .rows (a + i) (omega arith) 3))
 
--- a sound is no mark of a break
-sound-unmarked : (c : ℕ) → isSound c ≡ true → isMarkCode c ≡ false
-unfolding isSound isMarkCode
-sound-unmarked c s = rw (refuted (eqb c 0) (λ q. false≢true (rw (eqb-true c 0 q) at s)), refuted (eqb c 63) (λ q. false≢true (rw (eqb-true c 63 q) at s)))
-
--- so sounds have no mark among them
+-- a sound is no mark of a break, so sounds have no mark among them
 sounds-unmarked : (s : List ℕ) → Each isSound s → marksOf s ≡ []
-unfolding marksOf
+unfolding marksOf isMarkCode isSound among
 sounds-unmarked [] h = refl
-sounds-unmarked (c ∷ s) h = rw (sound-unmarked c (h .0)) (sounds-unmarked s (h .1))
+sounds-unmarked (c ∷ s) h =
+    rw (refuted (isMarkCode c) (λ q. true≢false (sym (h .0) ∙ among-same isSound (λ _. false) (0 ∷ 63 ∷ []) c refl (simp or-false q)))) (sounds-unmarked s (h .1))
 
 -- and a break's mark is one
 pub marks-mark : (x : ℕ) (t : List ℕ) → marksOf (markOf x ∷ t) ≡ markOf x ∷ marksOf t

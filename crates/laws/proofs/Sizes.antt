@@ -1,6 +1,6 @@
 -- How long a tape and a naming can be: a letter makes at most two codes and one name, a break one code, and a message has no more letters and breaks than bytes.
 use Rattle.laws.proofs.Kit.{ℕ, suc, _+_, _*_, _≤_, _≡_, refl, ap, Bool, true, false, _&&_, _||_, List, [], _∷_, _++_, arith, length, length-append}
-use Rattle.spec.specs.{Letters.Letter, Letters.Message, Letters.last, Letters.more, Letters.read, Letters.putLetter, Letters.beginsWithMark, Letters.small, Letters.isGap, Letters.isBreak, Letters.isMark, Letters.isSign, Letters.isVowel, Letters.isConsonant, Letters.plainVowels, Letters.softeningVowels, Elision.elides, Elision.elideFrom, Elision.elide, Syllables.Facts, Syllables.factsOf, Syllables.incomplete, Syllables.namesFrom, Vowels.phonesFrom, Vowels.endsHard, Voicing.voices, Tape.wordTape, Tape.segment, Tape.tape, Tape.wordNames, Tape.namesOf, Tape.names}
+use Rattle.spec.specs.{Letters.Letter, Letters.Message, Letters.last, Letters.more, Letters.read, Letters.putLetter, Letters.isGap, Letters.isBreak, Letters.isMark, Letters.isSign, Letters.isVowel, Letters.isConsonant, Letters.plainVowels, Letters.softeningVowels, Elision.elides, Elision.elideFrom, Elision.elide, Syllables.Facts, Syllables.factsOf, Syllables.incomplete, Syllables.namesFrom, Vowels.phonesFrom, Vowels.endsHard, Voicing.voices, Tape.wordTape, Tape.segment, Tape.tape, Tape.wordNames, Tape.namesOf, Tape.names}
 use Rattle.spec.proofs.Computed.{everything}
 use Rattle.laws.proofs.{Classes.cond-both, Classes.either, Classes.among-same, Word.phones-cases, Word.sounds-length}
 
@@ -21,11 +21,7 @@ unfolding read
 read-size [] = omega arith
 read-size (b ∷ m) =
     let h = read-size m in
-    let l : Letter = record { byte = small b; stressed = beginsWithMark m } in
-    cond-both Short (isBreak b) (omega arith) (cond-both Short (isMark b) (omega arith) (omega (arith, put-size l (read m))))
-  where
-    Short : Message → Type 0
-    Short r = sizeOf r ≤ suc (length m)
+    either (isBreak b) (λ q. rw q (omega arith)) (λ q. rw q (either (isMark b) (λ t. rw t (omega arith)) (λ t. rw (t, put-size) (omega arith))))
 
 -- pass 1 only takes letters away
 elide-size : (p : ℕ) (w : List Letter) → length (elideFrom p w) ≤ length w
