@@ -78,9 +78,17 @@ pub record Passes (m : List ℕ) : Type 0 where
   pub short : length m ≤ 4096
   pub rows : (i : ℕ) → i < length m → ClearAt m i
 
--- what the check has found in a message: nothing, or the first fault, at a place that a message may have
+-- a fault that the check gives, at a place that a message may have
+pub record Fault (m : List ℕ) (d : Checked) : Type 0 where
+  pub number : ℕ
+  pub place : ℕ
+  pub refused : d ≡ Refused (refusal number place)
+  pub given : Given m number place
+  pub within : place ≤ 4096
+
+-- what the check has found in a message: nothing, or the first fault
 abbrev pub Finds : List ℕ → Checked → Type 0
-Finds m d = ((d ≡ Accepted (countsOf m)) × Passes m) ⊎ ((n : ℕ) × (p : ℕ) × (d ≡ Refused (refusal n p)) × Given m n p × (p ≤ 4096))
+Finds m d = ((d ≡ Accepted (countsOf m)) × Passes m) ⊎ Fault m d
 
 -- a test of two numbers is one of them the other way round
 eqb-swap : (a b : ℕ) → eqb a b ≡ eqb b a
@@ -137,7 +145,7 @@ ClearFrom before [] = Unit {0}
 ClearFrom before (b ∷ m) = Clear before b m × ClearFrom (b ∷ before) m
 
 module _ (m : List ℕ) where
-  -- so it is from a place on where no row fits at any
+  -- so it is from each place on of a message where no row fits at any
   pub places-clear : ((i : ℕ) → i < length m → ClearAt m i) → (r : List ℕ) (a : ℕ) → drop a m ≡ r → ClearFrom (beforeAt m a) r
   unfolding beforeAt
   places-clear c [] a e = tt
@@ -187,15 +195,21 @@ module _ (m : List ℕ) (z : 0 < length m) (s : length m ≤ 4096) where
       (λ q. rw (q, ← f .1) (scan-finds r (suc i) (f .2) (f .0) (λ j l. ⊎-elim (c j) (λ g.
       let d : j ≡ i = omega arith in
       rw (d, f .1, f .2) (fault-clear (beforeAt m i) b r (eqb-true _ _ q))) (below-or j i))))
-      (λ q. rw (q, ← f .1, ← f .2, before-length) (inr (_, i, refl, fault-given i (f .0) c (λ n. eqb-false (faultAt (beforeAt m i) b r) 0 q (rw (f .1, f .2) at n)), omega (arith, f .0))))
+      (λ q. rw (q, ← f .1, ← f .2, before-length) (inr (record {
+        number = _;
+        place = i;
+        refused = refl;
+        given = fault-given i (f .0) c (λ n. eqb-false (faultAt (beforeAt m i) b r) 0 q (rw (f .1, f .2) at n));
+        within = omega (arith, f .0);
+      })))
 
 -- What the check finds in a message.
 pub check-finds : (m : List ℕ) → Finds m (checkOf m)
 unfolding checkOf beforeAt
-check-finds m = either (eqb (length m) 0) (λ q. rw q (inr (1, 0, refl, empty-given m (eqb-true _ _ q), omega arith))) (λ q.
+check-finds m = either (eqb (length m) 0) (λ q. rw q (inr (record { number = 1; place = 0; refused = refl; given = empty-given m (eqb-true _ _ q); within = omega arith }))) (λ q.
     rw q (either (leb (length m) 4096)
     (λ r. rw r (scan-finds m (omega (arith, eqb-false (length m) 0 q)) (leb-true (length m) 4096 r) m 0 refl (omega arith) (λ j l. absurd (omega arith))))
-    (λ r. rw r (inr (2, 0, refl, long-given m (omega (arith, leb-false (length m) 4096 r)), omega arith)))))
+    (λ r. rw r (inr (record { number = 2; place = 0; refused = refl; given = long-given m (omega (arith, leb-false (length m) 4096 r)); within = omega arith })))))
 
 -- a message that passes is fitted by nothing
 pub passes-none : (m : List ℕ) → Passes m → NoneFits m
@@ -223,11 +237,11 @@ given-once m n p k q g h =
 
 -- Accepted: nothing fits.
 pub accepted-passes : (m : List ℕ) (counts : Counts) → checkOf m ≡ Accepted counts → Passes m
-accepted-passes m counts e = ⊎-elim (λ f. f .1) (λ f. let d = f .2 in absurd (let z : _≡_ {A = ℕ} 0 1 = cc in omega arith)) (check-finds m)
+accepted-passes m counts e = ⊎-elim (λ f. f .1) (λ f. absurd (let z : _≡_ {A = ℕ} 0 1 = cc in omega arith)) (check-finds m)
 
 -- Nothing fits: accepted.
 pub none-accepted : (m : List ℕ) → NoneFits m → checkOf m ≡ Accepted (countsOf m)
-none-accepted m n = ⊎-elim (λ f. f .0) (λ f. absurd (none-given m _ _ n (f .3))) (check-finds m)
+none-accepted m n = ⊎-elim (λ f. f .0) (λ f. absurd (none-given m _ _ n (f .given))) (check-finds m)
 
 pub none-passes : (m : List ℕ) → NoneFits m → Passes m
 none-passes m f = accepted-passes m (countsOf m) (none-accepted m f)
@@ -235,7 +249,7 @@ none-passes m f = accepted-passes m (countsOf m) (none-accepted m f)
 -- Given: refused so.
 pub given-refused : (m : List ℕ) (n p : ℕ) → Given m n p → checkOf m ≡ Refused (refusal n p)
 given-refused m n p g =
-    ⊎-elim (λ f. absurd (none-given m n p (passes-none m (f .1)) g)) (λ f. let e = given-once m _ _ n p (f .3) g in f .2 ∙ rw (e .0, e .1)) (check-finds m)
+    ⊎-elim (λ f. absurd (none-given m n p (passes-none m (f .1)) g)) (λ f. let e = given-once m _ _ n p (f .given) g in f .refused ∙ rw (e .0, e .1)) (check-finds m)
 
 -- The first fault of a message is refused with its place.
 pub first-refused : (m : List ℕ) → length m ≤ 4096 → (p : ℕ) → p < length m → ((j : ℕ) → j < p → ClearAt m j) → (n : ℕ) → faultAt (beforeAt m p) (getD m p 0) (drop (suc p) m) ≡ n → (n ≡ 0 → ⊥)

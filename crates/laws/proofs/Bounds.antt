@@ -36,13 +36,13 @@ module _ (m : List ℕ) where
   unfolding checkedNumber checkedPlace checkedCodes checkedNames
   check-small = ⊎-elim
       (λ f. rw (f .0) (record { number = omega arith; place = omega arith; codes = omega (arith, f .1 .short, tape-size m); names = omega (arith, f .1 .short, names-size m) }))
-      (λ f. rw (f .2) (record { number = given-range (f .3) .1; place = f .4; codes = omega arith; names = omega arith })) (check-finds m)
+      (λ f. rw (f .refused) (record { number = given-range (f .given) .1; place = f .within; codes = omega arith; names = omega arith })) (check-finds m)
 
   -- and so is an operation's, if it is after the check
   after-small : (a : Answer) → (length m ≤ 4096 → Small a) → Small (afterCheck (checkOf m) a)
   unfolding afterCheck numberOf placeOf lengthOf liveOf
   after-small a h = ⊎-elim (λ f. rw (f .0) (h (f .1 .short)))
-      (λ f. rw (f .2) (record { number = omega (arith, given-range (f .3) .1); place = omega (arith, f .4); length = omega arith; live = omega arith })) (check-finds m)
+      (λ f. rw (f .refused) (record { number = omega (arith, given-range (f .given) .1); place = omega (arith, f .within); length = omega arith; live = omega arith })) (check-finds m)
 
   -- The naming operation's answer is small.
   pub name-small : (room : ℕ) → Small (nameAnswer m room)

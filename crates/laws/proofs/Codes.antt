@@ -197,7 +197,7 @@ segment-marks h n (more w x r) s = rw (marks-append, sounds-unmarked _ (word-sou
 pub bytes-marks : (h n : Bool) (p : List ℕ) → Spells (read p) → marksOf (segment h n (read p)) ≡ breakMarks p
 bytes-marks h n p s = segment-marks h n (read p) s ∙ read-marks p
 
--- and those of bytes
+-- marks of bytes laid end to end
 pub breaks-append : (p q : List ℕ) → breakMarks (p ++ q) ≡ breakMarks p ++ breakMarks q
 unfolding breakMarks
 breaks-append [] q = refl
@@ -215,7 +215,7 @@ unfolding breakMarks
 unbroken [] n = refl
 unbroken (b ∷ p) n = rw (n 0 (omega arith)) (unbroken p (λ i l. n (suc i) (omega arith)))
 
--- a break's mark is one
+-- a break's mark is a code
 mark-code : (x : ℕ) → isCode (markOf x) ≡ true
 unfolding isCode isSound isMarkCode
 mark-code x = mark-both (λ c. isCode c ≡ true) x refl refl

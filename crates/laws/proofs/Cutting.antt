@@ -1,6 +1,6 @@
 -- The two tapes of a message, for every list of cuts: each cut splits both tapes at one index, and a cut is live just when a bit from over it changes a code beside its mark.
 use Rattle.laws.proofs.Kit.{ℕ, zero, suc, _+_, _-_, _≤_, _&&_, _++_, append-assoc, length-append, _<_, _≡_, refl, sym, ap, _∙_, true, false, true≢false, inl, inr, ⊎-elim, _≢_, _↔_, List, [], _∷_, arith, length, getD, take, drop}
-use Rattle.spec.specs.{Letters.isBreak, Letters.read, Letters.firstByte, Tape.tape, Tape.segment, Refusals.NoneFits, Joints.RisingFrom, Joints.Rising, Joints.joinedFrom, Joints.marksOf, Joints.breakMarks, Joints.wordAfter, Joints.CutOf, Joints.SplitAt, Joints.DiffersAt, Joints.joined, Joints.isLive, Joints.NoneLive, Joints.liveCount, Joints.markIndex, Codes.markOf, Palatalization.firstCode, Demands.TwoTapes}
+use Rattle.spec.specs.{Letters.isBreak, Letters.read, Letters.firstByte, Tape.tape, Refusals.NoneFits, Joints.RisingFrom, Joints.Rising, Joints.joinedFrom, Joints.marksOf, Joints.breakMarks, Joints.wordAfter, Joints.CutOf, Joints.DiffersAt, Joints.joined, Joints.isLive, Joints.NoneLive, Joints.liveCount, Joints.markIndex, Codes.markOf, Palatalization.firstCode, Demands.TwoTapes}
 use Rattle.laws.proofs.{Accepted.none-passes, Accepted.none-accepted, Classes.either, Classes.refuted, Codes.Spells, Codes.bytes-marks, Codes.part-spells, Codes.marks-mark, Codes.marks-append, Codes.breaks-append, Beside.segment-ends, Beside.isVoiced, Beside.isHigh, Beside.isIOrE, Beside.mark-unvoiced, Cuts.cut-good, Cuts.break-within, PartsAccepted.parts-none, Parts.onward, Parts.voicedAt, Parts.changedBefore, Parts.part, Parts.Begins, Parts.part-split, Parts.part-first, Parts.last-at, Parts.after-mark, Parts.joined-low, Parts.tape-cut, Parts.mark-index, Parts.live-here, Parts.onward-first, Parts.first-own, Parts.joined-length, Parts.joined-dead, Word.lastCodeFrom, Stretch.last-append, Marks.mark-first, Marks.mark-next, MarkIndex.placed, MarkIndex.own-length, MarkIndex.before-told, MarkIndex.after-told}
 
 -- the count is 0 exactly when no cut is live
@@ -12,6 +12,11 @@ counts-none m (d ∷ cuts) =
       λ e c. let f = refuted (isLive m d) (λ t. omega (arith, rw t at e)) in ⊎-elim (λ q. rw q f) (rest .0 (rw f at e) c),
       λ f. rw (f d (inl refl)) (rest .1 (λ c i. f c (inr i))),
     )
+
+-- The two tapes are equally long, whatever the list.
+pub equal-lengths : (m cuts : List ℕ) → Rising m cuts → length (joined m cuts) ≡ length (tape m)
+unfolding joined
+equal-lengths m cuts r = joined-length m 0 cuts tt r ∙ ap length (onward-first m)
 
 -- where two tapes differ just before an index, it is not the first
 apart : (s t : List ℕ) (k : ℕ) → (getD (0 ∷ s) k 0 ≡ getD (0 ∷ t) k 0 → ⊥) → (0 < k) × (getD s (k - 1) 0 ≢ getD t (k - 1) 0)
@@ -84,19 +89,6 @@ module _ (m : List ℕ) (f : NoneFits m) where
     size : length (here .front) ≡ markIndex m c
     size = omega (arith, here .size, mark-first m)
 
-    -- each of the two tapes at the cut
-    whole-split : SplitAt m c (tape m)
-    whole-split = record {
-      before = segment false (voicedAt m c) (read (take c m));
-      after = onward m (suc c);
-      split = tape-cut m c break;
-      index = mark-index m c break;
-      own = bytes-marks false (voicedAt m c) (take c m) (spells 0 c);
-    }
-
-    parts-split : SplitAt m c (joined m cuts)
-    parts-split = record { before = here .front; after = here .back; split = here .split; index = size; own = here .own ∙ rw part-first }
-
     -- the code before the mark was voiced from over the cut, or the code after it made by a hard boundary there
     differs : isLive m c ≡ true → DiffersAt (tape m) (joined m cuts) (markIndex m c)
     differs l = either (changedBefore m c)
@@ -104,22 +96,21 @@ module _ (m : List ℕ) (f : NoneFits m) where
         true≢false (sym e ∙ sym (before-told m (none-accepted m f) c break) ∙ rw (q, here .split, last-at 0 (here .front) _ _ size) (here .unvoiced 0 refl)))))
         (λ e. inr (λ q. true≢false (sym (rw e at (sym (live-here m c break) ∙ l)) ∙ sym (after-told m c break) ∙ rw (q, here .split, after-mark (here .front) _ _ _ size) (here .low))))
 
--- The two tapes are equally long, whatever the list.
-pub equal-lengths : (m cuts : List ℕ) → Rising m cuts → length (joined m cuts) ≡ length (tape m)
-unfolding joined
-equal-lengths m cuts r = joined-length m 0 cuts tt r ∙ ap length (onward-first m)
-
--- Demand 3 of the two tapes of an accepted message: they are equal just where none of the cuts is live.
-pub two-tapes : (m cuts : List ℕ) → NoneFits m → Rising m cuts → TwoTapes m cuts
-unfolding joined
-two-tapes m cuts f r = record {
-  parts = parts-none m (none-passes m f) 0 cuts tt (omega arith) r;
-  lengths = equal-lengths m cuts r;
-  equal = (
-    λ e c i. refuted _ (λ l. ⊎-elim (λ n. n .1 refl) (λ n. n refl) (rw e at (differs m f cuts r c i l))),
-    λ n. joined-dead m 0 cuts tt r (first-own m) n ∙ onward-first m,
-  );
-  whole = whole-split m f cuts r;
-  pieces = parts-split m f cuts r;
-  differs = differs m f cuts r;
-}
+  -- Demand 3 of the two tapes: each cut splits both at its mark, and they are equal just where none of the cuts is live.
+  pub two-tapes : (cuts : List ℕ) → Rising m cuts → TwoTapes m cuts
+  unfolding joined
+  two-tapes cuts r = record {
+    parts = parts-none m (none-passes m f) 0 cuts tt (omega arith) r;
+    lengths = equal-lengths m cuts r;
+    equal = (
+      λ e c i. refuted _ (λ l. ⊎-elim (λ n. n .1 refl) (λ n. n refl) (rw e at (differs cuts r c i l))),
+      λ n. joined-dead m 0 cuts tt r (first-own m) n ∙ onward-first m,
+    );
+    whole = λ c i.
+        let b = break cuts r c i in
+        record { before = _; after = onward m (suc c); split = tape-cut m c b; index = mark-index m c b; own = bytes-marks false (voicedAt m c) (take c m) (spells 0 c) };
+    pieces = λ c i.
+        let k = here cuts r c i in
+        record { before = k .front; after = k .back; split = k .split; index = size cuts r c i; own = k .own ∙ rw part-first };
+    differs = differs cuts r;
+  }

@@ -34,7 +34,7 @@ module _ (m cuts text : List ℕ) (count : ℕ) (out : List ℕ) where
       (λ a. let f = passes-none m (a .1) in
       ⊎-elim (λ r. ⊎-elim (λ h. refused (tooShort f r h) (omega arith) (omega arith)) (λ h. inl (written-due f r h, f, r, h)) (below-or (length out) (length text)))
       (λ b. refused (wrongCut _ f b) (omega arith) (omega arith)) (judged m cuts))
-      (λ a. let g = given-range (a .3) in refused (turnedAway _ _ (a .3)) (g .0) (omega arith)) (check-finds m)
+      (λ a. let g = given-range (a .given) in refused (turnedAway _ _ (a .given)) (g .0) (omega arith)) (check-finds m)
     where
       refused : {n p : ℕ} → Due m cuts (length text) (length out) n p → 1 ≤ n → n ≤ 12 → Ends m cuts text count out
       refused d lo hi = inr (_, _, refused-due _ _ d, d, lo, hi)
@@ -84,7 +84,7 @@ pub demand1 : (m : List ℕ) → Demand1 m
 unfolding nameAnswer tapeAnswer joinAnswer badCut badCutFrom checkedNumber checkedPlace checkedCodes checkedNames
 demand1 m = record {
   check = λ r kept. ⊎-elim (λ f. inl (rw (kept .answer, f .0)))
-      (λ f. inr (rw (kept .answer, f .2) (record { number = given-range (f .3); place = f .3; codes = refl; names = refl }))) (check-finds m);
+      (λ f. inr (rw (kept .answer, f .refused) (record { number = given-range (f .given); place = f .given; codes = refl; names = refl }))) (check-finds m);
   naming = settled m [] (names m) 0;
   transcriber = settled m [] (tape m) 0;
   joiner = λ cuts. settled m cuts (joined m cuts) (liveCount m cuts);
@@ -95,11 +95,11 @@ pub demand2 : (m : List ℕ) → Demand2 m
 unfolding nameAnswer tapeAnswer joinAnswer badCut badCutFrom checkedNumber checkedPlace checkedCodes checkedNames
 demand2 m = record {
   accepts = λ r kept. (
-    λ e. ⊎-elim (λ f. passes-none m (f .1)) (λ f. absurd (omega (arith, given-range (f .3) .0, e, kept .number ∙ ap checkedNumber (f .2)))) (check-finds m),
+    λ e. ⊎-elim (λ f. passes-none m (f .1)) (λ f. absurd (omega (arith, given-range (f .given) .0, e, kept .number ∙ ap checkedNumber (f .refused)))) (check-finds m),
     λ f. kept .number ∙ ap checkedNumber (none-accepted m f),
   );
   refuses = λ r kept n p h. (
-    λ e. ⊎-elim (λ f. absurd (omega (arith, e .0, kept .number ∙ ap checkedNumber (f .0)))) (λ f. rw (← e .0, ← e .1, kept .answer, f .2) (f .3)) (check-finds m),
+    λ e. ⊎-elim (λ f. absurd (omega (arith, e .0, kept .number ∙ ap checkedNumber (f .0)))) (λ f. rw (← e .0, ← e .1, kept .answer, f .refused) (f .given)) (check-finds m),
     λ g. let e = given-refused m n p g in (kept .number ∙ ap checkedNumber e, kept .place ∙ ap checkedPlace e),
   );
   counts = λ r kept f. let e = none-accepted m f in (kept .codes ∙ ap checkedCodes e, kept .names ∙ ap checkedNames e);
@@ -114,10 +114,10 @@ demand3 m f = record {
   empty = tt;
   full = full-rising m;
   every = full-every m;
-  tapes = λ cuts s. two-tapes m cuts f s;
+  tapes = two-tapes m f;
   joiner = λ cuts s out out′ r h k.
       let w = demand2 m .joiner cuts out out′ r k .gives h (f, s) in
-      let e = two-tapes m cuts f s .equal in
+      let e = two-tapes m f cuts s .equal in
       let n = counts-none m cuts in
       record { written = w; equal = (λ q. w .live ∙ n .1 (e .0 q), λ q. e .1 (n .0 (sym (w .live) ∙ q))) };
 }
