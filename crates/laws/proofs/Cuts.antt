@@ -1,6 +1,6 @@
 -- A list of cuts: number 12 lets through just the strictly rising lists of places of breaks, since past its end a message has no break.
-use Rattle.laws.proofs.Kit.{ℕ, zero, suc, _+_, _-_, _<_, _≤_, _≡_, refl, sym, ap, _∙_, true, false, not, false≢true, _⊎_, inl, inr, ⊎-elim, List, [], _∷_, arith, leb-true, le-leb, not-false, length, drop, getD, length-drop, List·getD-eq-default}
-use Rattle.spec.specs.{Letters.isBreak, Joints.RisingFrom, Joints.Rising, Joints.CutOf, Joints.breaksFrom, Joints.breaks, Joints.row12, Joints.badCutFrom, Joints.badCut, Joints.leastAt, Joints.FirstBadFrom, Joints.FirstBad}
+use Rattle.laws.proofs.Kit.{ℕ, zero, suc, _+_, _-_, _<_, _≤_, _≡_, refl, sym, ap, _∙_, true, false, not, false≢true, true≢false, _⊎_, inl, inr, ⊎-elim, List, [], _∷_, arith, leb-true, le-leb, not-false, length, drop, getD, length-drop, List·getD-eq-default}
+use Rattle.spec.specs.{Letters.isBreak, Joints.RisingFrom, Joints.Rising, Joints.CutOf, Joints.breaksFrom, Joints.breaks, Joints.row12, Joints.badCutFrom, Joints.badCut, Joints.leastAt, Joints.FirstBad}
 use Rattle.laws.proofs.{Accepted.rest-first, Classes.cond-app, Classes.cond-both, Classes.either, Classes.or-false, Classes.below-or}
 
 -- a break stands within the message
@@ -61,43 +61,40 @@ module _ (m : List ℕ) where
   bad-shift least k [] = refl
   bad-shift least k (c ∷ cuts) = rw (bad-shift (suc c) (suc k) cuts) (sym (cond-app suc (row12 m least c) _ _))
 
-  -- number 12 finds nothing in a list, or the first bad cut
-  judged-from : (least : ℕ) (cuts : List ℕ) → RisingFrom m least cuts ⊎ FirstBadFrom m least cuts (badCutFrom m least 0 cuts)
+  -- number 12 fits no cut before the first bad one, and that one, or there is none
+  judged-from : (least : ℕ) (cuts : List ℕ) → let k = badCutFrom m least 0 cuts in
+      ((j : ℕ) → j < k → row12 m (leastAt least cuts j) (getD cuts j 0) ≡ false)
+      × (RisingFrom m least cuts ⊎ ((k < length cuts) × (row12 m (leastAt least cuts k) (getD cuts k 0) ≡ true)))
   unfolding badCutFrom leastAt
-  judged-from least [] = inl tt
-  judged-from least (c ∷ cuts) = either (row12 m least c) (λ q. rw q (inr (record { within = omega arith; bad = q; first = λ j l. absurd (omega arith) })))
-      (λ q. rw (q, bad-shift (suc c) 0 cuts) (⊎-elim (λ r. let p = row12-passes m least c q in inl (p .1, p .0, r)) (λ f. inr (later q f)) (judged-from (suc c) cuts)))
+  judged-from least [] = (λ j l. absurd (omega arith), inl tt)
+  judged-from least (c ∷ cuts) = either (row12 m least c) (λ q. rw q (λ j l. absurd (omega arith), inr (omega arith, q))) (λ q.
+      let k = judged-from (suc c) cuts in
+      let p = row12-passes m least c q in
+      rw (q, bad-shift (suc c) 0 cuts) (before q (k .0), ⊎-elim (λ r. inl (p .1, p .0, r)) (λ b. inr (omega (arith, b .0), rw (least-next least c cuts _) (b .1))) (k .1)))
     where
-      later : {i : ℕ} → row12 m least c ≡ false → FirstBadFrom m (suc c) cuts i → FirstBadFrom m least (c ∷ cuts) (suc i)
-      later {i} q f = record { within = omega (arith, f .within); bad = rw (least-next least c cuts i) (f .bad); first = by }
-        where
-          by : (j : ℕ) → j < suc i → row12 m (leastAt least (c ∷ cuts) j) (getD (c ∷ cuts) j 0) ≡ false
-          by zero l = q
-          by (suc j) l = rw (least-next least c cuts j) (f .first j (omega arith))
+      before : {k : ℕ} → row12 m least c ≡ false → ((j : ℕ) → j < k → row12 m (leastAt (suc c) cuts j) (getD cuts j 0) ≡ false)
+          → (j : ℕ) → j < suc k → row12 m (leastAt least (c ∷ cuts) j) (getD (c ∷ cuts) j 0) ≡ false
+      before q f zero l = q
+      before q f (suc j) l = rw (least-next least c cuts j) (f j (omega arith))
 
+  -- Number 12 finds nothing in a list, or the first bad cut,
   pub judged : (cuts : List ℕ) → Rising m cuts ⊎ FirstBad m cuts (badCut m cuts)
   unfolding badCut
-  judged cuts = judged-from 0 cuts
+  judged cuts = let k = judged-from 0 cuts in ⊎-elim (λ r. inl r) (λ b. inr (record { within = b .0; bad = b .1; first = k .0 })) (k .1)
+
+  -- and no other cut is that one.
+  pub first-bad : (cuts : List ℕ) (i : ℕ) → FirstBad m cuts i → badCut m cuts ≡ i
+  unfolding badCut
+  first-bad cuts i f =
+      let k = judged-from 0 cuts in
+      let a : i < badCutFrom m 0 0 cuts → ⊥ = λ l. true≢false (sym (f .bad) ∙ k .0 i l) in
+      let b : badCutFrom m 0 0 cuts < i → ⊥ = λ l.
+      ⊎-elim (λ r. omega (arith, rising-from-to m 0 0 cuts r, f .within)) (λ b. true≢false (sym (b .1) ∙ f .first _ l)) (k .1) in
+      omega arith
 
   -- A list of cuts that number 12 does not fit is a rising list of breaks.
   pub rising-of : (cuts : List ℕ) → badCut m cuts ≡ length cuts → Rising m cuts
   rising-of cuts e = ⊎-elim (λ r. r) (λ f. absurd (omega (arith, f .within))) (judged cuts)
-
-  -- no other cut is the first bad one
-  first-bad-from : (least : ℕ) (cuts : List ℕ) (i : ℕ) → FirstBadFrom m least cuts i → badCutFrom m least 0 cuts ≡ i
-  unfolding badCutFrom leastAt
-  first-bad-from least [] i f = absurd (omega (arith, f .within))
-  first-bad-from least (c ∷ cuts) zero f = rw (f .bad)
-  first-bad-from least (c ∷ cuts) (suc i) f =
-      rw (f .first 0 (omega arith), bad-shift (suc c) 0 cuts) (ap suc (first-bad-from (suc c) cuts i (record {
-        within = omega (arith, f .within);
-        bad = rw (← least-next least c cuts i) (f .bad);
-        first = λ j l. rw (← least-next least c cuts j) (f .first (suc j) (omega arith));
-      })))
-
-  pub first-bad : (cuts : List ℕ) (i : ℕ) → FirstBad m cuts i → badCut m cuts ≡ i
-  unfolding badCut
-  first-bad cuts i f = first-bad-from 0 cuts i f
 
   -- The full list.
   full-from : (least k : ℕ) (r : List ℕ) → drop k m ≡ r → least ≤ k → RisingFrom m least (breaksFrom k r)
