@@ -1,97 +1,62 @@
 -- The message check gives a number exactly where its condition holds and none earlier does, and accepts exactly what no number fits: the scan goes on over a byte only where no row fits, and at a byte the first row of the list that fits is given.
-use Rattle.laws.proofs.Kit.{ℕ, zero, suc, _<_, _≤_, _≡_, refl, sym, ap, _∙_, _⊎_, inl, inr, ⊎-elim, Bool, true, false, cond, _&&_, not, and-eq-true-iff, and-false, true≢false, false≢true, List, [], _∷_, arith, eqb, leb, length, getD, drop, length-drop, drop-cons, eqb-true, eqb-false, eq-eqb, ne-eqb, leb-true, leb-false, le-leb, lt-leb}
-use Rattle.spec.specs.{Tape.tape, Tape.names, Refusals.Row, Refusals._when_, Refusals.rows, Refusals.firstFit, Refusals.faultAt, Refusals.refusal, Refusals.scan, Refusals.checkOf, Refusals.fitsIn, Refusals.beforeAt, Refusals.fits, Refusals.indexIn, Refusals.rank, Refusals.NoneFits, Refusals.Earlier, Refusals.Given, declared.Counts.Counts, declared.Checked.Checked, declared.Checked.the-variants.Accepted, declared.Checked.the-variants.Refused}
+use Rattle.laws.proofs.Kit.{ℕ, zero, suc, _<_, _≤_, _≡_, refl, sym, ap, _∙_, _⊎_, inl, inr, ⊎-elim, true, false, cond, _&&_, and-eq-true-iff, and-false, or-true, true≢false, false≢true, List, [], _∷_, arith, eqb, leb, length, getD, drop, length-drop, drop-cons, eqb-true, eqb-false, eq-eqb, ne-eqb, leb-true, leb-false, le-leb, lt-leb}
+use Rattle.spec.specs.{Tape.tape, Tape.names, Tables.among, Refusals.Row, Refusals._when_, Refusals.rows, Refusals.firstFit, Refusals.faultAt, Refusals.refusal, Refusals.scan, Refusals.checkOf, Refusals.fitsIn, Refusals.beforeAt, Refusals.fits, Refusals.indexIn, Refusals.rank, Refusals.NoneFits, Refusals.Earlier, Refusals.Given, declared.Counts.Counts, declared.Checked.Checked, declared.Checked.the-variants.Accepted, declared.Checked.the-variants.Refused}
 use Rattle.spec.proofs.Computed.{everything}
-use Rattle.laws.proofs.Classes.{cond-app, cond-same, yes-or, refuted, below-or}
+use Rattle.laws.proofs.Classes.{cond-app, cond-same, either, refuted, below-or, among-same, among-none}
 
--- Rows with numbers above 2, no number twice.
-unfoldable pub orderly : List Row → Bool
-orderly [] = true
-orderly ((n when test) ∷ rs) = leb 3 n && (eqb (indexIn rs n) (length rs) && orderly rs)
+-- the numbers of a list of rows
+unfoldable pub numbers : List Row → List ℕ
+numbers [] = []
+numbers ((n when test) ∷ rs) = n ∷ numbers rs
 
-rows-orderly : orderly rows ≡ true
-unfolding everything orderly
-rows-orderly = refl
+-- no number stands there twice
+abbrev Distinct : List Row → Type 0
+Distinct [] = Unit {0}
+Distinct ((n when test) ∷ rs) = (among (numbers rs) n ≡ false) × Distinct rs
 
--- what a list of such rows says of its first row and of the rest
-orderly-more : (n : ℕ) (test : List ℕ → ℕ → List ℕ → Bool) (rs : List Row) → orderly ((n when test) ∷ rs) ≡ true → (3 ≤ n) × (indexIn rs n ≡ length rs) × (orderly rs ≡ true)
-unfolding orderly
-orderly-more n test rs o =
-    let a = and-eq-true-iff (leb 3 n) _ .0 o in
-    let b = and-eq-true-iff (eqb (indexIn rs n) (length rs)) _ .0 (a .1) in
-    (leb-true 3 n (a .0), eqb-true _ _ (b .0), b .1)
+-- The table: 1 and 2, which fit no message of 1 to 4,096 bytes, before the rows.
+abbrev table : List Row
+table = (1 when λ _ _ _. false) ∷ (2 when λ _ _ _. false) ∷ rows
 
--- an index below one further on
-later : (v : Bool) (x y : ℕ) → suc x < cond v 0 (suc y) → x < y
-later true x y h = absurd (omega arith)
-later false x y h = omega arith
+table-distinct : Distinct table
+unfolding everything numbers
+table-distinct = (refl, (refl, (refl, (refl, (refl, (refl, (refl, (refl, (refl, (refl, tt))))))))))
 
 module _ (before : List ℕ) (b : ℕ) (after : List ℕ) where
   -- a number that fits stands in the list
-  fits-within : (rs : List Row) (k : ℕ) → fitsIn rs k before b after ≡ true → indexIn rs k < length rs
-  unfolding fitsIn indexIn
-  fits-within [] k e = absurd (false≢true e)
-  fits-within ((n when test) ∷ rs) k e = ⊎-elim (λ q. rw q (omega arith)) (λ q. rw q (omega (arith, fits-within rs k (rw q at e)))) (yes-or (eqb n k))
-
-  -- two numbers that fit and have one index are one
-  fits-same : (rs : List Row) (k n : ℕ) → indexIn rs k ≡ indexIn rs n → fitsIn rs k before b after ≡ true → fitsIn rs n before b after ≡ true → k ≡ n
-  unfolding fitsIn indexIn
-  fits-same [] k n i e f = absurd (false≢true e)
-  fits-same ((x when test) ∷ rs) k n i e f = ⊎-elim
-      (λ p. ⊎-elim (λ q. sym (eqb-true x k p) ∙ eqb-true x n q) (λ q. absurd (omega (arith, rw (p, q) at i))) (yes-or (eqb x n)))
-      (λ p. ⊎-elim (λ q. absurd (omega (arith, rw (p, q) at i))) (λ q. fits-same rs k n (omega (arith, rw (p, q) at i)) (rw p at e) (rw q at f)) (yes-or (eqb x n)))
-      (yes-or (eqb x k))
-
-  -- a number that fits further on is not the first row's
-  not-first : (n : ℕ) (rs : List Row) → indexIn rs n ≡ length rs → (k : ℕ) → fitsIn rs k before b after ≡ true → eqb n k ≡ false
-  not-first n rs a k e = refuted (eqb n k) (λ q. omega (arith, fits-within rs k e, rw (eqb-true n k q) at a))
+  fits-among : (rs : List Row) (k : ℕ) → fitsIn rs k before b after ≡ true → among (numbers rs) k ≡ true
+  unfolding fitsIn among numbers
+  fits-among [] k e = e
+  fits-among ((n when test) ∷ rs) k e =
+      either (eqb n k) (λ q. rw (eqb-true n k q, eq-eqb k k refl)) (λ q. rw (fits-among rs k (rw q at e), or-true))
 
   -- the first row that fits does fit
-  first-fits : (rs : List Row) → orderly rs ≡ true → 0 < firstFit rs before b after → fitsIn rs (firstFit rs before b after) before b after ≡ true
+  first-fits : (rs : List Row) → Distinct rs → 0 < firstFit rs before b after → fitsIn rs (firstFit rs before b after) before b after ≡ true
   unfolding firstFit fitsIn
   first-fits [] o z = absurd (omega arith)
   first-fits ((n when test) ∷ rs) o z =
-      let r = orderly-more n test rs o in
-      ⊎-elim (λ q. rw q (rw (eq-eqb n n refl)))
-      (λ q. let g = first-fits rs (r .2) (rw q at z) in rw q (rw (not-first n rs (r .1) _ g) g)) (yes-or (test before b after))
+      either (test before b after) (λ q. rw q (rw (eq-eqb n n refl)))
+      (λ q. let g = first-fits rs (o .1) (rw q at z) in rw q (rw (among-none (numbers rs) n _ (o .0) (fits-among rs _ g)) g))
 
   -- no row before it does
-  first-first : (rs : List Row) (k : ℕ) → orderly rs ≡ true → 0 < firstFit rs before b after → indexIn rs k < indexIn rs (firstFit rs before b after)
-      → fitsIn rs k before b after ≡ false
+  first-first : (rs : List Row) (k : ℕ) → indexIn rs k < indexIn rs (firstFit rs before b after) → fitsIn rs k before b after ≡ false
   unfolding firstFit fitsIn indexIn
-  first-first [] k o z i = refl
-  first-first ((n when test) ∷ rs) k o z i = by (test before b after) (eqb n k) refl z i (first-first rs k (orderly-more n test rs o .2))
-    where
-      by : (t u : Bool) → test before b after ≡ t → 0 < cond t n (firstFit rs before b after)
-          → cond u 0 (suc (indexIn rs k)) < cond (eqb n (cond t n (firstFit rs before b after))) 0 (suc (indexIn rs (cond t n (firstFit rs before b after))))
-          → (0 < firstFit rs before b after → indexIn rs k < indexIn rs (firstFit rs before b after) → fitsIn rs k before b after ≡ false)
-          → cond u (test before b after) (fitsIn rs k before b after) ≡ false
-      by true u q z i r = absurd (omega (arith, rw (eq-eqb n n refl) at i))
-      by false true q z i r = q
-      by false false q z i r = r z (later (eqb n (firstFit rs before b after)) (indexIn rs k) (indexIn rs (firstFit rs before b after)) i)
-
-  -- where none is first none fits
-  first-none : (rs : List Row) (k : ℕ) → orderly rs ≡ true → firstFit rs before b after ≡ 0 → fitsIn rs k before b after ≡ false
-  unfolding firstFit fitsIn
-  first-none [] k o z = refl
-  first-none ((n when test) ∷ rs) k o z =
-      let r = orderly-more n test rs o in
-      ⊎-elim (λ q. absurd (omega (arith, r .0, rw q at z)))
-      (λ q. let g = first-none rs k (r .2) (rw q at z) in ⊎-elim (λ u. rw u q) (λ u. rw u g) (yes-or (eqb n k))) (yes-or (test before b after))
+  first-first [] k i = refl
+  first-first ((n when test) ∷ rs) k i =
+      either (test before b after) (λ q. absurd (omega (arith, rw (q, eq-eqb n n refl) at i)))
+      (λ q. either (eqb n k) (λ u. rw u q) (λ u. rw u (either (eqb n (firstFit rs before b after))
+      (λ v. absurd (omega (arith, rw (q, u, v) at i))) (λ v. first-first rs k (omega (arith, rw (q, u, v) at i))))))
 
 -- no row fits at a byte
 abbrev pub Clear : List ℕ → ℕ → List ℕ → Type 0
 Clear before b after = (k : ℕ) → fitsIn rows k before b after ≡ false
 
--- no fault, no row
+-- no fault, no row: the number 0 stands in no row, so no index is past its own
 pub fault-clear : (before : List ℕ) (b : ℕ) (after : List ℕ) → faultAt before b after ≡ 0 → Clear before b after
-unfolding faultAt
-fault-clear before b after e k = first-none before b after rows k rows-orderly e
-
--- the order of two rows is that of their indices
-rank-lower : (k n : ℕ) → eqb k 1 ≡ false → eqb k 2 ≡ false → rank k < rank n → indexIn rows k < indexIn rows n
-unfolding rank
-rank-lower k n q r l = later (eqb n 2) _ _ (later (eqb n 1) _ _ (rw (q, r, ← cond-app suc (eqb n 2) 0 (suc (indexIn rows n))) at l))
+unfolding faultAt everything numbers
+fault-clear before b after e k = refuted _ (λ f.
+    let i = among-same (λ x. leb (suc (indexIn rows x)) (indexIn rows 0)) (λ _. true) (numbers rows) k refl (fits-among before b after rows k f) in
+    true≢false (sym f ∙ first-first before b after rows k (rw e (leb-true _ _ i))))
 
 -- what an accepted message's check answers
 abbrev pub countsOf : List ℕ → Counts
@@ -100,10 +65,6 @@ countsOf m = record { codes = length (tape m); names = length (names m) }
 -- no row fits at place i of a message
 abbrev pub ClearAt : List ℕ → ℕ → Type 0
 ClearAt m i = Clear (beforeAt m i) (getD m i 0) (drop (suc i) m)
-
--- no row fits at the places before suc i, if none fits at those before i and at i
-clear-more : (m : List ℕ) (i : ℕ) → ((j : ℕ) → j < i → ClearAt m j) → ClearAt m i → (j : ℕ) → j < suc i → ClearAt m j
-clear-more m i c d j h = ⊎-elim (λ l. c j l) (λ l. let e : j ≡ i = omega arith in rw e d) (below-or j i)
 
 -- as many bytes stand before a place as it counts
 pub before-length : (m : List ℕ) (i : ℕ) → length (beforeAt m i) ≡ i
@@ -117,10 +78,43 @@ pub record Passes (m : List ℕ) : Type 0 where
   pub short : length m ≤ 4096
   pub rows : (i : ℕ) → i < length m → ClearAt m i
 
+-- a fault that the check gives, at a place that a message may have
+pub record Fault (m : List ℕ) (d : Checked) : Type 0 where
+  pub number : ℕ
+  pub place : ℕ
+  pub refused : d ≡ Refused (refusal number place)
+  pub given : Given m number place
+  pub within : place ≤ 4096
+
 -- what the check has found in a message: nothing, or the first fault
-pub data Finds (m : List ℕ) : Checked → Type 0 where
-  nothing : Passes m → Finds m (Accepted (countsOf m))
-  fault : (n p : ℕ) → Given m n p → Finds m (Refused (refusal n p))
+abbrev pub Finds : List ℕ → Checked → Type 0
+Finds m d = ((d ≡ Accepted (countsOf m)) × Passes m) ⊎ Fault m d
+
+-- a test of two numbers is one of them the other way round
+eqb-swap : (a b : ℕ) → eqb a b ≡ eqb b a
+eqb-swap a b = either (eqb a b) (λ q. rw (eqb-true a b q)) (λ q. q ∙ sym (ne-eqb b a (λ e. eqb-false a b q (sym e))))
+
+-- the order of the numbers is that of the table
+rank-index : (k : ℕ) → rank k ≡ indexIn table k
+unfolding rank indexIn
+rank-index k = rw (eqb-swap k 1, eqb-swap k 2) (sym (ap (cond (eqb 1 k) 0) (cond-app suc (eqb 2 k) 0 (suc (indexIn rows k)))))
+
+-- a number that fits is one of the table, so its rank tells it
+fits-number : (m : List ℕ) (k p : ℕ) → fits m k p ≡ true → among (numbers table) k ≡ true
+unfolding fits among numbers
+fits-number m k p e = either (eqb k 1) (λ q. rw q) (λ q. either (eqb k 2) (λ r. rw (eqb-true k 2 r)) (λ r.
+    rw (q, r) (fits-among (beforeAt m p) (getD m p 0) (drop (suc p) m) rows k (and-eq-true-iff (leb (suc p) (length m)) _ .0 (rw (q, r) at e) .1))))
+
+rank-number : (m : List ℕ) (k p : ℕ) → fits m k p ≡ true → getD (numbers table) (rank k) 0 ≡ k
+unfolding everything numbers
+rank-number m k p e = among-same (λ x. getD (numbers table) (rank x) 0) (λ x. x) (numbers table) k refl (fits-number m k p e)
+
+-- and it is 1 to 10
+pub given-range : {m : List ℕ} {n p : ℕ} → Given m n p → (1 ≤ n) × (n ≤ 10)
+unfolding everything numbers
+given-range {m} {n} {p} g =
+    let r = and-eq-true-iff (leb 1 n) (leb n 10) .0 (among-same (λ x. leb 1 x && leb x 10) (λ _. true) (numbers table) n refl (fits-number m n p (g .holds))) in
+    (leb-true 1 n (r .0), leb-true n 10 (r .1))
 
 -- number 1: nothing comes before it
 empty-given : (m : List ℕ) → length m ≡ 0 → Given m 1 0
@@ -129,16 +123,14 @@ empty-given m e = record { holds = rw e; first = λ k q. ⊎-elim (λ l. absurd 
 
 -- number 2: only number 1 comes before it
 long-given : (m : List ℕ) → 4096 < length m → Given m 2 0
-unfolding fits rank
-long-given m h = record { holds = rw (lt-leb (length m) 4096 h); first = λ k q. ⊎-elim (λ l. absurd (omega arith)) (λ l. by k q (eqb k 1) refl (l .1)) }
-  where
-    by : (k q : ℕ) (t : Bool) → eqb k 1 ≡ t → cond t 0 (cond (eqb k 2) 1 (suc (suc (indexIn rows k)))) < 1 → fits m k q ≡ false
-    by k q true e l = rw (eqb-true k 1 e, ne-eqb (length m) 0 (omega arith), and-false)
-    by k q false e l = absurd (last (eqb k 2) l)
-      where
-        last : (u : Bool) → cond u 1 (suc (suc (indexIn rows k))) < 1 → ⊥
-        last true l = omega arith
-        last false l = omega arith
+unfolding fits rank numbers
+long-given m h = record {
+  holds = rw (lt-leb (length m) 4096 h);
+  first = λ k q. ⊎-elim (λ l. absurd (omega arith)) (λ l. refuted _ (λ f.
+      let z : rank k ≡ 0 = omega (arith, l .1) in
+      let e : 1 ≡ k = rw z at (rank-number m k q f) in
+      false≢true (rw (← e, ne-eqb (length m) 0 (omega arith), and-false) at f)));
+}
 
 -- the bytes from a place on begin with the byte that stands there
 pub rest-first : (m : List ℕ) (i b : ℕ) (r : List ℕ) → drop i m ≡ b ∷ r → (i < length m) × (getD m i 0 ≡ b) × (drop (suc i) m ≡ r)
@@ -147,147 +139,117 @@ rest-first m i b r e =
     let s = sym (drop-cons m i 0 h) ∙ e in
     (h, cc s, cc s)
 
+-- no row fits at any of these bytes, behind those before them
+abbrev pub ClearFrom : List ℕ → List ℕ → Type 0
+ClearFrom before [] = Unit {0}
+ClearFrom before (b ∷ m) = Clear before b m × ClearFrom (b ∷ before) m
+
+module _ (m : List ℕ) where
+  -- so it is from each place on of a message where no row fits at any
+  pub places-clear : ((i : ℕ) → i < length m → ClearAt m i) → (r : List ℕ) (a : ℕ) → drop a m ≡ r → ClearFrom (beforeAt m a) r
+  unfolding beforeAt
+  places-clear c [] a e = tt
+  places-clear c (b ∷ r) a e = let s = rest-first m a b r e in (rw (s .1, s .2) at (c a (s .0)), rw (s .1) at (places-clear c r (suc a) (s .2)))
+
+  -- and the other way round
+  pub clear-places : (r : List ℕ) (a : ℕ) → drop a m ≡ r → ClearFrom (beforeAt m a) r → (i : ℕ) → a ≤ i → i < length m → ClearAt m i
+  unfolding beforeAt
+  clear-places [] a e c i l h = absurd (omega (arith, length-drop a m, ap length e))
+  clear-places (b ∷ r) a e c i l h =
+      let s = rest-first m a b r e in
+      ⊎-elim (λ g. clear-places r (suc a) (s .2) (rw (s .1) (c .1)) i g h) (λ g. let q : i ≡ a = omega arith in rw (q, s .1, s .2) (c .0)) (below-or a i)
+
 -- In a message of 1 to 4,096 bytes only rows can fit.
 module _ (m : List ℕ) (z : 0 < length m) (s : length m ≤ 4096) where
-  -- a row that fits at a place or not
-  sized-fits : (k p : ℕ) (v : Bool) → p < length m → fitsIn rows k (beforeAt m p) (getD m p 0) (drop (suc p) m) ≡ v → fits m k p ≡ v
-  unfolding fits rows fitsIn
-  sized-fits k p v h e = rw (ne-eqb (length m) 0 (omega arith), le-leb (length m) 4096 s, le-leb (suc p) (length m) h, and-false) (by (eqb k 1) refl (eqb k 2) refl)
-    where
-      by : (t : Bool) → eqb k 1 ≡ t → (u : Bool) → eqb k 2 ≡ u → cond t false (cond u false (fitsIn rows k (beforeAt m p) (getD m p 0) (drop (suc p) m))) ≡ v
-      by true q u r = rw (eqb-true k 1 q) at e
-      by false q true r = rw (eqb-true k 2 r) at e
-      by false q false r = e
+  -- at a place of it
+  sized-fits : (k p : ℕ) → p < length m → fits m k p ≡ fitsIn table k (beforeAt m p) (getD m p 0) (drop (suc p) m)
+  unfolding fits fitsIn
+  sized-fits k p h = rw (ne-eqb (length m) 0 (omega arith), le-leb (length m) 4096 s, le-leb (suc p) (length m) h, and-false, eqb-swap k 1, eqb-swap k 2)
+
+  clear-fits : (k p : ℕ) → p < length m → ClearAt m p → fits m k p ≡ false
+  unfolding fitsIn
+  clear-fits k p h c = rw (sized-fits k p h, c k) (simp cond-same)
 
   -- and none past its end
   past-fits : (k p : ℕ) → length m ≤ p → fits m k p ≡ false
   unfolding fits
   past-fits k p h = rw (ne-eqb (length m) 0 (omega arith), le-leb (length m) 4096 s, lt-leb (suc p) (length m) (omega arith), and-false) (simp cond-same)
 
-  -- a number that stands before a row in the order does not fit where that row is the first one that does
-  lower-fits : (k p : ℕ) → p < length m → let n = firstFit rows (beforeAt m p) (getD m p 0) (drop (suc p) m) in 0 < n → rank k < rank n → fits m k p ≡ false
-  unfolding rows fitsIn
-  lower-fits k p h i l = ⊎-elim (λ q. rw (eqb-true k 1 q) (sized-fits 1 p false h refl))
-      (λ q. ⊎-elim (λ r. rw (eqb-true k 2 r) (sized-fits 2 p false h refl))
-      (λ r. sized-fits k p false h (first-first (beforeAt m p) (getD m p 0) (drop (suc p) m) rows k rows-orderly i (rank-lower k _ q r l))) (yes-or (eqb k 2))) (yes-or (eqb k 1))
-
   -- the first place with a fault gives its number
   fault-given : (p : ℕ) → p < length m → ((j : ℕ) → j < p → ClearAt m j)
       → (faultAt (beforeAt m p) (getD m p 0) (drop (suc p) m) ≡ 0 → ⊥) → Given m (faultAt (beforeAt m p) (getD m p 0) (drop (suc p) m)) p
-  unfolding faultAt
-  fault-given p h c f =
-      let n = firstFit rows (beforeAt m p) (getD m p 0) (drop (suc p) m) in
-      let i : 0 < n = omega arith in
-      record {
-        holds = sized-fits n p true h (first-fits (beforeAt m p) (getD m p 0) (drop (suc p) m) rows rows-orderly i);
-        first = λ k q. ⊎-elim (λ l. sized-fits k q false (omega arith) (c q l k)) (λ e. rw (e .0) (lower-fits k p h i (e .1)));
-      }
+  unfolding faultAt firstFit
+  fault-given p h c f = record {
+    holds = sized-fits _ p h ∙ first-fits (beforeAt m p) (getD m p 0) (drop (suc p) m) table table-distinct (omega arith);
+    first = λ k q. ⊎-elim (λ l. clear-fits k q (omega arith) (c q l))
+        (λ e. rw (e .0) (sized-fits k p h ∙ first-first (beforeAt m p) (getD m p 0) (drop (suc p) m) table k (rw (rank-index k, rank-index (firstFit rows (beforeAt m p) (getD m p 0) (drop (suc p) m))) at (e .1))));
+  }
 
   -- the scan goes on over the bytes that are clear, to the end or to the first fault
   scan-finds : (r : List ℕ) (i : ℕ) → drop i m ≡ r → i ≤ length m → ((j : ℕ) → j < i → ClearAt m j) → Finds m (scan (Accepted (countsOf m)) (beforeAt m i) r)
   unfolding scan beforeAt
-  scan-finds [] i e h c = nothing (record { some = z; short = s; rows = λ j l. c j (omega (arith, length-drop i m, ap length e)) })
-  scan-finds (b ∷ r) i e h c = by (eqb (faultAt (beforeAt m i) b r) 0) refl (scan-finds r (suc i) tail within)
-    where
-      within : i < length m
-      within = rest-first m i b r e .0
-
-      head : getD m i 0 ≡ b
-      head = rest-first m i b r e .1
-
-      tail : drop (suc i) m ≡ r
-      tail = rest-first m i b r e .2
-
-      by : (t : Bool) → eqb (faultAt (beforeAt m i) b r) 0 ≡ t
-          → (((j : ℕ) → j < suc i → ClearAt m j) → Finds m (scan (Accepted (countsOf m)) (getD m i 0 ∷ beforeAt m i) r))
-          → Finds m (cond t (scan (Accepted (countsOf m)) (b ∷ beforeAt m i) r) (Refused (refusal (faultAt (beforeAt m i) b r) (length (beforeAt m i)))))
-      by true q f = rw (← head) (f (clear-more m i c (rw (head, tail) (fault-clear (beforeAt m i) b r (eqb-true _ _ q)))))
-      by false q f = rw (← head, ← tail, before-length) (fault _ i (fault-given i within c (λ n. eqb-false (faultAt (beforeAt m i) b r) 0 q (rw (head, tail) at n))))
+  scan-finds [] i e h c = inl (refl, record { some = z; short = s; rows = λ j l. c j (omega (arith, length-drop i m, ap length e)) })
+  scan-finds (b ∷ r) i e h c =
+      let f = rest-first m i b r e in
+      either (eqb (faultAt (beforeAt m i) b r) 0)
+      (λ q. rw (q, ← f .1) (scan-finds r (suc i) (f .2) (f .0) (λ j l. ⊎-elim (c j) (λ g.
+      let d : j ≡ i = omega arith in
+      rw (d, f .1, f .2) (fault-clear (beforeAt m i) b r (eqb-true _ _ q))) (below-or j i))))
+      (λ q. rw (q, ← f .1, ← f .2, before-length) (inr (record {
+        number = _;
+        place = i;
+        refused = refl;
+        given = fault-given i (f .0) c (λ n. eqb-false (faultAt (beforeAt m i) b r) 0 q (rw (f .1, f .2) at n));
+        within = omega (arith, f .0);
+      })))
 
 -- What the check finds in a message.
 pub check-finds : (m : List ℕ) → Finds m (checkOf m)
 unfolding checkOf beforeAt
-check-finds m = by (eqb (length m) 0) refl (leb (length m) 4096) refl
-  where
-    by : (t : Bool) → eqb (length m) 0 ≡ t → (u : Bool) → leb (length m) 4096 ≡ u
-        → Finds m (cond t (Refused (refusal 1 0)) (cond u (scan (Accepted (countsOf m)) [] m) (Refused (refusal 2 0))))
-    by true q u r = fault 1 0 (empty-given m (eqb-true _ _ q))
-    by false q true r = scan-finds m (omega (arith, eqb-false (length m) 0 q)) (leb-true (length m) 4096 r) m 0 refl (omega arith) (λ j l. absurd (omega arith))
-    by false q false r = fault 2 0 (long-given m (omega (arith, leb-false (length m) 4096 r)))
+check-finds m = either (eqb (length m) 0) (λ q. rw q (inr (record { number = 1; place = 0; refused = refl; given = empty-given m (eqb-true _ _ q); within = omega arith }))) (λ q.
+    rw q (either (leb (length m) 4096)
+    (λ r. rw r (scan-finds m (omega (arith, eqb-false (length m) 0 q)) (leb-true (length m) 4096 r) m 0 refl (omega arith) (λ j l. absurd (omega arith))))
+    (λ r. rw r (inr (record { number = 2; place = 0; refused = refl; given = long-given m (omega (arith, leb-false (length m) 4096 r)); within = omega arith })))))
 
 -- a message that passes is fitted by nothing
 pub passes-none : (m : List ℕ) → Passes m → NoneFits m
 passes-none m p k q =
-    ⊎-elim (λ h. sized-fits m (p .some) (p .short) k q false h (p .rows q h k)) (λ h. past-fits m (p .some) (p .short) k q h) (below-or q (length m))
+    ⊎-elim (λ h. clear-fits m (p .some) (p .short) k q h (p .rows q h)) (λ h. past-fits m (p .some) (p .short) k q h) (below-or q (length m))
 
 -- what is given fits, so it is not given where nothing fits
 none-given : (m : List ℕ) (n p : ℕ) → NoneFits m → Given m n p → ⊥
 none-given m n p f g = true≢false (sym (g .holds) ∙ f n p)
 
--- numbers that fit at one place and have one rank are one
-rank-same : (m : List ℕ) (p n k : ℕ) → rank n ≡ rank k → fits m n p ≡ true → fits m k p ≡ true → n ≡ k
-unfolding rank fits
-rank-same m p n k i e f = by (eqb n 1) refl (eqb n 2) refl (eqb k 1) refl (eqb k 2) refl i e f
-  where
-    by : (a : Bool) → eqb n 1 ≡ a → (b : Bool) → eqb n 2 ≡ b → (c : Bool) → eqb k 1 ≡ c → (d : Bool) → eqb k 2 ≡ d
-        → cond a 0 (cond b 1 (suc (suc (indexIn rows n)))) ≡ cond c 0 (cond d 1 (suc (suc (indexIn rows k))))
-        → cond a (eqb p 0 && eqb (length m) 0) (cond b (eqb p 0 && not (leb (length m) 4096)) (leb (suc p) (length m) && fitsIn rows n (beforeAt m p) (getD m p 0) (drop (suc p) m))) ≡ true
-        → cond c (eqb p 0 && eqb (length m) 0) (cond d (eqb p 0 && not (leb (length m) 4096)) (leb (suc p) (length m) && fitsIn rows k (beforeAt m p) (getD m p 0) (drop (suc p) m))) ≡ true
-        → n ≡ k
-    by true x b y true z d w i e f = eqb-true n 1 x ∙ sym (eqb-true k 1 z)
-    by true x b y false z true w i e f = absurd (omega arith)
-    by true x b y false z false w i e f = absurd (omega arith)
-    by false x true y true z d w i e f = absurd (omega arith)
-    by false x true y false z true w i e f = eqb-true n 2 y ∙ sym (eqb-true k 2 w)
-    by false x true y false z false w i e f = absurd (omega arith)
-    by false x false y true z d w i e f = absurd (omega arith)
-    by false x false y false z true w i e f = absurd (omega arith)
-    by false x false y false z false w i e f =
-        let o = leb (suc p) (length m) in
-        fits-same (beforeAt m p) (getD m p 0) (drop (suc p) m) rows n k (omega arith) (and-eq-true-iff o _ .0 e .1) (and-eq-true-iff o _ .0 f .1)
+-- nor where something earlier fits
+first-given : {m : List ℕ} {n p k q : ℕ} → Given m n p → Given m k q → Earlier n p k q → ⊥
+first-given g h e = true≢false (sym (g .holds) ∙ h .first _ _ e)
 
 -- At most one number is given, at one place.
 pub given-once : (m : List ℕ) (n p k q : ℕ) → Given m n p → Given m k q → (n ≡ k) × (p ≡ q)
 given-once m n p k q g h =
-    ⊎-elim (λ l. absurd (before (inl l))) (λ x. ⊎-elim (λ l. absurd (after (inl l))) (λ y. at-once (omega arith)) (below-or q p)) (below-or p q)
-  where
-    -- what comes before does not fit
-    before : Earlier n p k q → ⊥
-    before e = true≢false (sym (g .holds) ∙ h .first n p e)
-
-    after : Earlier k q n p → ⊥
-    after e = true≢false (sym (h .holds) ∙ g .first k q e)
-
-    at-once : p ≡ q → (n ≡ k) × (p ≡ q)
-    at-once e = ⊎-elim (λ l. absurd (before (inr (e, l)))) (λ x. ⊎-elim (λ l. absurd (after (inr (sym e, l))))
-        (λ y. (rank-same m q n k (omega arith) (rw e at (g .holds)) (h .holds), e)) (below-or (rank k) (rank n))) (below-or (rank n) (rank k))
+    let a : p < q → ⊥ = λ l. first-given g h (inl l) in
+    let b : q < p → ⊥ = λ l. first-given h g (inl l) in
+    let e : p ≡ q = omega arith in
+    let c : rank n < rank k → ⊥ = λ l. first-given g h (inr (e, l)) in
+    let d : rank k < rank n → ⊥ = λ l. first-given h g (inr (sym e, l)) in
+    let r : rank n ≡ rank k = omega arith in
+    (sym (rank-number m n p (g .holds)) ∙ rw r (rank-number m k q (h .holds)), e)
 
 -- Accepted: nothing fits.
 pub accepted-passes : (m : List ℕ) (counts : Counts) → checkOf m ≡ Accepted counts → Passes m
-accepted-passes m counts e = by (checkOf m) e (check-finds m)
-  where
-    by : (d : Checked) → d ≡ Accepted counts → Finds m d → Passes m
-    by d e (nothing p) = p
-    by d e (fault n p g) = absurd (let z : _≡_ {A = ℕ} 0 1 = cc in omega arith)
+accepted-passes m counts e = ⊎-elim (λ f. f .1) (λ f. absurd (let z : _≡_ {A = ℕ} 0 1 = cc in omega arith)) (check-finds m)
 
 -- Nothing fits: accepted.
 pub none-accepted : (m : List ℕ) → NoneFits m → checkOf m ≡ Accepted (countsOf m)
-none-accepted m f = by (checkOf m) (check-finds m)
-  where
-    by : (d : Checked) → Finds m d → d ≡ Accepted (countsOf m)
-    by d (nothing p) = refl
-    by d (fault n p g) = absurd (none-given m n p f g)
+none-accepted m n = ⊎-elim (λ f. f .0) (λ f. absurd (none-given m _ _ n (f .given))) (check-finds m)
 
 pub none-passes : (m : List ℕ) → NoneFits m → Passes m
 none-passes m f = accepted-passes m (countsOf m) (none-accepted m f)
 
 -- Given: refused so.
 pub given-refused : (m : List ℕ) (n p : ℕ) → Given m n p → checkOf m ≡ Refused (refusal n p)
-given-refused m n p g = by (checkOf m) (check-finds m)
-  where
-    by : (d : Checked) → Finds m d → d ≡ Refused (refusal n p)
-    by d (nothing q) = absurd (none-given m n p (passes-none m q) g)
-    by d (fault k q h) = let e = given-once m k q n p h g in rw (e .0, e .1)
+given-refused m n p g =
+    ⊎-elim (λ f. absurd (none-given m n p (passes-none m (f .1)) g)) (λ f. let e = given-once m _ _ n p (f .given) g in f .refused ∙ rw (e .0, e .1)) (check-finds m)
 
 -- The first fault of a message is refused with its place.
 pub first-refused : (m : List ℕ) → length m ≤ 4096 → (p : ℕ) → p < length m → ((j : ℕ) → j < p → ClearAt m j) → (n : ℕ) → faultAt (beforeAt m p) (getD m p 0) (drop (suc p) m) ≡ n → (n ≡ 0 → ⊥)

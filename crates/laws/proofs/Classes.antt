@@ -1,12 +1,17 @@
 -- A test has two outcomes, so what holds in both holds; and a class is a list of bytes, so what holds of all its letters is one computation over that list.
 use Rattle.laws.proofs.Kit.{ℕ, suc, _<_, _≤_, _≡_, refl, sym, ap, _∙_, Bool, true, false, cond, _||_, true≢false, false≢true, _⊎_, inl, inr, List, [], _∷_, _++_, map, arith, eqb, leb, eqb-true, leb-true, leb-false}
-use Rattle.spec.specs.{Tables.among, Alphabet.gap, Alphabet.pause, Letters.isBreak, Letters.isMark, Letters.plainVowels, Letters.softeningVowels, Letters.isVowel, Letters.isObstruent, Letters.isPaired, Refusals.vowelByte, Refusals.signByte, Refusals.hardSignByte, Refusals.consonantByte}
+use Rattle.spec.specs.{Tables.among, Alphabet.gap, Alphabet.pause, Codes.markOf, Letters.isBreak, Letters.isMark, Letters.plainVowels, Letters.softeningVowels, Letters.isVowel, Letters.isObstruent, Letters.isPaired, Refusals.vowelByte, Refusals.signByte, Refusals.hardSignByte, Refusals.consonantByte}
 use Rattle.spec.proofs.Computed.{everything}
 
 -- what holds of both choices holds of what a test chooses
 pub cond-both : {A : Type 0} (P : A → Type 0) (t : Bool) {x y : A} → P x → P y → P (cond t x y)
 cond-both P true a b = a
 cond-both P false a b = b
+
+-- and what holds of both marks holds of a break's
+pub mark-both : (P : ℕ → Type 0) (x : ℕ) → P 0 → P 63 → P (markOf x)
+unfolding markOf
+mark-both P x g p = cond-both P (eqb x pause) p g
 
 -- a function of what a test chooses
 pub cond-app : {A B : Type 0} (f : A → B) (t : Bool) (x y : A) → f (cond t x y) ≡ cond t (f x) (f y)
@@ -23,28 +28,30 @@ pub yes-or : (t : Bool) → (t ≡ true) ⊎ (t ≡ false)
 yes-or true = inl refl
 yes-or false = inr refl
 
+-- so what follows from either follows
+pub either : {P : Type 0} (t : Bool) → (t ≡ true → P) → (t ≡ false → P) → P
+either true f g = f refl
+either false f g = g refl
+
 -- a test that cannot hold fails
 pub refuted : (t : Bool) → (t ≡ true → ⊥) → t ≡ false
 refuted true f = absurd (f refl)
 refuted false f = refl
 
+-- an or that fails fails twice
+pub or-false : (s t : Bool) → (s || t) ≡ false → (s ≡ false) × (t ≡ false)
+or-false true t e = absurd (true≢false e)
+or-false false t e = (refl, e)
+
 -- a number is below another or not
 pub below-or : (a b : ℕ) → (a < b) ⊎ (b ≤ a)
-below-or a b = by (leb (suc a) b) refl
-  where
-    by : (t : Bool) → leb (suc a) b ≡ t → (a < b) ⊎ (b ≤ a)
-    by true q = inl (leb-true (suc a) b q)
-    by false q = inr (omega (arith, leb-false (suc a) b q))
+below-or a b = either (leb (suc a) b) (λ q. inl (leb-true (suc a) b q)) (λ q. inr (omega (arith, leb-false (suc a) b q)))
 
 -- two functions that agree on a list agree at each of its bytes
 pub among-same : {A : Type 0} (f g : ℕ → A) (xs : List ℕ) (b : ℕ) → map f xs ≡ map g xs → among xs b ≡ true → f b ≡ g b
 unfolding among
 among-same f g [] b e h = absurd (false≢true h)
-among-same f g (x ∷ xs) b e h = by (eqb b x) refl h (among-same f g xs b (cc))
-  where
-    by : (t : Bool) → eqb b x ≡ t → (t || among xs b) ≡ true → (among xs b ≡ true → f b ≡ g b) → f b ≡ g b
-    by true d h′ r = rw (eqb-true b x d) (cc)
-    by false d h′ r = r h′
+among-same f g (x ∷ xs) b e h = either (eqb b x) (λ d. rw (eqb-true b x d) (cc)) (λ d. among-same f g xs b (cc) (rw d at h))
 
 -- a byte outside a list is none of its bytes
 pub among-none : (xs : List ℕ) (b x : ℕ) → among xs b ≡ false → among xs x ≡ true → eqb b x ≡ false
@@ -67,11 +74,7 @@ NoBreak class = (d : ℕ) → isBreak d ≡ true → class d ≡ false
 -- a class without the gap and the pause
 no-break : (class : ℕ → Bool) → class gap ≡ false → class pause ≡ false → NoBreak class
 unfolding isBreak
-no-break class g p d e = by (eqb d gap) refl e
-  where
-    by : (t : Bool) → eqb d gap ≡ t → (t || eqb d pause) ≡ true → class d ≡ false
-    by true q e = rw (eqb-true d gap q) g
-    by false q e = rw (eqb-true d pause e) p
+no-break class g p d e = either (eqb d gap) (λ q. rw (eqb-true d gap q) g) (λ q. rw (eqb-true d pause (rw q at e)) p)
 
 -- a break is no mark
 pub break-mark : NoBreak isMark

@@ -1,9 +1,9 @@
 -- The codes of a tape. Every letter of an accepted message is one of the alphabet, so each code of its words is a sound, 1 to 13 or 16 to 56,
 -- and the marks on its tape are those of its breaks.
-use Rattle.laws.proofs.Kit.{ℕ, zero, suc, _+_, _-_, _<_, _≡_, refl, sym, ap, _∙_, Bool, true, false, cond, not, _&&_, _||_, and-eq-true-iff, or-false, false≢true, ⊎-elim, List, [], _∷_, _++_, append-nil, arith, eqb, length, take, drop, getD, length-take, length-drop, take-length, getD-take, getD-drop, eqb-true}
-use Rattle.spec.specs.{Alphabet.pause, Letters.Letter, Letters.Message, Letters.last, Letters.more, Letters.read, Letters.putLetter, Letters.beginsWithMark, Letters.small, Letters.hardOnly, Letters.paired, Letters.softOnly, Letters.plainVowels, Letters.softeningVowels, Letters.obstruents, Letters.isGap, Letters.isBreak, Letters.isMark, Letters.isPaired, Letters.isConsonant, Letters.isSign, Letters.isVowel, Letters.isObstruent, Codes.J, Codes.markOf, Codes.isMarkCode, Codes.isSound, Codes.isCode, Elision.elides, Elision.elideFrom, Elision.elide, Syllables.Facts, Syllables.factsOf, Syllables.syllableOf, Syllables.nameIn, Syllables.nameOf, Syllables.isName, Syllables.incomplete, Syllables.namesFrom, Vowels.Phone, Vowels.vowelSound, Vowels.glides, Vowels.writtenCode, Vowels.vowelPhones, Vowels.phonesOf, Vowels.phonesFrom, Vowels.endsHard, Voicing.Tone, Voicing.voiced, Voicing.voiceless, Voicing.asWritten, Voicing.voicedCode, Voicing.voicelessCode, Voicing.voices, Voicing.toneOf, Voicing.toned, Voicing.codesOf, Voicing.voiceOne, Voicing.voice, Palatalization.isSoft, Palatalization.palatalize, Palatalization.firstCode, Tape.wordTape, Tape.segment, Tape.tape, Tape.wordNames, Tape.namesOf, Tape.names, Refusals.consonantByte, Refusals.signByte, Refusals.vowelByte, Refusals.letterByte, Refusals.row3, Refusals.rows, Refusals.fitsIn, Refusals.NoneFits, Joints.joinedFrom, Joints.joined, Joints.marksOf, Joints.breakMarks, declared.Cover.Cover, declared.Cover.the-variants.Bare, declared.Cover.the-variants.Covered, declared.Syllable.Syllable, declared.Level.Level, declared.Level.the-variants.Stressed, declared.Level.the-variants.First, declared.Level.the-variants.Second}
+use Rattle.laws.proofs.Kit.{ℕ, zero, suc, _+_, _-_, _<_, _≡_, refl, sym, ap, _∙_, Bool, true, false, cond, not, _&&_, _||_, and-eq-true-iff, and-true, or-false, true≢false, List, [], _∷_, _++_, arith, eqb, length, take, drop, getD, length-take, length-drop, take-length, getD-take, getD-drop, not-false}
+use Rattle.spec.specs.{Tables.among, Letters.Letter, Letters.Message, Letters.last, Letters.more, Letters.read, Letters.putLetter, Letters.hardOnly, Letters.paired, Letters.softOnly, Letters.plainVowels, Letters.softeningVowels, Letters.obstruents, Letters.between, Letters.isGap, Letters.isBreak, Letters.isMark, Letters.isPaired, Letters.isConsonant, Letters.isSign, Letters.isVowel, Letters.isObstruent, Codes.Б, Codes.З', Codes.J, Codes.Ц1, Codes.Ч1, Codes.markOf, Codes.isMarkCode, Codes.isSound, Codes.isCode, Elision.elides, Elision.elideFrom, Elision.elide, Syllables.Facts, Syllables.factsOf, Syllables.syllableOf, Syllables.nameIn, Syllables.nameOf, Syllables.isName, Syllables.incomplete, Syllables.namesFrom, Vowels.Phone, Vowels.vowelSound, Vowels.writtenCode, Vowels.phonesFrom, Vowels.endsHard, Voicing.Tone, Voicing.voiced, Voicing.voiceless, Voicing.asWritten, Voicing.voicedCode, Voicing.voicelessCode, Voicing.voices, Voicing.toneOf, Voicing.toned, Voicing.codesOf, Voicing.voiceOne, Voicing.voice, Palatalization.isSoft, Palatalization.palatalize, Tape.wordTape, Tape.segment, Tape.tape, Tape.wordNames, Tape.namesOf, Tape.names, Refusals.consonantByte, Refusals.signByte, Refusals.vowelByte, Refusals.letterByte, Refusals.row3, Refusals.rows, Refusals.fitsIn, Refusals.NoneFits, Joints.joinedFrom, Joints.joined, Joints.marksOf, Joints.breakMarks, declared.Cover.Cover, declared.Cover.the-variants.Bare, declared.Cover.the-variants.Covered, declared.Syllable.Syllable, declared.Level.Level, declared.Level.the-variants.Stressed, declared.Level.the-variants.First, declared.Level.the-variants.Second}
 use Rattle.spec.proofs.Computed.{everything}
-use Rattle.laws.proofs.{Classes.cond-both, Classes.cond-app, Classes.cond-same, Classes.yes-or, Classes.refuted, Classes.among-same, Classes.vowel-single, Word.shape, Accepted.Passes, Accepted.none-passes}
+use Rattle.laws.proofs.{Classes.cond-both, Classes.mark-both, Classes.cond-app, Classes.cond-same, Classes.either, Classes.refuted, Classes.among-same, Classes.vowel-single, Classes.vowel-quiet, Word.phones-cases, Accepted.Passes, Accepted.none-passes}
 
 -- a claim on each code of a tape, or on each name
 abbrev pub Each : (ℕ → Bool) → List ℕ → Type 0
@@ -38,29 +38,9 @@ unfolding elideFrom
 elide-spelled p [] s = tt
 elide-spelled p (l ∷ w) s = let r = elide-spelled (l .byte) w (s .1) in cond-both Spelled (elides p (l .byte) w) r (s .0, r)
 
--- A claim on each sound, on its letter and its code.
-abbrev pub EachPhone : (ℕ → ℕ → Bool) → List Phone → Type 0
-EachPhone f [] = Unit {0}
-EachPhone f (x ∷ xs) = (f (x .letter) (x .code) ≡ true) × EachPhone f xs
-
--- pass 3: a letter of the alphabet is a sign, a vowel or a consonant, so what holds of a vowel's glide and sound and of a consonant's code holds of a word's sounds
-module _ (f : ℕ → ℕ → Bool) (glide : (b : ℕ) → isVowel b ≡ true → f b J ≡ true)
-    (vowel : (hard : Bool) (p : ℕ) (s : Syllable) (b : ℕ) → isVowel b ≡ true → f b (vowelSound hard p s b) ≡ true) (written : (b : ℕ) → isConsonant b ≡ true → f b (writtenCode b) ≡ true) where
-  shape-each : (s v g : Bool) (j x c : Phone) (xs : List Phone)
-      → (v ≡ true → (f (j .letter) (j .code) ≡ true) × (f (x .letter) (x .code) ≡ true)) → (s ≡ false → v ≡ false → f (c .letter) (c .code) ≡ true)
-      → EachPhone f xs → EachPhone f (shape s v g j x c ++ xs)
-  shape-each true v g j x c xs a b r = r
-  shape-each false true true j x c xs a b r = (a refl .0, (a refl .1, r))
-  shape-each false true false j x c xs a b r = (a refl .1, r)
-  shape-each false false g j x c xs a b r = (b refl refl, r)
-
-  pub phones-each : (hard : Bool) (facts : Facts) (p : ℕ) (w : List Letter) → Spelled w → EachPhone f (phonesFrom hard facts p w)
-  unfolding phonesFrom phonesOf vowelPhones spells
-  phones-each hard facts p [] s = tt
-  phones-each hard facts p (l ∷ w) s =
-      shape-each (isSign (l .byte)) (isVowel (l .byte)) (glides p (syllableOf facts p l w .cover) (l .byte)) _ _ _ _
-      (λ v. (glide (l .byte) v, vowel hard p (syllableOf facts p l w) (l .byte) v))
-      (λ n v. written (l .byte) (rw (n, v, or-false) at (s .0))) (phones-each false facts (l .byte) w (s .1))
+-- codes of voiced obstruents: the set D, В and В'
+abbrev pub isVoiced : ℕ → Bool
+isVoiced c = ((between Б З' c && not (eqb c J)) || eqb c Ц1) || eqb c Ч1
 
 -- The code c of a letter b passes a test, and so does its palatalized one where the letter has one.
 unfoldable pub both : (ℕ → Bool) → ℕ → ℕ → Bool
@@ -69,65 +49,84 @@ both f b c = f c && (not (isPaired b) || f (suc c))
 -- pass 5: only a letter that has a palatalized sound is palatalized
 pub soft-both : (f : ℕ → Bool) (x : Phone) (n c : ℕ) → both f (x .letter) c ≡ true → f (cond (isSoft x n) (suc c) c) ≡ true
 unfolding both isSoft
-soft-both f x n c h = by (isPaired (x .letter)) _ (and-eq-true-iff (f c) _ .0 h)
-  where
-    by : (p t : Bool) → (f c ≡ true) × ((not p || f (suc c)) ≡ true) → f (cond (p && t) (suc c) c) ≡ true
-    by true true e = e .1
-    by true false e = e .0
-    by false t e = e .0
+soft-both f x n c h =
+    let e = and-eq-true-iff (f c) _ .0 h in
+    either (isSoft x n) (λ s. rw s (rw (and-eq-true-iff (isPaired (x .letter)) _ .0 s .0) at (e .1))) (λ s. rw s (e .0))
+
+-- a sound that is no voiced obstruent's
+abbrev plain : ℕ → Bool
+plain c = isSound c && not (isVoiced c)
+
+-- The code c that pass 3 gives a letter b is a sound, and none of a voiced obstruent unless the letter is an obstruent; and so is its palatalized one.
+unfoldable pub fine : ℕ → ℕ → Bool
+fine b c = both isSound b c && (isObstruent b || both (λ x. not (isVoiced x)) b c)
+
+-- each of these sounds is so
+abbrev pub Fine : List Phone → Type 0
+Fine [] = Unit {0}
+Fine (x ∷ xs) = (fine (x .letter) (x .code) ≡ true) × Fine xs
+
+-- a vowel has no palatalized sound and is no obstruent
+vowel-fine : (b c : ℕ) → isVowel b ≡ true → plain c ≡ true → fine b c ≡ true
+unfolding fine both
+vowel-fine b c v h = simp (vowel-single b v, vowel-quiet b v, and-true) h
 
 -- pass 3: a vowel has a sound, whatever stands around it
-vowel-sound : (hard : Bool) (p : ℕ) (s : Syllable) (b : ℕ) → isVowel b ≡ true → isSound (vowelSound hard p s b) ≡ true
+vowel-plain : (hard : Bool) (p : ℕ) (s : Syllable) (b : ℕ) → isVowel b ≡ true → plain (vowelSound hard p s b) ≡ true
 unfolding everything isSound
-vowel-sound hard p s b h = alike (s .level) ∙ among-same (λ x. isSound (vowelSound false 0 marked x)) (λ _. true) (plainVowels ++ softeningVowels) b refl h
+vowel-plain hard p s b h = alike (s .level) ∙ among-same (λ x. plain (vowelSound false 0 marked x)) (λ _. true) (plainVowels ++ softeningVowels) b refl h
   where
     marked : Syllable
     marked = record { cover = Bare; level = Stressed }
 
-    alike : (level : Level) → isSound (vowelSound hard p (record { cover = s .cover; level = level }) b) ≡ isSound (vowelSound false 0 marked b)
-    alike Stressed = simp (cond-app isSound, cond-same)
-    alike First = simp (cond-app isSound, cond-same)
-    alike Second = simp (cond-app isSound, cond-same)
+    alike : (level : Level) → plain (vowelSound hard p (record { cover = s .cover; level = level }) b) ≡ plain (vowelSound false 0 marked b)
+    alike Stressed = simp (cond-app plain, cond-same)
+    alike First = simp (cond-app plain, cond-same)
+    alike Second = simp (cond-app plain, cond-same)
 
--- The code c of a letter b is a sound, and so is its palatalized one.
-abbrev fine : ℕ → ℕ → Bool
-fine = both isSound
-
--- a vowel has no palatalized sound
-vowel-fine : (b c : ℕ) → isVowel b ≡ true → isSound c ≡ true → fine b c ≡ true
-unfolding both
-vowel-fine b c v s = rw (s, vowel-single b v)
+-- so it is a sound
+pub vowel-sound : (hard : Bool) (p : ℕ) (s : Syllable) (b : ℕ) → isVowel b ≡ true → isSound (vowelSound hard p s b) ≡ true
+vowel-sound hard p s b h = and-eq-true-iff (isSound (vowelSound hard p s b)) _ .0 (vowel-plain hard p s b h) .0
 
 -- a consonant's sound as written
 written-fine : (b : ℕ) → isConsonant b ≡ true → fine b (writtenCode b) ≡ true
-unfolding everything isSound both
+unfolding everything isSound fine both
 written-fine b h = among-same (λ x. fine x (writtenCode x)) (λ _. true) (hardOnly ++ paired ++ softOnly) b refl h
 
+-- pass 3, over a word: a letter of the alphabet is a sign, a vowel or a consonant
+phones-fine : (hard : Bool) (facts : Facts) (p : ℕ) (w : List Letter) → Spelled w → Fine (phonesFrom hard facts p w)
+unfolding phonesFrom spells isSound
+phones-fine hard facts p [] s = tt
+phones-fine hard facts p (l ∷ w) s =
+    let r = phones-fine false facts (l .byte) w (s .1) in
+    phones-cases (λ xs. Fine (xs ++ phonesFrom false facts (l .byte) w)) hard facts p l w (λ _. r)
+    (λ v _. let x = vowel-fine (l .byte) _ v (vowel-plain hard p (syllableOf facts p l w) (l .byte) v) in ((vowel-fine (l .byte) J v refl, (x, r)), (x, r)))
+    (λ v n. (written-fine (l .byte) (rw (n, v, or-false) at (s .0)), r))
+
+pub word-fine : (hard : Bool) (w : List Letter) → Spelled w → Fine (phonesFrom hard (factsOf w) 0 (elide w))
+unfolding elide
+word-fine hard w s = phones-fine hard (factsOf w) 0 (elideFrom 0 w) (elide-spelled 0 w s)
+
 -- pass 4: an obstruent's sound before any other
-toned-fine : (tone : Tone) (b c : ℕ) → isObstruent b ≡ true → fine b c ≡ true → fine b (toned tone b c) ≡ true
+toned-sound : (tone : Tone) (b c : ℕ) → isObstruent b ≡ true → both isSound b c ≡ true → both isSound b (toned tone b c) ≡ true
 unfolding everything isSound both
-toned-fine voiced b c h f = among-same (λ x. fine x (voicedCode x)) (λ _. true) obstruents b refl h
-toned-fine voiceless b c h f = among-same (λ x. fine x (voicelessCode x)) (λ _. true) obstruents b refl h
-toned-fine asWritten b c h f = f
+toned-sound voiced b c h f = among-same (λ x. both isSound x (voicedCode x)) (λ _. true) obstruents b refl h
+toned-sound voiceless b c h f = among-same (λ x. both isSound x (voicelessCode x)) (λ _. true) obstruents b refl h
+toned-sound asWritten b c h f = f
 
--- pass 4, over a word
-voice-fine : (next : Bool) (xs : List Phone) → EachPhone fine xs → EachPhone fine (voice next xs)
-unfolding voice voiceOne
-voice-fine next [] f = tt
-voice-fine next (x ∷ xs) f =
-    (⊎-elim (λ q. rw q (toned-fine (toneOf next (codesOf (voice next xs))) (x .letter) (x .code) q (f .0))) (λ q. rw q (f .0)) (yes-or (isObstruent (x .letter))), voice-fine next xs (f .1))
-
--- pass 5, over a word
-palatalize-sounds : (xs : List Phone) → EachPhone fine xs → Each isSound (palatalize xs)
-unfolding palatalize
-palatalize-sounds [] f = tt
-palatalize-sounds (x ∷ xs) f = (soft-both isSound x (firstCode (palatalize xs)) (x .code) (f .0), palatalize-sounds xs (f .1))
+-- passes 4 and 5, over a word
+fine-sounds : (next : Bool) (xs : List Phone) → Fine xs → Each isSound (palatalize (voice next xs))
+unfolding palatalize voice voiceOne fine
+fine-sounds next [] f = tt
+fine-sounds next (x ∷ xs) f =
+    let s = and-eq-true-iff (both isSound (x .letter) (x .code)) _ .0 (f .0) .0 in
+    let t = toned-sound (toneOf next (codesOf (voice next xs))) (x .letter) (x .code) in
+    (soft-both isSound _ _ _ (either (isObstruent (x .letter)) (λ q. rw q (t q s)) (λ q. rw q s)), fine-sounds next xs (f .1))
 
 -- Every code of a word of the alphabet's letters is a sound.
 pub word-sounds : (hard next : Bool) (w : List Letter) → Spelled w → Each isSound (wordTape hard next w)
-unfolding wordTape elide isSound
-word-sounds hard next w s =
-    palatalize-sounds _ (voice-fine next _ (phones-each fine (λ b v. vowel-fine b J v refl) (λ h p x b v. vowel-fine b _ v (vowel-sound h p x b v)) written-fine hard (factsOf w) 0 (elideFrom 0 w) (elide-spelled 0 w s)))
+unfolding wordTape
+word-sounds hard next w s = fine-sounds next _ (word-fine hard w s)
 
 -- a message of such words
 abbrev pub Spells : Message → Type 0
@@ -143,17 +142,10 @@ put-spells l (more w x q) s r = ((s, r .0), r .1)
 pub read-spells : (m : List ℕ) → ((i : ℕ) → i < length m → row3 [] (getD m i 0) [] ≡ false) → Spells (read m)
 unfolding read row3 letterByte consonantByte signByte vowelByte spells
 read-spells [] n = tt
-read-spells (b ∷ m) n = by (isBreak b) refl (isMark b) refl (n 0 (omega arith)) (read-spells m (λ i l. n (suc i) (omega arith)))
-  where
-    named : (t : Bool) → not (t || false) ≡ false → t ≡ true
-    named true e = refl
-    named false e = sym e
-
-    by : (s : Bool) → isBreak b ≡ s → (t : Bool) → isMark b ≡ t → row3 [] b [] ≡ false → Spells (read m)
-        → Spells (cond s (more [] b (read m)) (cond t (read m) (putLetter (record { byte = small b; stressed = beginsWithMark m }) (read m))))
-    by true q t r n s = (tt, s)
-    by false q true r n s = s
-    by false q false r n s = put-spells _ (read m) (named (spells (small b)) (rw (q, r) at n)) s
+read-spells (b ∷ m) n =
+    let r = read-spells m (λ i l. n (suc i) (omega arith)) in
+    either (isBreak b) (λ q. rw q (tt, r)) (λ q. rw q (either (isMark b) (λ t. rw t r) (λ t.
+    rw t (put-spells _ (read m) (not-false _ (rw (q, t, or-false) at (n 0 (omega arith)))) r))))
 
 -- so it is in every stretch of an accepted message
 pub part-spells : (m : List ℕ) → Passes m → (a n : ℕ) → Spells (read (take n (drop a m)))
@@ -163,21 +155,17 @@ part-spells m p a n =
     let k = simp (length-take, length-drop) at l in
     rw (getD-take n (drop a m) i 0 (omega arith), getD-drop) (p .rows (a + i) (omega arith) 3))
 
--- a sound is no mark of a break
-sound-unmarked : (c : ℕ) → isSound c ≡ true → isMarkCode c ≡ false
-unfolding isSound isMarkCode
-sound-unmarked c s = rw (refuted (eqb c 0) (λ q. false≢true (rw (eqb-true c 0 q) at s)), refuted (eqb c 63) (λ q. false≢true (rw (eqb-true c 63 q) at s)))
-
--- so sounds add no mark
-marks-sounds : (s t : List ℕ) → Each isSound s → marksOf (s ++ t) ≡ marksOf t
-unfolding marksOf
-marks-sounds [] t h = refl
-marks-sounds (c ∷ s) t h = rw (sound-unmarked c (h .0)) (marks-sounds s t (h .1))
+-- a sound is no mark of a break, so sounds have no mark among them
+sounds-unmarked : (s : List ℕ) → Each isSound s → marksOf s ≡ []
+unfolding marksOf isMarkCode isSound among
+sounds-unmarked [] h = refl
+sounds-unmarked (c ∷ s) h =
+    rw (refuted (isMarkCode c) (λ q. true≢false (sym (h .0) ∙ among-same isSound (λ _. false) (0 ∷ 63 ∷ []) c refl (simp or-false q)))) (sounds-unmarked s (h .1))
 
 -- and a break's mark is one
 pub marks-mark : (x : ℕ) (t : List ℕ) → marksOf (markOf x ∷ t) ≡ markOf x ∷ marksOf t
-unfolding marksOf markOf isMarkCode
-marks-mark x t = cond-both (λ c. marksOf (c ∷ t) ≡ c ∷ marksOf t) (eqb x pause) refl refl
+unfolding marksOf isMarkCode
+marks-mark x t = mark-both (λ c. marksOf (c ∷ t) ≡ c ∷ marksOf t) x refl refl
 
 -- the marks of a message's breaks
 unfoldable pub marksIn : Message → List ℕ
@@ -193,26 +181,23 @@ read-marks (b ∷ m) = simp (cond-app marksIn, put, cond-same, read-marks m)
     put l (last w) = refl
     put l (more w x r) = refl
 
--- the marks on the tape of a stretch
-segment-marks : (h n : Bool) (r : Message) → Spells r → marksOf (segment h n r) ≡ marksIn r
-unfolding segment marksIn marksOf
-segment-marks h n (last w) s = ap marksOf (sym (append-nil (wordTape h n w))) ∙ marks-sounds (wordTape h n w) [] (word-sounds h n w s)
-segment-marks h n (more w x r) s =
-    let k = isGap x && endsHard w in
-    let t = segment k n r in
-    marks-sounds (wordTape h (isGap x && voices t) w) (markOf x ∷ t) (word-sounds h _ w (s .0)) ∙ marks-mark x t ∙ ap (λ (y : List ℕ). markOf x ∷ y) (segment-marks k n r (s .1))
-
--- The marks on the tape of bytes are those of their breaks, in order, whatever stands around them.
-pub bytes-marks : (h n : Bool) (p : List ℕ) → Spells (read p) → marksOf (segment h n (read p)) ≡ breakMarks p
-bytes-marks h n p s = segment-marks h n (read p) s ∙ read-marks p
-
 -- marks of tapes laid end to end
 pub marks-append : (s t : List ℕ) → marksOf (s ++ t) ≡ marksOf s ++ marksOf t
 unfolding marksOf
 marks-append [] t = refl
 marks-append (c ∷ s) t = rw (marks-append s t) (sym (cond-app (λ (x : List ℕ). x ++ marksOf t) (isMarkCode c) _ _))
 
--- and of breaks
+-- the marks on the tape of a stretch
+segment-marks : (h n : Bool) (r : Message) → Spells r → marksOf (segment h n r) ≡ marksIn r
+unfolding segment marksIn
+segment-marks h n (last w) s = sounds-unmarked _ (word-sounds h n w s)
+segment-marks h n (more w x r) s = rw (marks-append, sounds-unmarked _ (word-sounds h _ w (s .0)), marks-mark, segment-marks _ n r (s .1))
+
+-- The marks on the tape of bytes are those of their breaks, in order, whatever stands around them.
+pub bytes-marks : (h n : Bool) (p : List ℕ) → Spells (read p) → marksOf (segment h n (read p)) ≡ breakMarks p
+bytes-marks h n p s = segment-marks h n (read p) s ∙ read-marks p
+
+-- marks of bytes laid end to end
 pub breaks-append : (p q : List ℕ) → breakMarks (p ++ q) ≡ breakMarks p ++ breakMarks q
 unfolding breakMarks
 breaks-append [] q = refl
@@ -230,10 +215,10 @@ unfolding breakMarks
 unbroken [] n = refl
 unbroken (b ∷ p) n = rw (n 0 (omega arith)) (unbroken p (λ i l. n (suc i) (omega arith)))
 
--- a break's mark is one
+-- a break's mark is a code
 mark-code : (x : ℕ) → isCode (markOf x) ≡ true
-unfolding isCode isSound isMarkCode markOf
-mark-code x = cond-both (λ c. isCode c ≡ true) (eqb x pause) refl refl
+unfolding isCode isSound isMarkCode
+mark-code x = mark-both (λ c. isCode c ≡ true) x refl refl
 
 segment-codes : (h n : Bool) (r : Message) → Spells r → Each isCode (segment h n r)
 unfolding segment isCode

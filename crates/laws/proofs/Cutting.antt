@@ -1,91 +1,116 @@
 -- The two tapes of a message, for every list of cuts: each cut splits both tapes at one index, and a cut is live just when a bit from over it changes a code beside its mark.
-use Rattle.laws.proofs.Kit.{ℕ, suc, _-_, _<_, _≡_, refl, sym, ap, _∙_, Bool, true, false, cond, true≢false, inl, inr, ⊎-elim, _≢_, _↔_, List, [], _∷_, arith, length, getD, take, drop}
-use Rattle.spec.specs.{Letters.isBreak, Letters.read, Tape.tape, Tape.segment, Refusals.NoneFits, Joints.Rising, Joints.CutOf, Joints.SplitAt, Joints.DiffersAt, Joints.joined, Joints.isLive, Joints.NoneLive, Joints.liveCount, Joints.markIndex, Joints.wordBefore, Demands.TwoTapes}
-use Rattle.laws.proofs.{Accepted.none-passes, Classes.yes-or, Classes.refuted, Codes.Spells, Codes.bytes-marks, Codes.part-spells, Beside.segment-ends, Cuts.cut-break, PartsAccepted.parts-none, Parts.onward, Parts.voicedAt, Parts.changedBefore, Parts.changedAfter, Parts.CutAt, Parts.part-first, Parts.before-mark, Parts.after-mark, Parts.tape-cut, Parts.mark-index, Parts.code-after, Parts.live-here, Parts.onward-first, Parts.first-own, Parts.joined-length, Parts.joined-dead, Parts.cut-at}
-
--- one cut that is not live adds nothing to the count, and a live one does
-counts-not : (t : Bool) (n : ℕ) → (cond t (suc n) n ≡ 0) ↔ ((t ≡ false) × (n ≡ 0))
-counts-not true n = (λ e. absurd (omega arith), λ p. absurd (true≢false (p .0)))
-counts-not false n = (λ e. (refl, e), λ p. p .1)
+use Rattle.laws.proofs.Kit.{ℕ, zero, suc, _+_, _-_, _≤_, _&&_, _++_, append-assoc, length-append, _<_, _≡_, refl, sym, ap, _∙_, true, false, true≢false, inl, inr, ⊎-elim, _≢_, _↔_, List, [], _∷_, arith, length, getD, take, drop}
+use Rattle.spec.specs.{Letters.isBreak, Letters.read, Letters.firstByte, Tape.tape, Refusals.NoneFits, Joints.RisingFrom, Joints.Rising, Joints.joinedFrom, Joints.marksOf, Joints.breakMarks, Joints.wordAfter, Joints.CutOf, Joints.DiffersAt, Joints.joined, Joints.isLive, Joints.NoneLive, Joints.liveCount, Joints.markIndex, Codes.markOf, Palatalization.firstCode, Demands.TwoTapes}
+use Rattle.laws.proofs.{Accepted.none-passes, Accepted.none-accepted, Classes.either, Classes.refuted, Codes.Spells, Codes.bytes-marks, Codes.part-spells, Codes.marks-mark, Codes.marks-append, Codes.breaks-append, Beside.segment-ends, Beside.isVoiced, Beside.isHigh, Beside.isIOrE, Beside.mark-unvoiced, Cuts.cut-good, Cuts.break-within, PartsAccepted.parts-none, Parts.onward, Parts.voicedAt, Parts.changedBefore, Parts.part, Parts.Begins, Parts.part-split, Parts.part-first, Parts.last-at, Parts.after-mark, Parts.joined-low, Parts.tape-cut, Parts.mark-index, Parts.live-here, Parts.onward-first, Parts.first-own, Parts.joined-length, Parts.joined-dead, Word.lastCodeFrom, Stretch.last-append, Marks.mark-first, Marks.mark-next, MarkIndex.placed, MarkIndex.own-length, MarkIndex.before-told, MarkIndex.after-told}
 
 -- the count is 0 exactly when no cut is live
 pub counts-none : (m cuts : List ℕ) → (liveCount m cuts ≡ 0) ↔ NoneLive m cuts
 unfolding liveCount
 counts-none m [] = (λ e c i. absurd i, λ f. refl)
 counts-none m (d ∷ cuts) =
-    let one = counts-not (isLive m d) (liveCount m cuts) in
-    let rest = counts-none m cuts in
-    (λ e c. ⊎-elim (λ q. rw q (one .0 e .0)) (λ i. rest .0 (one .0 e .1) c i), λ f. one .1 (f d (inl refl), rest .1 (λ c i. f c (inr i))))
-
--- equal tapes differ nowhere
-differ-nowhere : (s t : List ℕ) (k : ℕ) → t ≡ s → DiffersAt s t k → ⊥
-differ-nowhere s t k e = ⊎-elim (λ n. n .1 (ap (λ (x : List ℕ). getD x (k - 1) 0) (sym e))) (λ n. n (ap (λ (x : List ℕ). getD x (suc k) 0) (sym e)))
-
--- One cut of the list, where each letter of the message is one of the alphabet.
-module _ (m cuts : List ℕ) (spells : (p n : ℕ) → Spells (read (take n (drop p m)))) (rising : Rising m cuts) (c : ℕ) (cut : CutOf c cuts) where
-  break : isBreak (getD m c 0) ≡ true
-  break = cut-break m c 0 cuts rising cut
-
-  -- the tape of the parts, split at its mark
-  here : CutAt m 0 c (joined m cuts)
-  unfolding joined
-  here = cut-at m spells 0 c cuts tt rising cut
-
-  -- as many codes stand before the mark as in the whole tape
-  size : length (here .front) ≡ markIndex m c
-  unfolding markIndex
-  size = here .size ∙ rw part-first
-
-  -- each of the two tapes at the cut
-  whole-split : SplitAt m c (tape m)
-  whole-split = record {
-    before = segment false (voicedAt m c) (read (take c m));
-    after = onward m (suc c);
-    split = tape-cut m c break;
-    index = mark-index m c break;
-    own = bytes-marks false (voicedAt m c) (take c m) (spells 0 c);
-  }
-
-  parts-split : SplitAt m c (joined m cuts)
-  parts-split = record { before = here .front; after = here .back; split = here .split; index = size; own = here .own ∙ rw part-first }
-
-  -- the code before the mark was voiced from over the cut, or the code after it made by a hard boundary there
-  differs : isLive m c ≡ true → DiffersAt (tape m) (joined m cuts) (markIndex m c)
-  unfolding changedBefore wordBefore
-  differs l = ⊎-elim (λ p. inl (before p)) (λ p. inr (after (rw p at (sym (live-here m c break) ∙ l)))) (yes-or (changedBefore m c))
-    where
-      before : changedBefore m c ≡ true → (0 < markIndex m c) × (getD (tape m) (markIndex m c - 1) 0 ≢ getD (joined m cuts) (markIndex m c - 1) 0)
-      before e =
-          rw (tape-cut m c break, here .split)
-          (before-mark (segment false (voicedAt m c) (read (take c m))) (here .front) _ _ (markIndex m c) (mark-index m c break) size
-          (λ q. true≢false (sym e ∙ sym (segment-ends false (voicedAt m c) 0 (read (take c m)) refl (spells 0 c)) ∙ rw q (here .ends 0 refl))))
-
-      after : changedAfter m (suc c) ≡ true → getD (tape m) (suc (markIndex m c)) 0 ≢ getD (joined m cuts) (suc (markIndex m c)) 0
-      after e = rw (code-after m c break, here .split, after-mark (here .front) _ _ (markIndex m c) size) (here .starts e)
+    let rest = counts-none m cuts in (
+      λ e c. let f = refuted (isLive m d) (λ t. omega (arith, rw t at e)) in ⊎-elim (λ q. rw q f) (rest .0 (rw f at e) c),
+      λ f. rw (f d (inl refl)) (rest .1 (λ c i. f c (inr i))),
+    )
 
 -- The two tapes are equally long, whatever the list.
 pub equal-lengths : (m cuts : List ℕ) → Rising m cuts → length (joined m cuts) ≡ length (tape m)
 unfolding joined
 equal-lengths m cuts r = joined-length m 0 cuts tt r ∙ ap length (onward-first m)
 
--- And equal just where none of the cuts is live.
-pub equal-tapes : (m cuts : List ℕ) → ((p n : ℕ) → Spells (read (take n (drop p m)))) → Rising m cuts → (joined m cuts ≡ tape m) ↔ NoneLive m cuts
-unfolding joined
-equal-tapes m cuts s r = (
-  λ e c i. refuted _ (λ l. differ-nowhere (tape m) (joined m cuts) (markIndex m c) e (differs m cuts s r c i l)),
-  λ f. joined-dead m 0 cuts tt r (first-own m) f ∙ onward-first m,
-)
+-- where two tapes differ just before an index, it is not the first
+apart : (s t : List ℕ) (k : ℕ) → (getD (0 ∷ s) k 0 ≡ getD (0 ∷ t) k 0 → ⊥) → (0 < k) × (getD s (k - 1) 0 ≢ getD t (k - 1) 0)
+apart s t zero n = absurd (n refl)
+apart s t (suc k) n = let e : suc k - 1 ≡ k = omega arith in (omega arith, rw e n)
 
--- Demand 3 of the two tapes of an accepted message.
-pub two-tapes : (m cuts : List ℕ) → NoneFits m → Rising m cuts → TwoTapes m cuts
-two-tapes m cuts f r =
-    let p = none-passes m f in
-    let s = part-spells m p in
-    record {
-      parts = parts-none m p 0 cuts tt (omega arith) r;
-      lengths = equal-lengths m cuts r;
-      equal = equal-tapes m cuts s r;
-      whole = whole-split m cuts s r;
-      pieces = parts-split m cuts s r;
-      differs = differs m cuts s r;
-    }
+-- A tape of the parts from place a on, at its cut c: split at the mark, with the codes on both sides made as if nothing stood over the cut.
+record CutAt (m : List ℕ) (a c : ℕ) (t : List ℕ) : Type 0 where
+  front : List ℕ
+  back : List ℕ
+  split : t ≡ front ++ (markOf (getD m c 0) ∷ back)
+  size : markIndex m a + length front ≡ markIndex m c
+  own : marksOf front ≡ breakMarks (part m a c)
+  unvoiced : (d : ℕ) → isVoiced d ≡ false → isVoiced (lastCodeFrom d front) ≡ false
+  low : (isHigh (firstCode back) && isIOrE (firstByte (wordAfter m c))) ≡ false
+
+-- An accepted message.
+module _ (m : List ℕ) (f : NoneFits m) where
+  spells : (p n : ℕ) → Spells (read (take n (drop p m)))
+  spells = part-spells m (none-passes m f)
+
+  -- as many codes as a part has of its own stand on the tape between its two ends
+  part-size : (a c : ℕ) → Begins m a → a ≤ c → isBreak (getD m c 0) ≡ true → markIndex m a + length (tape (part m a c)) ≡ markIndex m c
+  part-size a c b le e = omega (arith, own-length m a c b le (inl e), placed m a c b le (inl e) .size)
+
+  -- at the first cut
+  cut-first : (a c : ℕ) (cuts : List ℕ) → Begins m a → RisingFrom m a (c ∷ cuts) → CutAt m a c (joinedFrom m a (c ∷ cuts))
+  unfolding joinedFrom tape wordAfter
+  cut-first a c cuts b r = record {
+    front = tape (part m a c);
+    back = joinedFrom m (suc c) cuts;
+    split = refl;
+    size = part-size a c b (r .0) (r .1);
+    own = bytes-marks false false (part m a c) (spells a (c - a));
+    unvoiced = λ x u. segment-ends false false x (read (part m a c)) u (spells a (c - a));
+    low = joined-low m (suc c) cuts (r .1) (r .2);
+  }
+
+  -- at a later one
+  cut-later : (a c d : ℕ) (cuts : List ℕ) → Begins m a → RisingFrom m a (d ∷ cuts) → suc d ≤ c → CutAt m (suc d) c (joinedFrom m (suc d) cuts)
+      → CutAt m a c (joinedFrom m a (d ∷ cuts))
+  unfolding joinedFrom tape breakMarks
+  cut-later a c d cuts b r lt k = record {
+    front = tape (part m a d) ++ (markOf (getD m d 0) ∷ k .front);
+    back = k .back;
+    split = rw (k .split, append-assoc);
+    size = simp length-append (omega (arith, k .size, part-size a d b (r .0) (r .1), mark-next m d (r .1)));
+    own = rw (part-split m a d c (r .0) lt (break-within m d (r .1)), marks-append, marks-mark, bytes-marks false false (part m a d) (spells a (d - a)), k .own, breaks-append, r .1);
+    unvoiced = λ x u. rw last-append (k .unvoiced (markOf (getD m d 0)) (mark-unvoiced (getD m d 0)));
+    low = k .low;
+  }
+
+  -- at each cut of the list
+  cut-at : (a c : ℕ) (cuts : List ℕ) → Begins m a → RisingFrom m a cuts → CutOf c cuts → CutAt m a c (joinedFrom m a cuts)
+  cut-at a c [] b r i = absurd i
+  cut-at a c (d ∷ cuts) b r i =
+      ⊎-elim (λ e. rw e (cut-first a d cuts b r)) (λ j. cut-later a c d cuts b r (cut-good m (suc d) cuts (r .2) j .0) (cut-at (suc d) c cuts (r .1) (r .2) j)) i
+
+  -- One cut of the list.
+  module _ (cuts : List ℕ) (rising : Rising m cuts) (c : ℕ) (cut : CutOf c cuts) where
+    break : isBreak (getD m c 0) ≡ true
+    break = cut-good m 0 cuts rising cut .1
+
+    -- the tape of the parts, split at its mark
+    here : CutAt m 0 c (joined m cuts)
+    unfolding joined
+    here = cut-at 0 c cuts tt rising cut
+
+    -- as many codes stand before the mark as in the whole tape
+    size : length (here .front) ≡ markIndex m c
+    size = omega (arith, here .size, mark-first m)
+
+    -- the code before the mark was voiced from over the cut, or the code after it made by a hard boundary there
+    differs : isLive m c ≡ true → DiffersAt (tape m) (joined m cuts) (markIndex m c)
+    differs l = either (changedBefore m c)
+        (λ e. inl (apart (tape m) (joined m cuts) (markIndex m c) (λ q.
+        true≢false (sym e ∙ sym (before-told m (none-accepted m f) c break) ∙ rw (q, here .split, last-at 0 (here .front) _ _ size) (here .unvoiced 0 refl)))))
+        (λ e. inr (λ q. true≢false (sym (rw e at (sym (live-here m c break) ∙ l)) ∙ sym (after-told m c break) ∙ rw (q, here .split, after-mark (here .front) _ _ _ size) (here .low))))
+
+  -- Demand 3 of the two tapes: each cut splits both at its mark, and they are equal just where none of the cuts is live.
+  pub two-tapes : (cuts : List ℕ) → Rising m cuts → TwoTapes m cuts
+  unfolding joined
+  two-tapes cuts r = record {
+    parts = parts-none m (none-passes m f) 0 cuts tt (omega arith) r;
+    lengths = equal-lengths m cuts r;
+    equal = (
+      λ e c i. refuted _ (λ l. ⊎-elim (λ n. n .1 refl) (λ n. n refl) (rw e at (differs cuts r c i l))),
+      λ n. joined-dead m 0 cuts tt r (first-own m) n ∙ onward-first m,
+    );
+    whole = λ c i.
+        let b = break cuts r c i in
+        record { before = _; after = onward m (suc c); split = tape-cut m c b; index = mark-index m c b; own = bytes-marks false (voicedAt m c) (take c m) (spells 0 c) };
+    pieces = λ c i.
+        let k = here cuts r c i in
+        record { before = k .front; after = k .back; split = k .split; index = size cuts r c i; own = k .own ∙ rw part-first };
+    differs = differs cuts r;
+  }

@@ -1,19 +1,15 @@
 -- An accepted message is heard: its first letter is no sign and is not elided, so it has a sound.
-use Rattle.laws.proofs.Kit.{ℕ, _<_, _≡_, Bool, true, false, and-true, List, [], _∷_, _++_, arith, length, length-append}
-use Rattle.spec.specs.{Letters.Letter, Letters.Message, Letters.last, Letters.more, Letters.read, Letters.putLetter, Letters.isSign, Letters.isVowel, Elision.elideFrom, Elision.elide, Syllables.coverAfter, Syllables.syllableOf, Vowels.Phone, Vowels.glides, Vowels.vowelPhones, Vowels.phonesOf, Vowels.phonesFrom, Voicing.voice, Palatalization.palatalize, Tape.wordTape, Tape.segment, Tape.tape, Refusals.none, Refusals.first, Refusals.signByte, Refusals.row4, Refusals.row5, Refusals.row6, Refusals.rows, Refusals.fitsIn, Refusals.beforeAt}
-use Rattle.laws.proofs.{Accepted.Passes, Word.shape, Word.first-kept}
+use Rattle.laws.proofs.Kit.{ℕ, _<_, _≡_, sym, _∙_, Bool, false, and-true, true≢false, List, [], _∷_, arith, length, length-append}
+use Rattle.spec.specs.{Letters.Letter, Letters.Message, Letters.last, Letters.more, Letters.read, Letters.putLetter, Letters.isSign, Elision.elideFrom, Elision.elide, Syllables.factsOf, Vowels.phonesFrom, Tape.wordTape, Tape.segment, Tape.tape, Refusals.none, Refusals.first, Refusals.signByte, Refusals.row4, Refusals.row5, Refusals.row6, Refusals.rows, Refusals.fitsIn, Refusals.beforeAt}
+use Rattle.laws.proofs.{Accepted.Passes, Word.first-kept, Word.phones-cases, Word.sounds-length}
 
--- the sounds of a letter that is no sign
-shape-heard : (v g n : Bool) (j x c : Phone) (xs : List Phone) → 0 < length (palatalize (voice n (shape false v g j x c ++ xs)))
-unfolding palatalize voice
-shape-heard true true n j x c xs = omega arith
-shape-heard true false n j x c xs = omega arith
-shape-heard false g n j x c xs = omega arith
-
--- a word that begins with one; its first letter is not elided
+-- a word that begins with a letter that is no sign; its first letter is not elided
 word-heard : (h n : Bool) (l : Letter) (w : List Letter) → isSign (l .byte) ≡ false → 0 < length (wordTape h n (l ∷ w))
-unfolding wordTape elide elideFrom phonesFrom phonesOf vowelPhones syllableOf
-word-heard h n l w s = rw (first-kept (l .byte) w, s) (shape-heard (isVowel (l .byte)) (glides 0 (coverAfter 0) (l .byte)) n _ _ _ _)
+unfolding wordTape elide elideFrom phonesFrom
+word-heard h n l w s =
+    let v = elideFrom (l .byte) w in
+    let k = phones-cases (λ xs. 0 < length xs) h (factsOf (l ∷ w)) 0 l v (λ q. absurd (true≢false (sym q ∙ s))) (λ _ _. (omega arith, omega arith)) (λ _ _. omega arith) in
+    rw (first-kept (l .byte) w, sounds-length) (simp length-append (omega (arith, k)))
 
 -- and so a message
 segment-heard : (h n : Bool) (l : Letter) (r : Message) → isSign (l .byte) ≡ false → 0 < length (segment h n (putLetter l r))

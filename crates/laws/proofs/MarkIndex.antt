@@ -1,8 +1,8 @@
 -- Where the codes of a part and the marks of breaks stand on a tape: before a place as many codes stand as the bytes before it make, so a part's codes in the whole tape are as many
 -- as its own, and since each code of a word is a sound the last mark before that of a place is that of the last break before it.
-use Rattle.laws.proofs.Kit.{ℕ, suc, _+_, _-_, _<_, _≤_, _≡_, refl, sym, ap, _∙_, Bool, true, false, not, _&&_, _||_, and-eq-true-iff, true≢false, _⊎_, ⊎-elim, List, [], _∷_, _++_, append-nil, arith, eqb, leb, length, take, drop, getD, length-append, length-drop, List·getD-append, List·getD-eq-default, take-all, getD-append-add, leb-true, le-leb}
-use Rattle.spec.specs.{Alphabet.pause, Letters.between, Letters.read, Letters.firstByte, Letters.isGap, Letters.isBreak, Codes.А*, Codes.Щ, Codes.markOf, Codes.isSound, Tape.segment, Tape.tape, Refusals.checkOf, Joints.markIndex, Joints.wordBefore, Joints.wordAfter, declared.Counts.Counts, declared.Checked.the-variants.Accepted}
-use Rattle.laws.proofs.{Accepted.accepted-passes, Classes.cond-both, Classes.below-or, Stretch.segment-length, PartsAccepted.part-length, PartsAccepted.part-at, Codes.Each, Codes.part-spells, Codes.read-marks, Codes.segment-sounds, Codes.unbroken, Codes.each-at, Parts.part, Parts.Begins, Parts.hardAt, Parts.onward, Parts.voicedAt, Parts.changedAfter, Parts.changedBefore, Parts.last-at, Parts.onward-cut, Parts.part-own, Parts.tape-cut, Parts.mark-index, Parts.mark-there, Parts.code-after, Parts.onward-alone, Marks.tape-from, Marks.mark-next, Marks.mark-last, Beside.isVoiced, Beside.isHigh, Beside.isIOrE, Beside.segment-ends, Beside.segment-starts}
+use Rattle.laws.proofs.Kit.{ℕ, suc, _+_, _-_, _<_, _≤_, _≡_, refl, sym, ap, _∙_, Bool, true, false, not, _&&_, and-eq-true-iff, true≢false, _⊎_, ⊎-elim, List, [], _∷_, _++_, append-nil, arith, leb, length, take, drop, getD, length-append, length-drop, List·getD-append, List·getD-eq-default, take-all, getD-append-add, leb-true, le-leb}
+use Rattle.spec.specs.{Letters.between, Letters.read, Letters.firstByte, Letters.isGap, Letters.isBreak, Codes.А*, Codes.Щ, Codes.markOf, Codes.isSound, Tape.segment, Tape.tape, Refusals.checkOf, Joints.markIndex, Joints.wordBefore, Joints.wordAfter, declared.Counts.Counts, declared.Checked.the-variants.Accepted}
+use Rattle.laws.proofs.{Accepted.accepted-passes, Classes.mark-both, Classes.either, Classes.below-or, Stretch.segment-length, PartsAccepted.part-length, PartsAccepted.part-at, Codes.Each, Codes.part-spells, Codes.read-marks, Codes.segment-sounds, Codes.unbroken, Codes.each-at, Parts.part, Parts.Begins, Parts.hardAt, Parts.onward, Parts.voicedAt, Parts.changedAfter, Parts.changedBefore, Parts.last-at, Parts.onward-cut, Parts.part-own, Parts.tape-cut, Parts.mark-index, Parts.mark-there, Parts.code-after, Parts.onward-alone, Marks.tape-from, Marks.mark-next, Marks.mark-last, Beside.isVoiced, Beside.isHigh, Beside.isIOrE, Beside.segment-ends, Beside.segment-starts}
 
 -- a part may end at e: at the message's end, or at a break
 abbrev pub Ends : List ℕ → ℕ → Type 0
@@ -26,11 +26,6 @@ last-once test x y i r s same l k =
 -- a code that is no sound
 abbrev pub isNoSound : ℕ → Bool
 isNoSound c = not (between А* Щ c)
-
--- a break's mark is none
-mark-no-sound : (x : ℕ) → isNoSound (markOf x) ≡ true
-unfolding markOf
-mark-no-sound x = cond-both (λ c. isNoSound c ≡ true) (eqb x pause) refl refl
 
 -- the whole message's codes of the bytes from a up to e
 abbrev pub stretch : List ℕ → ℕ → ℕ → List ℕ
@@ -89,44 +84,34 @@ inside front s rest j h lo hi =
     let e : j ≡ length front + k = omega arith in
     rw (e, getD-append-add front (s ++ rest) k 0, List·getD-append s rest 0 k (omega arith)) (each-at isSound s k h (omega arith))
 
-module _ (m : List ℕ) (counts : Counts) (accepted : checkOf m ≡ Accepted counts) (a e : ℕ) (begins : Begins m a) (le : a ≤ e)
-    (within : e ≤ length m) (ends : Ends m e) (unbroken-here : (i : ℕ) → a ≤ i → i < e → isBreak (getD m i 0) ≡ false) where
-  -- the word from a up to e has sounds only, whatever stands around it
-  word-here : (h n : Bool) → Each isSound (segment h n (read (part m a e)))
-  word-here h n =
-      segment-sounds h n (read (part m a e)) (part-spells m (accepted-passes m counts accepted) a (e - a))
-      (read-marks (part m a e) ∙ unbroken (part m a e) (λ i l.
-      let j : i < e - a = omega (arith, part-length m a e within) in
-      rw (part-at m a e i j) (unbroken-here (a + i) (omega arith) (omega arith))))
-
-  -- Between the marks around a word every code on the tape is a sound: walked back from the mark of e, the next code that is none is the mark of the break before the word.
-  pub sounds-between : (j : ℕ) → markIndex m a ≤ j → j < markIndex m e → isSound (getD (tape m) j 0) ≡ true
-  sounds-between j lo hi =
-      let s = placed m a e begins le ends in
-      rw (s .split) (inside (s .front) (stretch m a e) (s .rest) j (word-here _ _) (omega (arith, s .start)) (omega (arith, s .start, s .size)))
-
 -- a sound is one of 1 to 56
 pub sound-range : (c : ℕ) → isSound c ≡ true → (1 ≤ c) × (c ≤ 56)
 unfolding isSound
-sound-range c s = by (leb 1 c && leb c 13) refl s
-  where
-    by : (t : Bool) → (leb 1 c && leb c 13) ≡ t → (t || (leb 16 c && leb c 56)) ≡ true → (1 ≤ c) × (c ≤ 56)
-    by true q s = let a = and-eq-true-iff (leb 1 c) (leb c 13) .0 q in (leb-true 1 c (a .0), omega (arith, leb-true c 13 (a .1)))
-    by false q s = let a = and-eq-true-iff (leb 16 c) (leb c 56) .0 s in (omega (arith, leb-true 16 c (a .0)), leb-true c 56 (a .1))
+sound-range c s = either (between 1 13 c)
+    (λ q. let a = and-eq-true-iff (leb 1 c) (leb c 13) .0 q in (leb-true 1 c (a .0), omega (arith, leb-true c 13 (a .1))))
+    (λ q. let a = and-eq-true-iff (leb 16 c) (leb c 56) .0 (rw q at s) in (omega (arith, leb-true 16 c (a .0)), leb-true c 56 (a .1)))
 
 module _ (m : List ℕ) where
   module _ {counts : Counts} (accepted : checkOf m ≡ Accepted counts) where
-    -- The last mark before that of a place is the mark of the last break before it.
+    -- a word, from the last break before its end on, has sounds only, whatever stands around it
+    word-here : (b e : ℕ) → e ≤ length m → Last isBreak m e b → (h n : Bool) → Each isSound (segment h n (read (part m (suc b) e)))
+    word-here b e within l h n =
+        segment-sounds h n (read (part m (suc b) e)) (part-spells m (accepted-passes m counts accepted) (suc b) (e - suc b))
+        (read-marks (part m (suc b) e) ∙ unbroken (part m (suc b) e) (λ i k.
+        let j : i < e - suc b = omega (arith, part-length m (suc b) e within) in
+        rw (part-at m (suc b) e i j) (l .past (suc b + i) (omega arith) (omega arith))))
+
+    -- The last mark before that of a place is the mark of the last break before it, since every code between them is a sound.
     pub last-mark : (b e : ℕ) → e ≤ length m → Ends m e → Last isBreak m e b → Last isNoSound (tape m) (markIndex m e) (markIndex m b)
     last-mark b e within ends l =
         let s = placed m (suc b) e (l .here) (l .below) ends in
         let n = mark-next m b (l .here) in
         record {
           below = omega (arith, s .size, n);
-          here = rw (mark-there m b (l .here)) (mark-no-sound (getD m b 0));
-          past = λ j lo hi.
-              let r = sound-range (getD (tape m) j 0) (sounds-between m counts accepted (suc b) e (l .here) (l .below) within ends (λ i p q. l .past i p q) j (omega (arith, n)) hi) in
-              rw (le-leb А* (getD (tape m) j 0) (r .0), le-leb (getD (tape m) j 0) Щ (r .1));
+          here = rw (mark-there m b (l .here)) (mark-both (λ c. isNoSound c ≡ true) (getD m b 0) refl refl);
+          past = λ j lo hi. rw (s .split)
+              (let r = sound-range _ (inside (s .front) (stretch m (suc b) e) (s .rest) j (word-here b e within l _ _) (omega (arith, s .start, n)) (omega (arith, s .start, s .size))) in
+              rw (le-leb А* _ (r .0), le-leb _ Щ (r .1)));
         }
 
     -- A voiced code before the mark of a break, on the whole tape, is one that a cut there changes.

@@ -1,13 +1,8 @@
 -- How many codes stand before a place of a message: those that the bytes before it make, since neither bit from over a break changes their number.
-use Rattle.laws.proofs.Kit.{ℕ, zero, suc, _+_, _-_, _≡_, refl, sym, _∙_, Bool, true, false, _&&_, List, [], _∷_, _++_, append-assoc, arith, length, take, getD, length-append, take-suc, take-length}
+use Rattle.laws.proofs.Kit.{ℕ, zero, suc, _≡_, refl, sym, _∙_, true, false, _&&_, List, [], _∷_, _++_, append-assoc, arith, length, take, getD, length-append, take-suc, take-length}
 use Rattle.spec.specs.{Letters.read, Letters.isGap, Letters.isBreak, Codes.markOf, Voicing.voices, Tape.segment, Tape.tape, Joints.markIndex}
 use Rattle.spec.proofs.Computed.{everything}
 use Rattle.laws.proofs.{Cuts.break-within, Stretch.read-join, Stretch.segment-join, Stretch.segment-length, Parts.Begins, Parts.onward, Parts.voicedAt, Parts.onward-first, Parts.tape-cut, Parts.mark-index}
-
--- no bytes have no codes
-segment-none : (h n : Bool) → segment h n (read []) ≡ []
-unfolding everything
-segment-none h n = refl
 
 -- The tape of a message at place a: as many codes as counted stand before it.
 pub record Stands (m : List ℕ) (a : ℕ) : Type 0 where
@@ -23,10 +18,10 @@ module _ (m : List ℕ) where
 
   -- the place after a break has one code more before it: the break's mark
   pub mark-next : (c : ℕ) → isBreak (getD m c 0) ≡ true → markIndex m (suc c) ≡ suc (markIndex m c)
-  unfolding markIndex tape
+  unfolding everything
   mark-next c b =
       let x = getD m c 0 in
-      rw (take-suc m c 0 (break-within m c b), read-join (take c m) [] x b, segment-join, segment-none)
+      rw (take-suc m c 0 (break-within m c b), read-join (take c m) [] x b, segment-join)
       (simp length-append (omega (arith, segment-length false false (isGap x && voices []) false (read (take c m)))))
 
   -- all codes stand before the message's end

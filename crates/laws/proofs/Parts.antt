@@ -1,7 +1,8 @@
 -- A message from a place on, whole and in parts: each cut splits both tapes at its mark, and the two sides differ in the bits that come from over the cut alone.
-use Rattle.laws.proofs.Kit.{ℕ, zero, suc, _+_, _-_, _<_, _≤_, _≡_, refl, sym, ap, _∙_, Bool, true, false, _&&_, _||_, and-comm, and-or-distrib-left, true≢false, inl, inr, ⊎-elim, _≢_, List, [], _∷_, _++_, append-assoc, append-nil, arith, length, take, drop, getD, length-append, take-append-drop, drop-cons, drop-drop, drop-append-add, take-add, getD-at}
-use Rattle.spec.specs.{Letters.Message, Letters.read, Letters.firstByte, Letters.firstWord, Letters.lastWord, Letters.isGap, Letters.isBreak, Codes.markOf, Voicing.voices, Vowels.endsHard, Palatalization.firstCode, Tape.segment, Tape.tape, Joints.RisingFrom, Joints.CutOf, Joints.joinedFrom, Joints.markIndex, Joints.marksOf, Joints.breakMarks, Joints.wordBefore, Joints.wordAfter, Joints.endsInObstruent, Joints.beginsWithIOrE, Joints.liveByVoice, Joints.liveByHardness, Joints.isLive, Joints.NoneLive}
-use Rattle.laws.proofs.{Word.isHigh, Word.isIOrE, Word.lastCodeFrom, Beside.isVoiced, Beside.mark-unvoiced, Beside.segment-ends, Beside.segment-starts, Codes.Spells, Codes.marks-mark, Codes.bytes-marks, Codes.marks-append, Codes.breaks-append, Cuts.break-within, Cuts.cut-above, Stretch.first-meet, Stretch.last-meet, Stretch.read-join, Stretch.segment-join, Stretch.segment-length, Stretch.segment-quiet, Stretch.segment-firm, Stretch.last-append}
+use Rattle.laws.proofs.Kit.{ℕ, zero, suc, _+_, _-_, _<_, _≤_, _≡_, refl, sym, ap, _∙_, Bool, true, false, _&&_, _||_, and-comm, and-or-distrib-left, inl, inr, List, [], _∷_, _++_, append-nil, arith, length, take, drop, getD, length-append, take-append-drop, drop-cons, drop-drop, drop-append-add, take-add, getD-at}
+use Rattle.spec.specs.{Letters.read, Letters.firstByte, Letters.firstWord, Letters.lastWord, Letters.isGap, Letters.isBreak, Codes.markOf, Voicing.voices, Vowels.endsHard, Palatalization.firstCode, Tape.segment, Tape.tape, Joints.RisingFrom, Joints.joinedFrom, Joints.markIndex, Joints.wordBefore, Joints.wordAfter, Joints.endsInObstruent, Joints.beginsWithIOrE, Joints.liveByVoice, Joints.liveByHardness, Joints.isLive, Joints.NoneLive}
+use Rattle.laws.proofs.{Word.isHigh, Word.isIOrE, Word.lastCodeFrom, Beside.segment-starts, Cuts.break-within, Stretch.meet, Stretch.first-meet, Stretch.last-meet, Stretch.read-join, Stretch.segment-join, Stretch.segment-length, Stretch.segment-quiet, Stretch.segment-firm}
+pub use Rattle.laws.proofs.Classes.{or-false}
 
 -- the bytes from place a up to place c
 abbrev pub part : List ℕ → ℕ → ℕ → List ℕ
@@ -41,16 +42,6 @@ last-at x [] u (suc n) e = absurd (omega arith)
 last-at x (y ∷ s) u zero e = absurd (omega arith)
 last-at x (y ∷ s) u (suc n) e = last-at y s u n (omega arith)
 
--- so two tapes whose last codes differ are told apart just before the mark k that follows them, and k is not the first index
-pub before-mark : (s t u v : List ℕ) (k : ℕ) → length s ≡ k → length t ≡ k → (lastCodeFrom 0 s ≡ lastCodeFrom 0 t → ⊥)
-    → (0 < k) × (getD (s ++ u) (k - 1) 0 ≢ getD (t ++ v) (k - 1) 0)
-unfolding lastCodeFrom
-before-mark [] [] u v k l l′ q = absurd (q refl)
-before-mark [] (y ∷ t) u v k l l′ q = absurd (omega arith)
-before-mark (x ∷ s) [] u v k l l′ q = absurd (omega arith)
-before-mark (x ∷ s) (y ∷ t) u v k l l′ q =
-    (omega arith, λ e. q (sym (last-at x s u (k - 1) (omega arith)) ∙ e ∙ last-at y t v (k - 1) (omega arith)))
-
 -- the code just after the mark k
 pub after-mark : (s : List ℕ) (x : ℕ) (t : List ℕ) (k : ℕ) → length s ≡ k → getD (s ++ (x ∷ t)) (suc k) 0 ≡ firstCode t
 unfolding firstCode
@@ -58,25 +49,10 @@ after-mark [] x [] k e = refl
 after-mark [] x (c ∷ t) k e = rw (← e)
 after-mark (y ∷ s) x t k e = rw (← e) (after-mark s x t (length s) refl)
 
--- an or that fails fails twice
-pub or-false : (s t : Bool) → (s || t) ≡ false → (s ≡ false) × (t ≡ false)
-or-false true t e = absurd (true≢false e)
-or-false false t e = (refl, e)
-
 -- 'a gap, and this and that' is 'a gap and that, and this'
 and-swap : (g s t : Bool) → (g && (s && t)) ≡ (g && t && s)
 and-swap true s t = and-comm s t
 and-swap false s t = refl
-
--- a stretch that nothing on its left changes is transcribed as if nothing stood there
-own-left : (h n : Bool) (a : Message) → (h && beginsWithIOrE (firstWord a)) ≡ false → segment false n a ≡ segment h n a
-own-left true n a e = segment-firm false true n a e
-own-left false n a e = refl
-
--- and so on its right
-own-right : (h n : Bool) (a : Message) → (n && endsInObstruent (lastWord a)) ≡ false → segment h false a ≡ segment h n a
-own-right h true a e = segment-quiet h false true a e
-own-right h false a e = refl
 
 module _ (m : List ℕ) where
   -- a break splits the bytes from place a on
@@ -86,19 +62,12 @@ module _ (m : List ℕ) where
       sym (take-append-drop (c - a) (drop a m)) ∙ ap (λ (t : List ℕ). part m a c ++ t) (rw (drop-drop, e, drop-cons m c 0))
 
   -- and the bytes of a part
-  part-split : (a b c : ℕ) → a ≤ b → b < c → b < length m → part m a c ≡ part m a b ++ (getD m b 0 ∷ part m (suc b) c)
+  pub part-split : (a b c : ℕ) → a ≤ b → b < c → b < length m → part m a c ≡ part m a b ++ (getD m b 0 ∷ part m (suc b) c)
   part-split a b c le lt within =
       let e : (b - a) + (c - b) ≡ c - a = omega arith in
       let f : a + (b - a) ≡ b = omega arith in
       let g : c - b ≡ suc (c - suc b) = omega arith in
       rw (← e, take-add, drop-drop, f, drop-cons m b 0, g)
-
-  -- and so their tape
-  part-cut : (h n : Bool) (a b c : ℕ) → a ≤ b → b < c → isBreak (getD m b 0) ≡ true
-      → let p = read (part m a b) in
-      let t = segment (isGap (getD m b 0) && endsHard (lastWord p)) n (read (part m (suc b) c)) in
-      segment h n (read (part m a c)) ≡ segment h (isGap (getD m b 0) && voices t) p ++ (markOf (getD m b 0) ∷ t)
-  part-cut h n a b c le lt e = rw (part-split a b c le lt (break-within m b e), read-join (part m a b) (part m (suc b) c) (getD m b 0) e, segment-join)
 
   -- the part from the message's start on
   pub part-first : (c : ℕ) → part m 0 c ≡ take c m
@@ -113,19 +82,18 @@ module _ (m : List ℕ) where
       rw (e, read-join (part m 0 d) (part m (suc d) c) (getD m d 0) b, last-meet)
 
   module _ (a c : ℕ) (begins : Begins m a) (le : a ≤ c) (break : isBreak (getD m c 0) ≡ true) where
+    -- what is read from its start on
+    read-rest : read (drop a m) ≡ meet (read (part m a c)) (getD m c 0) (read (drop (suc c) m))
+    read-rest = ap read (rest-split a c le (break-within m c break)) ∙ read-join (part m a c) (drop (suc c) m) (getD m c 0) break
+
     -- the first word of a part is the first one from its start on
     first-word : firstWord (read (drop a m)) ≡ firstWord (read (part m a c))
-    first-word =
-        ap (λ (t : List ℕ). firstWord (read t)) (rest-split a c le (break-within m c break))
-        ∙ rw (read-join (part m a c) (drop (suc c) m) (getD m c 0) break) (first-meet (read (part m a c)) (getD m c 0) (read (drop (suc c) m)))
+    first-word = rw (read-rest, first-meet)
 
     -- The whole message's tape at a break: the part before it with the bits from its neighbours, the mark, and the rest.
     pub onward-cut : onward m a ≡ segment (hardAt m a) (voicedAt m c) (read (part m a c)) ++ (markOf (getD m c 0) ∷ onward m (suc c))
     unfolding onward voicedAt hardAt
-    onward-cut =
-        let lt = break-within m c break in
-        ap (λ (t : List ℕ). segment (hardAt m a) false (read t)) (rest-split a c le lt)
-        ∙ rw (read-join (part m a c) (drop (suc c) m) (getD m c 0) break, segment-join, word-before a c begins le lt)
+    onward-cut = rw (read-rest, segment-join, word-before a c begins le (break-within m c break))
 
     -- a part whose first and last codes nothing changes has its own tape in the whole
     pub part-own : changedAfter m a ≡ false → changedBefore m c ≡ false → tape (part m a c) ≡ segment (hardAt m a) (voicedAt m c) (read (part m a c))
@@ -134,7 +102,7 @@ module _ (m : List ℕ) where
         let p = read (part m a c) in
         let left : (hardAt m a && beginsWithIOrE (firstWord p)) ≡ false = rw first-word at q in
         let right : (voicedAt m c && endsInObstruent (lastWord p)) ≡ false = rw (word-before a c begins le (break-within m c break)) o in
-        own-left (hardAt m a) false p left ∙ own-right (hardAt m a) (voicedAt m c) p right
+        segment-firm (hardAt m a) false p left ∙ segment-quiet (hardAt m a) (voicedAt m c) p right
 
   module _ (c : ℕ) (break : isBreak (getD m c 0) ≡ true) where
     -- the same from the message's start on
@@ -162,20 +130,10 @@ module _ (m : List ℕ) where
     pub code-after : getD (tape m) (suc (markIndex m c)) 0 ≡ firstCode (onward m (suc c))
     code-after = rw tape-cut (after-mark (segment false (voicedAt m c) (read (take c m))) (markOf (getD m c 0)) (onward m (suc c)) (markIndex m c) mark-index)
 
-    -- (a) changes the code before the mark
-    pub before-here : (isGap (getD m c 0) && liveByVoice m c) ≡ changedBefore m c
-    unfolding liveByVoice changedBefore voicedAt
-    before-here = rw (codes-after, and-swap)
-
-    -- (b) changes the code after it
-    pub after-here : (isGap (getD m c 0) && liveByHardness m c) ≡ changedAfter m (suc c)
-    unfolding liveByHardness changedAfter hardAt wordAfter
-    after-here = rw and-swap
-
     -- a cut is live just when one of its two neighbours is changed from over the cut
     pub live-here : isLive m c ≡ (changedBefore m c || changedAfter m (suc c))
-    unfolding isLive
-    live-here = rw (and-or-distrib-left, before-here, after-here)
+    unfolding isLive liveByVoice liveByHardness changedBefore voicedAt changedAfter hardAt wordAfter
+    live-here = rw (and-or-distrib-left, codes-after) (simp and-swap)
 
   -- what the tape from place a on is made of
   onward-open : (a : ℕ) → onward m a ≡ segment (hardAt m a) false (read (drop a m))
@@ -195,7 +153,7 @@ module _ (m : List ℕ) where
   -- where nothing changes what stands at place a, the bytes from there on may be transcribed alone
   pub onward-alone : (a : ℕ) → changedAfter m a ≡ false → tape (drop a m) ≡ onward m a
   unfolding tape changedAfter
-  onward-alone a q = rw (onward-open a) (own-left (hardAt m a) false (read (drop a m)) q)
+  onward-alone a q = rw (onward-open a) (segment-firm (hardAt m a) false (read (drop a m)) q)
 
   -- The two tapes from place a on have equal length.
   pub joined-length : (a : ℕ) (cuts : List ℕ) → Begins m a → RisingFrom m a cuts → length (joinedFrom m a cuts) ≡ length (onward m a)
@@ -215,68 +173,8 @@ module _ (m : List ℕ) where
       let o = or-false (changedBefore m c) (changedAfter m (suc c)) (sym (live-here c (r .1)) ∙ n c (inl refl)) in
       rw (onward-cut a c b (r .0) (r .1), part-own a c b (r .0) (r .1) q (o .0), joined-dead (suc c) cuts (r .1) (r .2) (o .1) (λ d i. n d (inr i)))
 
-  -- The first code of the parts' tape tells no hard boundary at place a, whatever the cuts,
-  joined-low : (a : ℕ) (cuts : List ℕ) → Begins m a → RisingFrom m a cuts → (isHigh (firstCode (joinedFrom m a cuts)) && isIOrE (firstByte (firstWord (read (drop a m))))) ≡ false
+  -- The first code of the parts' tape tells no hard boundary at place a, whatever the cuts.
+  pub joined-low : (a : ℕ) (cuts : List ℕ) → Begins m a → RisingFrom m a cuts → (isHigh (firstCode (joinedFrom m a cuts)) && isIOrE (firstByte (firstWord (read (drop a m))))) ≡ false
   unfolding joinedFrom tape
   joined-low a [] b r = rw append-nil at (segment-starts false false (read (drop a m)) [])
   joined-low a (c ∷ cuts) b r = rw (first-word a c b (r .0) (r .1)) (segment-starts false false (read (part m a c)) _)
-
-  -- so it is another than that of the whole tape, if something changes what stands there.
-  joined-starts : (a : ℕ) (cuts : List ℕ) → Begins m a → RisingFrom m a cuts → changedAfter m a ≡ true
-      → firstCode (onward m a) ≡ firstCode (joinedFrom m a cuts) → ⊥
-  unfolding changedAfter onward
-  joined-starts a cuts b r q e =
-      let told = rw append-nil at (segment-starts (hardAt m a) false (read (drop a m)) []) in
-      true≢false (sym q ∙ sym told ∙ rw e (joined-low a cuts b r))
-
--- A tape of the parts from place a on, at its cut c: split at the mark, with the codes on both sides made as if nothing stood over the cut.
-pub record CutAt (m : List ℕ) (a c : ℕ) (t : List ℕ) : Type 0 where
-  pub front : List ℕ
-  pub back : List ℕ
-  pub split : t ≡ front ++ (markOf (getD m c 0) ∷ back)
-  pub size : length front ≡ length (tape (part m a c))
-  pub own : marksOf front ≡ breakMarks (part m a c)
-  pub ends : (d : ℕ) → isVoiced d ≡ false → isVoiced (lastCodeFrom d front) ≡ false
-  pub starts : changedAfter m (suc c) ≡ true → firstCode (onward m (suc c)) ≡ firstCode back → ⊥
-
--- In a message whose letters are all of the alphabet.
-module _ (m : List ℕ) (spells : (p n : ℕ) → Spells (read (take n (drop p m)))) where
-  -- at the first cut
-  cut-first : (a c : ℕ) (cuts : List ℕ) → Begins m a → RisingFrom m a (c ∷ cuts) → CutAt m a c (joinedFrom m a (c ∷ cuts))
-  unfolding joinedFrom tape
-  cut-first a c cuts b r = record {
-    front = tape (part m a c);
-    back = joinedFrom m (suc c) cuts;
-    split = refl;
-    size = refl;
-    own = bytes-marks false false (part m a c) (spells a (c - a));
-    ends = λ x u. segment-ends false false x (read (part m a c)) u (spells a (c - a));
-    starts = joined-starts m (suc c) cuts (r .1) (r .2);
-  }
-
-  -- at a later one
-  cut-later : (a c d : ℕ) (cuts : List ℕ) → RisingFrom m a (d ∷ cuts) → suc d ≤ c → CutAt m (suc d) c (joinedFrom m (suc d) cuts)
-      → CutAt m a c (joinedFrom m a (d ∷ cuts))
-  unfolding joinedFrom tape breakMarks
-  cut-later a c d cuts r lt k = record {
-    front = tape (part m a d) ++ (markOf (getD m d 0) ∷ k .front);
-    back = k .back;
-    split = rw (k .split, append-assoc);
-    size =
-        let p = read (part m a d) in
-        let s = read (part m (suc d) c) in
-        let g = getD m d 0 in
-        let hard = isGap g && endsHard (lastWord p) in
-        rw (part-cut m false false a d c (r .0) lt (r .1))
-        (simp length-append
-        (omega (arith, k .size, segment-length false false false (isGap g && voices (segment hard false s)) p, segment-length hard false false false s)));
-    own = rw (part-split m a d c (r .0) lt (break-within m d (r .1)), marks-append, marks-mark, bytes-marks false false (part m a d) (spells a (d - a)), k .own, breaks-append, r .1);
-    ends = λ x u. rw last-append (k .ends (markOf (getD m d 0)) (mark-unvoiced (getD m d 0)));
-    starts = k .starts;
-  }
-
-  -- at each cut of the list
-  pub cut-at : (a c : ℕ) (cuts : List ℕ) → Begins m a → RisingFrom m a cuts → CutOf c cuts → CutAt m a c (joinedFrom m a cuts)
-  cut-at a c [] b r i = absurd i
-  cut-at a c (d ∷ cuts) b r i =
-      ⊎-elim (λ e. rw e (cut-first a d cuts b r)) (λ j. cut-later a c d cuts r (cut-above m c (suc d) cuts (r .2) j) (cut-at (suc d) c cuts (r .1) (r .2) j)) i

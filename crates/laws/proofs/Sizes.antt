@@ -1,8 +1,8 @@
 -- How long a tape and a naming can be: a letter makes at most two codes and one name, a break one code, and a message has no more letters and breaks than bytes.
-use Rattle.laws.proofs.Kit.{ℕ, suc, _+_, _*_, _≤_, _≡_, refl, ap, Bool, true, false, _&&_, _||_, ⊎-elim, List, [], _∷_, _++_, arith, length, length-append}
-use Rattle.spec.specs.{Letters.Letter, Letters.Message, Letters.last, Letters.more, Letters.read, Letters.putLetter, Letters.beginsWithMark, Letters.small, Letters.isGap, Letters.isBreak, Letters.isMark, Letters.isSign, Letters.isVowel, Letters.isConsonant, Letters.plainVowels, Letters.softeningVowels, Elision.elides, Elision.elideFrom, Elision.elide, Syllables.Facts, Syllables.factsOf, Syllables.syllableOf, Syllables.incomplete, Syllables.namesFrom, Vowels.Phone, Vowels.glides, Vowels.vowelPhones, Vowels.phonesOf, Vowels.phonesFrom, Vowels.endsHard, Voicing.voices, Voicing.voice, Palatalization.palatalize, Tape.wordTape, Tape.segment, Tape.tape, Tape.wordNames, Tape.namesOf, Tape.names}
+use Rattle.laws.proofs.Kit.{ℕ, suc, _+_, _*_, _≤_, _≡_, refl, ap, Bool, true, false, _&&_, _||_, List, [], _∷_, _++_, arith, length, length-append}
+use Rattle.spec.specs.{Letters.Letter, Letters.Message, Letters.last, Letters.more, Letters.read, Letters.putLetter, Letters.isGap, Letters.isBreak, Letters.isMark, Letters.isSign, Letters.isVowel, Letters.isConsonant, Letters.plainVowels, Letters.softeningVowels, Elision.elides, Elision.elideFrom, Elision.elide, Syllables.Facts, Syllables.factsOf, Syllables.incomplete, Syllables.namesFrom, Vowels.phonesFrom, Vowels.endsHard, Voicing.voices, Tape.wordTape, Tape.segment, Tape.tape, Tape.wordNames, Tape.namesOf, Tape.names}
 use Rattle.spec.proofs.Computed.{everything}
-use Rattle.laws.proofs.Classes.{cond-both, yes-or, among-same}
+use Rattle.laws.proofs.{Classes.cond-both, Classes.either, Classes.among-same, Word.phones-cases, Word.sounds-length}
 
 -- the letters and breaks of a message
 abbrev pub sizeOf : Message → ℕ
@@ -21,11 +21,7 @@ unfolding read
 read-size [] = omega arith
 read-size (b ∷ m) =
     let h = read-size m in
-    let l : Letter = record { byte = small b; stressed = beginsWithMark m } in
-    cond-both Short (isBreak b) (omega arith) (cond-both Short (isMark b) (omega arith) (omega (arith, put-size l (read m))))
-  where
-    Short : Message → Type 0
-    Short r = sizeOf r ≤ suc (length m)
+    either (isBreak b) (λ q. rw q (omega arith)) (λ q. rw q (either (isMark b) (λ t. rw t (omega arith)) (λ t. rw (t, put-size) (omega arith))))
 
 -- pass 1 only takes letters away
 elide-size : (p : ℕ) (w : List Letter) → length (elideFrom p w) ≤ length w
@@ -36,29 +32,17 @@ elide-size p (l ∷ w) =
     cond-both (λ v. length v ≤ suc (length w)) (elides p (l .byte) w) {x = elideFrom (l .byte) w} {y = l ∷ elideFrom (l .byte) w} (omega arith) (omega arith)
 
 -- a letter makes at most two sounds
-phones-one : (hard : Bool) (facts : Facts) (p : ℕ) (l : Letter) (w : List Letter) → length (phonesOf hard facts p l w) ≤ 2
-unfolding phonesOf vowelPhones
-phones-one hard facts p l w =
-    cond-both Few (isSign (l .byte)) (omega arith) (cond-both Few (isVowel (l .byte)) (cond-both Few (glides p (syllableOf facts p l w .cover) (l .byte)) (omega arith) (omega arith)) (omega arith))
-  where
-    Few : List Phone → Type 0
-    Few xs = length xs ≤ 2
-
 phones-size : (hard : Bool) (facts : Facts) (p : ℕ) (w : List Letter) → length (phonesFrom hard facts p w) ≤ 2 * length w
 unfolding phonesFrom
 phones-size hard facts p [] = omega arith
-phones-size hard facts p (l ∷ w) = simp length-append (omega (arith, phones-one hard facts p l w, phones-size false facts (l .byte) w))
-
--- passes 4 and 5 keep their number
-sounds-size : (next : Bool) (xs : List Phone) → length (palatalize (voice next xs)) ≡ length xs
-unfolding palatalize voice
-sounds-size next [] = refl
-sounds-size next (x ∷ xs) = ap suc (sounds-size next xs)
+phones-size hard facts p (l ∷ w) =
+    let h = phones-size false facts (l .byte) w in
+    phones-cases (λ xs. length (xs ++ phonesFrom false facts (l .byte) w) ≤ 2 * suc (length w)) hard facts p l w (λ _. omega arith) (λ _ _. (omega arith, omega arith)) (λ _ _. omega arith)
 
 word-size : (hard next : Bool) (w : List Letter) → length (wordTape hard next w) ≤ 2 * length w
 unfolding wordTape elide
 word-size hard next w =
-    omega (arith, sounds-size next (phonesFrom hard (factsOf w) 0 (elideFrom 0 w)), phones-size hard (factsOf w) 0 (elideFrom 0 w), elide-size 0 w)
+    omega (arith, sounds-length next (phonesFrom hard (factsOf w) 0 (elideFrom 0 w)), phones-size hard (factsOf w) 0 (elideFrom 0 w), elide-size 0 w)
 
 segment-size : (hard next : Bool) (r : Message) → length (segment hard next r) ≤ 2 * sizeOf r
 unfolding segment
@@ -72,14 +56,10 @@ pub tape-size : (m : List ℕ) → length (tape m) ≤ 2 * length m
 unfolding tape
 tape-size m = omega (arith, segment-size false false (read m), read-size m)
 
--- a word that ends in a vowel, or has no letter, has no incomplete syllable
+-- a word that ends in a vowel has no incomplete syllable
 vowel-complete : (b : ℕ) → isVowel b ≡ true → incomplete b ≡ []
 unfolding everything
 vowel-complete b h = among-same incomplete (λ _. []) (plainVowels ++ softeningVowels) b refl h
-
-none-complete : incomplete 0 ≡ []
-unfolding everything
-none-complete = refl
 
 -- one that does not has one
 incomplete-one : (p : ℕ) → length (incomplete p) ≤ 1
@@ -92,11 +72,11 @@ unfolding namesFrom
 names-from-size facts p [] = omega arith
 names-from-size facts p (l ∷ w) =
     let h = names-from-size facts (l .byte) w in
-    ⊎-elim (λ v. rw v (omega (arith, ap length (vowel-complete (l .byte) v)))) (λ v. rw v (omega (arith, incomplete-one (l .byte)))) (yes-or (isVowel (l .byte)))
+    either (isVowel (l .byte)) (λ v. rw v (omega (arith, ap length (vowel-complete (l .byte) v)))) (λ v. rw v (omega (arith, incomplete-one (l .byte))))
 
 word-names-size : (w : List Letter) → length (wordNames w) ≤ length w
-unfolding wordNames elide
-word-names-size w = omega (arith, names-from-size (factsOf w) 0 (elideFrom 0 w), elide-size 0 w, ap length none-complete)
+unfolding everything
+word-names-size w = omega (arith, names-from-size (factsOf w) 0 (elideFrom 0 w), elide-size 0 w)
 
 names-of-size : (r : Message) → length (namesOf r) ≤ sizeOf r
 unfolding namesOf

@@ -1,7 +1,7 @@
 -- The tape of a stretch of a message: a break splits it in two, since nothing but the two bits crosses a break; and what the bits change, by its first and last word.
-use Rattle.laws.proofs.Kit.{ℕ, _≡_, refl, ap, Bool, true, false, _&&_, List, [], _∷_, _++_, append-assoc, arith, eqb, length, length-append}
-use Rattle.spec.specs.{Alphabet.pause, Tables.among, Letters.Letter, Letters.Message, Letters.last, Letters.more, Letters.read, Letters.putLetter, Letters.beginsWithMark, Letters.firstWord, Letters.lastWord, Letters.isGap, Letters.isBreak, Codes.markOf, Codes.isVoicing, Vowels.endsHard, Palatalization.firstCode, Voicing.voices, Tape.segment, Joints.endsInObstruent, Joints.beginsWithIOrE}
-use Rattle.laws.proofs.{Classes.cond-both, Classes.cond-app, Classes.break-mark, Word.lastCodeFrom, Word.word-length, Word.word-quiet, Word.word-firm}
+use Rattle.laws.proofs.Kit.{ℕ, _≡_, refl, ap, Bool, true, false, _&&_, List, [], _∷_, _++_, append-assoc, arith, length, length-append}
+use Rattle.spec.specs.{Tables.among, Letters.Letter, Letters.Message, Letters.last, Letters.more, Letters.read, Letters.putLetter, Letters.beginsWithMark, Letters.firstWord, Letters.lastWord, Letters.isGap, Letters.isBreak, Codes.markOf, Codes.isVoicing, Vowels.endsHard, Palatalization.firstCode, Voicing.voices, Tape.segment, Joints.endsInObstruent, Joints.beginsWithIOrE}
+use Rattle.laws.proofs.{Classes.mark-both, Classes.cond-app, Classes.break-mark, Word.lastCodeFrom, Word.word-length, Word.word-quiet, Word.word-firm}
 
 -- the message a, the break x, and the message b, read as one
 unfoldable pub meet : Message → ℕ → Message → Message
@@ -40,8 +40,8 @@ read-join (b ∷ p) s x e = rw (read-join p s x e, mark-before-break p s x e, pu
 
 -- a break's mark is no voicing sound, and neither is nothing, so a word is followed by the same voice with or without what stands behind the break
 pub voices-over : (t u : List ℕ) (x : ℕ) → voices (t ++ (markOf x ∷ u)) ≡ voices t
-unfolding voices markOf isVoicing among
-voices-over [] u x = cond-both (λ c. isVoicing c ≡ false) (eqb x pause) refl refl
+unfolding voices isVoicing among
+voices-over [] u x = mark-both (λ c. isVoicing c ≡ false) x refl refl
 voices-over (c ∷ t) u x = refl
 
 -- sounds voice what their first one does; 0, for none, voices nothing
@@ -71,11 +71,12 @@ segment-length h h′ n n′ (more w x r) =
     let v : Bool → Bool = λ b. isGap x && voices (segment k b r) in
     simp length-append (omega (arith, word-length h h′ (v n) (v n′) w, segment-length k k n n′ r))
 
--- what follows changes nothing where the last word ends in no obstruent
-pub segment-quiet : (h n n′ : Bool) (a : Message) → endsInObstruent (lastWord a) ≡ false → segment h n a ≡ segment h n′ a
+-- what follows changes nothing unless it voices an obstruent at the end of the last word
+pub segment-quiet : (h n : Bool) (a : Message) → (n && endsInObstruent (lastWord a)) ≡ false → segment h false a ≡ segment h n a
 unfolding segment lastWord
-segment-quiet h n n′ (last w) e = word-quiet h n n′ w e
-segment-quiet h n n′ (more w x r) e = rw (segment-quiet (isGap x && endsHard w) n n′ r e)
+segment-quiet h false a e = refl
+segment-quiet h true (last w) e = word-quiet h false true w e
+segment-quiet h true (more w x r) e = rw (segment-quiet (isGap x && endsHard w) true r e)
 
 -- a tape that ends as t, after a mark
 pub last-append : (c d : ℕ) (s t : List ℕ) → lastCodeFrom c (s ++ (d ∷ t)) ≡ lastCodeFrom d t
@@ -83,9 +84,9 @@ unfolding lastCodeFrom
 last-append c d [] t = refl
 last-append c d (x ∷ s) t = last-append x d s t
 
--- a hard boundary before it changes nothing unless the first word begins with и or unmarked э
-pub segment-firm : (h h′ n : Bool) (a : Message) → beginsWithIOrE (firstWord a) ≡ false → segment h n a ≡ segment h′ n a
+-- what stands before changes nothing unless it is a hard boundary and the first word begins with и or unmarked э
+pub segment-firm : (h n : Bool) (a : Message) → (h && beginsWithIOrE (firstWord a)) ≡ false → segment false n a ≡ segment h n a
 unfolding segment firstWord
-segment-firm h h′ n (last w) e = word-firm h h′ n w e
-segment-firm h h′ n (more w x r) e =
-    ap (λ (t : List ℕ). t ++ (markOf x ∷ segment (isGap x && endsHard w) n r)) (word-firm h h′ (isGap x && voices (segment (isGap x && endsHard w) n r)) w e)
+segment-firm false n a e = refl
+segment-firm true n (last w) e = word-firm false true n w e
+segment-firm true n (more w x r) e = ap (λ (t : List ℕ). t ++ (markOf x ∷ segment (isGap x && endsHard w) n r)) (word-firm false true _ w e)

@@ -1,69 +1,52 @@
 -- The tape of a word and the two bits that come from its neighbours: what each bit changes, for a word and a letter in general.
 -- Why: pass 4 reads the bit of what follows only at the last sound, and pass 3 reads the bit of what stands before only at the first letter, in the rows of э and и.
-use Rattle.laws.proofs.Kit.{ℕ, suc, arith, _≡_, refl, sym, ap, subst, _∙_, Bool, true, false, cond, not, _&&_, _||_, true≢false, false≢true, and-true, and-false, ⊎-elim, List, [], _∷_, _++_, append-nil, map, length, eqb, eqb-true, eqb-false}
-use Rattle.spec.specs.{Alphabet.«и», Alphabet.«н», Alphabet.«с», Alphabet.«ц», Alphabet.«ч», Alphabet.«ш», Alphabet.«э», Tables.among, Tables.entry, Letters.Letter, Letters.firstByte, Letters.obstruents, Letters.signs, Letters.isSign, Letters.isVowel, Letters.isObstruent, Codes.Ы*, Codes.Ы1, Elision.elidesT, Elision.elidesD, Elision.elides, Elision.elideFrom, Elision.elide, Elision.elidesAmong, Syllables.Facts, Syllables.factsOf, Syllables.coverAfter, Syllables.hasMark, Syllables.nextStressed, Syllables.levelOf, Syllables.syllableOf, Vowels.Phone, Vowels.byStress, Vowels.byLevel, Vowels.glides, Vowels.vowelSound, Vowels.vowelPhones, Vowels.phonesOf, Vowels.phonesFrom, Voicing.voicedCode, Voicing.voicelessCode, Voicing.toneOf, Voicing.toned, Voicing.voiceOne, Voicing.voice, Palatalization.isSoft, Palatalization.firstCode, Palatalization.palatalize, Tape.wordTape, Joints.endsInObstruent, Joints.endsInObstruentFrom, Joints.beginsWithIOrE, declared.Cover.Cover, declared.Level.Level, declared.Level.the-variants.Stressed, declared.Level.the-variants.First, declared.Level.the-variants.Second}
+use Rattle.laws.proofs.Kit.{ℕ, suc, _≡_, refl, sym, ap, subst, _∙_, Bool, true, false, cond, not, _&&_, _||_, true≢false, and-true, and-false, List, [], _∷_, _++_, append-nil, map, length, length-append, eqb, eqb-true}
+use Rattle.spec.specs.{Alphabet.«и», Alphabet.«н», Alphabet.«с», Alphabet.«ц», Alphabet.«ч», Alphabet.«ш», Alphabet.«э», Tables.among, Tables.entry, Letters.Letter, Letters.firstByte, Letters.signs, Letters.isSign, Letters.isVowel, Letters.isObstruent, Codes.Ы*, Codes.Ы1, Codes.J, Elision.elidesT, Elision.elidesD, Elision.elides, Elision.elideFrom, Elision.elide, Elision.elidesAmong, Syllables.Facts, Syllables.factsOf, Syllables.coverAfter, Syllables.hasMark, Syllables.nextStressed, Syllables.levelOf, Syllables.syllableOf, Vowels.Phone, Vowels.byStress, Vowels.byLevel, Vowels.glides, Vowels.vowelSound, Vowels.softens, Vowels.writtenCode, Vowels.vowelPhones, Vowels.phonesOf, Vowels.phonesFrom, Voicing.toneOf, Voicing.voiceOne, Voicing.voice, Palatalization.firstCode, Palatalization.palatalize, Tape.wordTape, Joints.endsInObstruent, Joints.endsInObstruentFrom, Joints.beginsWithIOrE, declared.Cover.Cover, declared.Level.the-variants.Stressed, declared.Level.the-variants.First, declared.Level.the-variants.Second}
 use Rattle.spec.proofs.Computed.{everything}
-use Rattle.laws.proofs.Classes.{yes-or, among-same}
+use Rattle.laws.proofs.Classes.{cond-app, cond-both, either, or-false, among-same}
 
--- the last code; 0 where there is none
+-- the last code; d where there is none
 unfoldable pub lastCodeFrom : ℕ → List ℕ → ℕ
 lastCodeFrom d [] = d
 lastCodeFrom d (c ∷ t) = lastCodeFrom c t
-
-unfoldable pub lastCode : List ℕ → ℕ
-lastCode t = lastCodeFrom 0 t
-
--- sounds that differ in their codes at most
-pub data Alike : List Phone → List Phone → Type 0 where
-  alike-end : Alike [] []
-  alike-more : {x y : Phone} {xs ys : List Phone} → x .letter ≡ y .letter → x .softened ≡ y .softened → Alike xs ys → Alike (x ∷ xs) (y ∷ ys)
-
--- any sounds are alike to themselves
-pub alike-same : (xs : List Phone) → Alike xs xs
-alike-same [] = alike-end
-alike-same (x ∷ xs) = alike-more refl refl (alike-same xs)
 
 -- is the letter of the last sound an obstruent? d where there is none
 unfoldable pub endsToned : Bool → List Phone → Bool
 endsToned d [] = d
 endsToned d (x ∷ xs) = endsToned (isObstruent (x .letter)) xs
 
--- The sounds of a letter have one shape: nothing, a glide and a vowel, a vowel, or a consonant.
-abbrev pub shape : Bool → Bool → Bool → Phone → Phone → Phone → List Phone
-shape sign vowel glide j x c = cond sign [] (cond vowel (cond glide (j ∷ x ∷ []) (x ∷ [])) (c ∷ []))
-
--- a vowel with another code makes the sounds of a letter no other than in that code
-shape-alike : (s v g : Bool) (j x y c : Phone) (r : List Phone) → x .letter ≡ y .letter → x .softened ≡ y .softened → Alike (shape s v g j x c ++ r) (shape s v g j y c ++ r)
-shape-alike true v g j x y c r e f = alike-same r
-shape-alike false true true j x y c r e f = alike-more refl refl (alike-more e f (alike-same r))
-shape-alike false true false j x y c r e f = alike-more e f (alike-same r)
-shape-alike false false g j x y c r e f = alike-more refl refl (alike-same r)
-
--- the sounds of a letter that is no sign end in a sound of that letter
-shape-toned : (s v g d : Bool) (b : ℕ) (j x c : Phone) (r : List Phone) → x .letter ≡ b → c .letter ≡ b → endsToned d (shape s v g j x c ++ r) ≡ endsToned (cond s d (isObstruent b)) r
-unfolding endsToned
-shape-toned true v g d b j x c r e f = refl
-shape-toned false true true d b j x c r e f = rw e
-shape-toned false true false d b j x c r e f = rw e
-shape-toned false false g d b j x c r e f = rw f
-
--- pass 3: a hard boundary changes codes at most
-pub phones-alike : (h h′ : Bool) (m : Facts) (p : ℕ) (w : List Letter) → Alike (phonesFrom h m p w) (phonesFrom h′ m p w)
-unfolding phonesFrom phonesOf vowelPhones syllableOf
-phones-alike h h′ m p [] = alike-end
-phones-alike h h′ m p (l ∷ w) = shape-alike (isSign (l .byte)) (isVowel (l .byte)) (glides p (coverAfter p) (l .byte)) _ _ _ _ (phonesFrom false m (l .byte) w) refl refl
+-- What holds of no sounds for a sign, of a vowel with and without its glide, and of a consonant, holds of a letter's sounds.
+pub phones-cases : (P : List Phone → Type 0) (hard : Bool) (facts : Facts) (p : ℕ) (l : Letter) (w : List Letter)
+    → (isSign (l .byte) ≡ true → P [])
+    → (isVowel (l .byte) ≡ true → isSign (l .byte) ≡ false
+    → let v : Phone = record { letter = l .byte; softened = false; code = vowelSound hard p (syllableOf facts p l w) (l .byte) } in
+    P (record { letter = l .byte; softened = false; code = J } ∷ v ∷ []) × P (v ∷ []))
+    → (isVowel (l .byte) ≡ false → isSign (l .byte) ≡ false → P (record { letter = l .byte; softened = softens (firstByte w); code = writtenCode (l .byte) } ∷ []))
+    → P (phonesOf hard facts p l w)
+unfolding phonesOf vowelPhones
+phones-cases P hard facts p l w sign vowel consonant = either (isSign (l .byte)) (λ s. rw s (sign s)) (λ s.
+    rw s (either (isVowel (l .byte)) (λ v. rw v (cond-both P (glides p (syllableOf facts p l w .cover) (l .byte)) (vowel v s .0) (vowel v s .1))) (λ v. rw v (consonant v s))))
 
 -- pass 3: the last sound is of the last letter, signs passed over
 pub phones-toned : (h : Bool) (m : Facts) (d : Bool) (p : ℕ) (w : List Letter) → endsToned d (phonesFrom h m p w) ≡ endsInObstruentFrom d w
-unfolding phonesFrom phonesOf vowelPhones syllableOf endsToned endsInObstruentFrom
+unfolding phonesFrom endsToned endsInObstruentFrom
 phones-toned h m d p [] = refl
-phones-toned h m d p (l ∷ w) = shape-toned (isSign (l .byte)) (isVowel (l .byte)) (glides p (coverAfter p) (l .byte)) d (l .byte) _ _ _ (phonesFrom false m (l .byte) w) refl refl ∙ phones-toned false m _ (l .byte) w
+phones-toned h m d p (l ∷ w) =
+    let r = phonesFrom false m (l .byte) w in
+    phones-cases (λ xs. endsToned d (xs ++ r) ≡ endsToned (cond (isSign (l .byte)) d (isObstruent (l .byte))) r) h m p l w (λ s. rw s) (λ v s. (rw s, rw s)) (λ v s. rw s)
+    ∙ phones-toned false m _ (l .byte) w
+
+-- pass 3: a hard boundary changes no number of sounds
+phones-length : (h h′ : Bool) (m : Facts) (p : ℕ) (w : List Letter) → length (phonesFrom h m p w) ≡ length (phonesFrom h′ m p w)
+unfolding phonesFrom phonesOf vowelPhones
+phones-length h h′ m p [] = refl
+phones-length h h′ m p (l ∷ w) = simp (length-append, cond-app (length {A = Phone}))
 
 -- passes 4 and 5 give each sound one code
-pub alike-length : (n n′ : Bool) {xs ys : List Phone} → Alike xs ys → length (palatalize (voice n xs)) ≡ length (palatalize (voice n′ ys))
+pub sounds-length : (n : Bool) (xs : List Phone) → length (palatalize (voice n xs)) ≡ length xs
 unfolding palatalize voice
-alike-length n n′ alike-end = refl
-alike-length n n′ (alike-more e f a) = ap suc (alike-length n n′ a)
+sounds-length n [] = refl
+sounds-length n (x ∷ xs) = ap suc (sounds-length n xs)
 
 -- pass 4: what follows the word changes nothing where the last sound is no obstruent's
 pub voice-quiet : (n n′ : Bool) (xs : List Phone) → endsToned false xs ≡ false → voice n xs ≡ voice n′ xs
@@ -71,23 +54,6 @@ unfolding endsToned voice voiceOne toneOf
 voice-quiet n n′ [] e = refl
 voice-quiet n n′ (x ∷ []) e = rw e
 voice-quiet n n′ (x ∷ y ∷ xs) e = ap (λ (r : List Phone). voiceOne n x r ∷ r) (voice-quiet n n′ (y ∷ xs) e)
-
--- an obstruent's voiced code is not its voiceless one
-pub tones-differ : (b : ℕ) → isObstruent b ≡ true → voicedCode b ≡ voicelessCode b → ⊥
-unfolding everything
-tones-differ b o = eqb-false (voicedCode b) (voicelessCode b) (among-same (λ x. eqb (voicedCode x) (voicelessCode x)) (λ _. false) obstruents b refl o)
-
--- nor where both are palatalized
-soft-differ : (b : ℕ) (soft : Bool) → isObstruent b ≡ true → cond soft (suc (voicedCode b)) (voicedCode b) ≡ cond soft (suc (voicelessCode b)) (voicelessCode b) → ⊥
-soft-differ b true o q = tones-differ b o (omega arith)
-soft-differ b false o q = tones-differ b o q
-
--- passes 4 and 5: the last code tells what follows where the last sound is an obstruent's
-pub alike-differ : {xs ys : List Phone} → Alike xs ys → endsToned false xs ≡ true → lastCode (palatalize (voice true xs)) ≡ lastCode (palatalize (voice false ys)) → ⊥
-unfolding endsToned lastCode lastCodeFrom palatalize voice voiceOne toneOf toned isSoft firstCode
-alike-differ alike-end e q = false≢true e
-alike-differ (alike-more {x} {y} l s alike-end) e q = let o : isObstruent (y .letter) ≡ true = rw l at e in soft-differ (y .letter) (isSoft y 0) o (rw (l, s, o) at q)
-alike-differ (alike-more l s (alike-more l′ s′ a)) e q = alike-differ (alike-more l′ s′ a) e q
 
 -- a letter before a sign or at the end of a word is not elided
 kept-before : (p b : ℕ) (w : List Letter) → among (0 ∷ signs) (firstByte w) ≡ true → elides p b w ≡ false
@@ -102,14 +68,14 @@ elided-ends : (p b : ℕ) (d d′ : Bool) (w : List Letter) → elides p b w ≡
 unfolding endsInObstruentFrom firstByte among isSign
 elided-ends p b d d′ [] e = absurd (true≢false (sym e ∙ kept-before p b [] refl))
 elided-ends p b d d′ (l ∷ w) e =
-    ⊎-elim (λ q. absurd (true≢false (sym e ∙ kept-before p b (l ∷ w) (among-same (among (0 ∷ signs)) (λ _. true) signs (l .byte) refl q)))) (λ q. rw q) (yes-or (isSign (l .byte)))
+    either (isSign (l .byte)) (λ q. absurd (true≢false (sym e ∙ kept-before p b (l ∷ w) (among-same (among (0 ∷ signs)) (λ _. true) signs (l .byte) refl q)))) (λ q. rw q)
 
 -- pass 1 leaves the last letter, signs passed over
 pub elide-ends : (d : Bool) (p : ℕ) (w : List Letter) → endsInObstruentFrom d (elideFrom p w) ≡ endsInObstruentFrom d w
 unfolding elideFrom endsInObstruentFrom
 elide-ends d p [] = refl
 elide-ends d p (l ∷ w) =
-    ⊎-elim (λ q. rw q (elide-ends d (l .byte) w ∙ elided-ends p (l .byte) d _ w q)) (λ q. rw q (elide-ends _ (l .byte) w)) (yes-or (elides p (l .byte) w))
+    either (elides p (l .byte) w) (λ q. rw q (elide-ends d (l .byte) w ∙ elided-ends p (l .byte) d _ w q)) (λ q. rw q (elide-ends _ (l .byte) w))
 
 -- the last sound of a word is of its last letter, signs passed over
 pub word-toned : (h : Bool) (w : List Letter) → endsToned false (phonesFrom h (factsOf w) 0 (elide w)) ≡ endsInObstruent w
@@ -122,12 +88,10 @@ unfolding elides elidesAmong elidesT elidesD
 first-kept b w = simp and-false
 
 -- pass 3: at the start of a word a hard boundary changes no vowel but и and unmarked э
-vowel-firm : (h h′ s t i e : Bool) (c : Cover) (b : ℕ) → eqb b «и» ≡ i → eqb b «э» ≡ e → (i || (e && not s)) ≡ false → vowelSound h 0 (record { cover = c; level = cond s Stressed (cond t First Second) }) b ≡ vowelSound h′ 0 (record { cover = c; level = cond s Stressed (cond t First Second) }) b
+vowel-firm : (h h′ s t : Bool) (c : Cover) (b : ℕ) → (eqb b «и» || (eqb b «э» && not s)) ≡ false → vowelSound h 0 (record { cover = c; level = cond s Stressed (cond t First Second) }) b ≡ vowelSound h′ 0 (record { cover = c; level = cond s Stressed (cond t First Second) }) b
 unfolding vowelSound byStress byLevel entry
-vowel-firm h h′ s t true e c b x y q = absurd (true≢false q)
-vowel-firm h h′ true t false e c b x y q = rw x
-vowel-firm h h′ false t false true c b x y q = absurd (true≢false q)
-vowel-firm h h′ false t false false c b x y q = rw (x, y)
+vowel-firm h h′ true t c b q = rw (or-false (eqb b «и») _ q .0)
+vowel-firm h h′ false t c b q = let e = or-false (eqb b «и») _ q in rw (e .0, rw and-true at (e .1))
 
 -- the sounds of ы
 abbrev pub isHigh : ℕ → Bool
@@ -137,63 +101,43 @@ isHigh c = eqb c Ы* || eqb c Ы1
 abbrev pub isIOrE : ℕ → Bool
 isIOrE b = eqb b «и» || eqb b «э»
 
--- at the start of a word и sounds Ы just behind a hard boundary
-high-И : (h : Bool) (cover : Cover) (level : Level) → (isHigh (vowelSound h 0 (record { cover = cover; level = level }) «и») && true) ≡ (h && true)
+-- at the start of a word и, and э where it is not stressed, sound Ы just behind a hard boundary
+high-told : (h s t : Bool) (c : Cover) → let high : ℕ → Bool = λ b. isHigh (vowelSound h 0 (record { cover = c; level = cond s Stressed (cond t First Second) }) b) && true in
+    (high «и» ≡ (h && true)) × (high «э» ≡ (h && not s))
 unfolding everything
-high-И true c Stressed = refl
-high-И true c First = refl
-high-И true c Second = refl
-high-И false c Stressed = refl
-high-И false c First = refl
-high-И false c Second = refl
-
--- and so does э where it is not stressed
-high-Э : (h s t : Bool) (cover : Cover) → (isHigh (vowelSound h 0 (record { cover = cover; level = cond s Stressed (cond t First Second) }) «э») && true) ≡ (h && not s)
-unfolding everything
-high-Э true true t c = refl
-high-Э true false true c = refl
-high-Э true false false c = refl
-high-Э false true t c = refl
-high-Э false false true c = refl
-high-Э false false false c = refl
+high-told true true t c = (refl, refl)
+high-told true false true c = (refl, refl)
+high-told true false false c = (refl, refl)
+high-told false true t c = (refl, refl)
+high-told false false true c = (refl, refl)
+high-told false false false c = (refl, refl)
 
 -- At the start of a word that begins with one of them Ы tells the hard boundary.
 pub word-starts : (h n : Bool) (w : List Letter) (u : List ℕ) → (isHigh (firstCode (wordTape h n w ++ u)) && isIOrE (firstByte w)) ≡ (h && beginsWithIOrE w)
 unfolding everything
 word-starts h n [] u = simp and-false
-word-starts h n (l ∷ w) u = by (eqb (l .byte) «и») refl (eqb (l .byte) «э») refl
-  where
-    Told : ℕ → Type 0
-    Told b =
-        let v : List Letter = record { byte = b; stressed = l .stressed } ∷ w in
-        (isHigh (firstCode (wordTape h n v ++ u)) && isIOrE b) ≡ (h && beginsWithIOrE v)
-
-    by : (s : Bool) → eqb (l .byte) «и» ≡ s → (t : Bool) → eqb (l .byte) «э» ≡ t → Told (l .byte)
-    by true q t r = subst Told (sym (eqb-true (l .byte) «и» q)) (high-И h (coverAfter 0) (levelOf (factsOf (l ∷ w)) l (elideFrom «и» w)))
-    by false q true r = subst Told (sym (eqb-true (l .byte) «э» r)) (high-Э h (l .stressed) (nextStressed (elideFrom «э» w) || not (hasMark (l ∷ w))) (coverAfter 0))
-    by false q false r = rw (q, r) (simp and-false)
+word-starts h n (l ∷ w) u =
+    let told : ℕ → Type 0 = λ b. let v : List Letter = record { byte = b; stressed = l .stressed } ∷ w in (isHigh (firstCode (wordTape h n v ++ u)) && isIOrE b) ≡ (h && beginsWithIOrE v) in
+    let level : ℕ → Bool = λ b. nextStressed (elideFrom b w) || not (hasMark (l ∷ w)) in
+    either (eqb (l .byte) «и») (λ q. subst told (sym (eqb-true (l .byte) «и» q)) (high-told h (l .stressed) (level «и») (coverAfter 0) .0)) (λ q.
+    either (eqb (l .byte) «э») (λ r. subst told (sym (eqb-true (l .byte) «э» r)) (high-told h (l .stressed) (level «э») (coverAfter 0) .1)) (λ r. rw (q, r) (simp and-false)))
 
 -- the length depends on neither bit
 pub word-length : (h h′ n n′ : Bool) (w : List Letter) → length (wordTape h n w) ≡ length (wordTape h′ n′ w)
 unfolding wordTape
-word-length h h′ n n′ w = alike-length n n′ (phones-alike h h′ (factsOf w) 0 (elide w))
+word-length h h′ n n′ w = sounds-length n _ ∙ phones-length h h′ (factsOf w) 0 (elide w) ∙ sym (sounds-length n′ _)
 
 -- what follows changes nothing where the word ends in no obstruent, signs passed over
 pub word-quiet : (h n n′ : Bool) (w : List Letter) → endsInObstruent w ≡ false → wordTape h n w ≡ wordTape h n′ w
 unfolding wordTape
 word-quiet h n n′ w e = ap palatalize (voice-quiet n n′ _ (word-toned h w ∙ e))
 
--- and else the last code differs
-pub word-ends-differ : (h h′ : Bool) (w : List Letter) → endsInObstruent w ≡ true → lastCode (wordTape h true w) ≡ lastCode (wordTape h′ false w) → ⊥
-unfolding wordTape
-word-ends-differ h h′ w e q = alike-differ (phones-alike h h′ (factsOf w) 0 (elide w)) (word-toned h w ∙ e) q
-
 -- a hard boundary before the word changes nothing unless it begins with и or unmarked э
 pub word-firm : (h h′ n : Bool) (w : List Letter) → beginsWithIOrE w ≡ false → wordTape h n w ≡ wordTape h′ n w
 unfolding wordTape beginsWithIOrE elide elideFrom phonesFrom phonesOf vowelPhones syllableOf levelOf
 word-firm h h′ n [] e = refl
 word-firm h h′ n (l ∷ w) e =
-    let v = vowel-firm h h′ (l .stressed) (nextStressed (elideFrom (l .byte) w) || not (hasMark (l ∷ w))) (eqb (l .byte) «и») (eqb (l .byte) «э») (coverAfter 0) (l .byte) refl refl e in
+    let v = vowel-firm h h′ (l .stressed) (nextStressed (elideFrom (l .byte) w) || not (hasMark (l ∷ w))) (coverAfter 0) (l .byte) e in
     rw (first-kept (l .byte) w, v)
 
 -- and else the first code differs, whatever follows
