@@ -3,8 +3,8 @@ ghost use mathlib.Core.Path.{_≡_};
 ghost use Prim.Native.Nat.{_<_};
 ghost use lib.ListN.{length};
 ghost use Rattle.spec.specs.Letters.{small};
-ghost use Rattle.spec.specs.Elision.{elidesT, elidesD, elidesAmong};
-ghost use Rattle.message.specs.Classes.{letterAt, elidedAt, followsElided, foldOf, isTOrD};
+ghost use Rattle.spec.specs.Elision.{elidesAmong};
+ghost use Rattle.message.specs.Classes.{letterAt, elidedAt, followsElided, isTOrD};
 use crate::alphabet::CAPITAL_DE;
 use crate::alphabet::CAPITAL_IO;
 use crate::alphabet::CAPITAL_TE;
@@ -15,7 +15,6 @@ use crate::alphabet::EN;
 use crate::alphabet::ER;
 use crate::alphabet::ES;
 use crate::alphabet::FIRST_CAPITAL;
-use crate::alphabet::FIRST_SMALL;
 use crate::alphabet::IO;
 use crate::alphabet::KA;
 use crate::alphabet::LAST_CAPITAL;
@@ -42,56 +41,32 @@ pub fn letter_at(m: &[u8], i: usize) -> u8
     if i < m.len() { small_letter(m[i]) } else { 0 }
 }
 
-// т after p and before c and d: after с before ск or н; after н before ск.
-fn elides_t(p: u8, c: u8, d: u8) -> bool
-    ensures { λ r. ⌜ r ≡ elidesT p c d ⌝ }
-{
-    (p == ES) & ((c == ES) & (d == KA) | (c == EN)) | (p == EN) & ((c == ES) & (d == KA))
-}
-
-// д after p and before c and d: after р before ч or ц; after з before н or ц; after н before ц, с or шт.
-fn elides_d(p: u8, c: u8, d: u8) -> bool
-    ensures { λ r. ⌜ r ≡ elidesD p c d ⌝ }
-{
-    (p == ER) & ((c == CHE) | (c == TSE))
-        | ((p == ZE) & ((c == EN) | (c == TSE))
-            | (p == EN) & ((c == TSE) | ((c == ES) | (c == SHA) & (d == TE))))
-}
-
-// Is the letter b silent between these letters, 0 for none?
+// Is the letter b silent between these letters, 0 for none? т after с before ск or н, and after н before ск; д after р before ч or ц, after з before н or ц, and after н before ц, с or шт.
 fn elides(p: u8, b: u8, c: u8, d: u8) -> bool
     ensures { λ r. ⌜ r ≡ elidesAmong p b c d ⌝ }
 {
-    if b == TE {
-        return elides_t(p, c, d);
-    }
-    (b == DE) & elides_d(p, c, d)
+    (b == TE)
+        & ((p == ES) & ((c == ES) & (d == KA) | (c == EN)) | (p == EN) & ((c == ES) & (d == KA)))
+        | (b == DE)
+            & ((p == ER) & ((c == CHE) | (c == TSE))
+                | ((p == ZE) & ((c == EN) | (c == TSE))
+                    | (p == EN) & ((c == TSE) | ((c == ES) | (c == SHA) & (d == TE)))))
 }
 
 // May a silent letter stand before this one? Before most it may not, and then nothing else is asked.
 fn follows_elided(c: u8) -> bool
     ensures { λ r. ⌜ r ≡ followsElided c ⌝ }
 {
-    (c == EN) | ((c == ES) | ((c == TSE) | ((c == CHE) | (c == SHA))))
-}
-
-// The letter of a byte as the rules of silent letters need it: what is no letter from а to я, small or capital, is 0.
-fn fold_case(b: u8) -> u8
-    ensures { λ r. ⌜ r ≡ foldOf b ⌝ }
-{
-    if b < FIRST_CAPITAL {
-        return 0;
-    }
-    b % CASE_STEP + FIRST_SMALL
+    (c == ES) | ((c == EN) | ((c == CHE) | ((c == TSE) | (c == SHA))))
 }
 
 // Is the letter of byte b silent between these bytes, small letters or capitals, 0 for none? The letter after it is asked for first.
 fn elides_byte(p: u8, b: u8, c: u8, d: u8) -> bool
     ensures { λ r. ⌜ r ≡ elidesAmong (small p) (small b) (small c) (small d) ⌝ }
 {
-    let next = fold_case(c);
+    let next = small_letter(c);
     if follows_elided(next) {
-        return elides(fold_case(p), fold_case(b), next, fold_case(d));
+        return elides(small_letter(p), small_letter(b), next, small_letter(d));
     }
     false
 }

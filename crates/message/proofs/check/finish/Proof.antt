@@ -9,6 +9,5 @@ finish-spec =
     (tie.spec
     (λ c. search needs)
     (λ c. rw (c .if1 .taken))
-    (λ c κs. search needs)
-    (λ c. search needs)
+    (λ c κs. search needs) (λ c. search needs)
     (λ c. rw (c .before .before .before .if1 .left, c .tail-names .ensures .0)))

@@ -47,19 +47,11 @@ pub letters-at-spec : {M : Type 1} → statement M
 letters-at-spec =
     tie.close
     (tie.spec
-    Inv-loop
-    μ-loop
-    (λ c. search needs)
-    (λ c. search needs)
-    (λ c. search needs)
-    (λ c κs. search needs)
-    (λ c. search needs)
+    Inv-loop μ-loop (λ c. search needs) (λ c. search needs) (λ c. search needs) (λ c κs. search needs) (λ c. search needs)
     (λ c. search needs)
     (λ c. let e = here (c .before) .letter (c .if1 .taken) in search needs)
     (λ c. let e = here (c .before .before) .break (c .if2 .taken) (c .before .if1 .left) in search needs)
     (λ c. search needs)
     (λ c. let e = here (c .before .before) .other (c .if2 .left) in search needs)
-    (λ c. search needs)
-    (λ c. search needs)
-    (λ c. search needs)
+    (λ c. search needs) (λ c. search needs) (λ c. search needs)
     returns-2)

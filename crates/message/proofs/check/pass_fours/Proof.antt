@@ -39,17 +39,13 @@ pub pass-fours-spec : {M : Type 1} → statement M
 pass-fours-spec =
     tie.close
     (tie.spec
-    Inv-loop
-    μ-loop
-    (λ c. search needs)
+    Inv-loop μ-loop (λ c. search needs)
     (λ c κs. let b = sees-small (c .before .loop .inv .0) in let h = c .before .before .before .pre .bytes _ (c .loop-test .taken) in search needs)
     (λ c. search needs)
     weigh-four-requires
     (λ c. let b = sees-small (c .before .before .before .before .loop .inv .0) in search needs)
     (λ c. search needs)
     (λ c. let l = c .before .before .before .before in let h = l .before .before .before .pre .bytes _ (l .loop-test .taken) in search needs)
-    (λ c κs. search needs)
-    (λ c. search needs)
-    (λ c. search needs)
+    (λ c κs. search needs) (λ c. search needs) (λ c. search needs)
     loop-again
     (λ c. search needs))

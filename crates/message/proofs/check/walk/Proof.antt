@@ -38,19 +38,14 @@ pub walk-spec : {M : Type 1} → statement M
 walk-spec =
     tie.close
     (tie.spec
-    Inv-loop
-    μ-loop
+    Inv-loop μ-loop
     (λ c. sees-none _ (λ j. omega (arith, c .shared-slice-known .given j)))
-    (λ c κs. search needs)
-    (λ c κs. search needs)
+    (λ c κs. search needs) (λ c κs. search needs)
     pass-fours-requires
-    (λ c κs. search needs)
-    (λ c. search needs)
+    (λ c κs. search needs) (λ c. search needs)
     returns
     (λ c. search needs)
     (λ c. let q = rw (c .before .next .given .1) at (c .before .before .before .step .ensures) in search needs)
     (λ c. let q = rw (c .before .next .given .1) at (c .before .before .before .step .ensures) in search needs)
-    (λ c. search needs)
-    (λ c. search needs)
-    (λ c κs. search needs)
+    (λ c. search needs) (λ c. search needs) (λ c κs. search needs)
     returns-2)

@@ -8,6 +8,4 @@ weigh-four-spec =
     tie.close
     (tie.spec
     (λ c. let p = c .before .before .pre .plain (c .if1 .taken) in search needs)
-    (λ c κs. search needs)
-    (λ c. search needs)
-    (λ c. search needs))
+    (λ c κs. search needs) (λ c. search needs) (λ c. search needs))

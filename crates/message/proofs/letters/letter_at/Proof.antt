@@ -10,7 +10,6 @@ unfolding letterAt small
 letter-at-spec =
     tie.close
     (tie.spec
-    (λ c. search needs)
-    (λ c κs. search needs)
+    (λ c. search needs) (λ c κs. search needs)
     (λ c. c .small-letter .ensures)
     (λ c. rw (List·getD-eq-default {A = ℕ} _ 0 (c .if1 .left))))
