@@ -1,8 +1,8 @@
 -- The check's tables by their rules: each entry is what specs/Steps.antt says, by one computation over all of them.
-use Rattle.laws.proofs.Kit.{ℕ, zero, suc, _+_, _-_, _*_, _/_, _%_, _<_, _≤_, _≡_, refl, sym, ap, _∙_, Bool, true, false, cond, _&&_, _||_, not, and-false, false≢true, List, [], _∷_, map, arith, eqb, leb, getD, eqb-true, eqb-false, leb-true, ne-eqb}
-use Rattle.spec.specs.{Alphabet.«д», Alphabet.«з», Alphabet.«н», Alphabet.«р», Alphabet.«с», Alphabet.«т», Tables.among, Letters.small, Elision.elidesT, Elision.elidesD, Elision.elidesAmong}
-use Rattle.message.specs.{Classes.classOf, Classes.classAt, Classes.tabulate, Classes.classes, Classes.letterAt, Classes.letterBefore, Classes.elidedAt, Classes.silentAt, Steps.nextKind, Steps.faultIn, Steps.widthIn, Steps.namesIn, Steps.askIn, Steps.stopIn, Steps.packed, Steps.pairs, Steps.kindAt, Steps.widthAt, Steps.nameUnit, Steps.askUnit, Steps.stopUnit}
-use Rattle.message.proofs.{Bytes.below, Bytes.pairs-same, Bytes.by-class, Bytes.not-both, Computed.everything}
+use Rattle.laws.proofs.Kit.{ℕ, zero, suc, _+_, _-_, _*_, _/_, _%_, _<_, _≤_, _≡_, refl, sym, ap, _∙_, Bool, true, false, cond, not, and-false, false≢true, List, [], _∷_, map, arith, eqb, leb, getD, eqb-true, eqb-false, leb-true, ne-eqb}
+use Rattle.spec.specs.{Alphabet.«з», Alphabet.«н», Alphabet.«р», Alphabet.«с», Tables.among, Letters.small, Elision.elidesT, Elision.elidesD, Elision.elidesAmong}
+use Rattle.message.specs.{Classes.classOf, Classes.classAt, Classes.isConsonantClass, Classes.isSignClass, Classes.tabulate, Classes.classes, Classes.letterAt, Classes.letterBefore, Classes.elidedAt, Classes.silentAt, Steps.isSignKind, Steps.nextKind, Steps.faultIn, Steps.widthIn, Steps.namesIn, Steps.askIn, Steps.stopIn, Steps.packed, Steps.pairs, Steps.kindAt, Steps.widthAt, Steps.nameUnit, Steps.askUnit, Steps.stopUnit}
+use Rattle.message.proofs.{Bytes.below, Bytes.pairs-same, Bytes.by-class, Bytes.not-both, Elided.other-stays, Computed.everything}
 use Rattle.laws.proofs.Classes.{among-none}
 
 -- past the start, the letter before place i is the one at i - 1
@@ -12,14 +12,8 @@ before-at m i h = let e : suc (i - 1) ≡ i = omega arith in ap (letterBefore m)
 
 -- a byte of another class than т and д is not elided
 pub class-spoken : (m : List ℕ) (i : ℕ) → getD m i 0 < 256 → (classOf (getD m i 0) ≡ 8 → ⊥) → elidedAt m i ≡ false
-unfolding elidedAt elidesAmong letterAt
-class-spoken m i h n =
-    by (eqb (small (getD m i 0)) «т») (eqb (small (getD m i 0)) «д») _ _ (by-class (getD m i 0) h .silent ∙ ne-eqb (classOf (getD m i 0)) 8 n)
-  where
-    by : (t d x y : Bool) → (t || d) ≡ false → (t && x || d && y) ≡ false
-    by true d x y e = absurd (false≢true (sym e))
-    by false true x y e = absurd (false≢true (sym e))
-    by false false x y e = refl
+unfolding elidedAt letterAt
+class-spoken m i h n = other-stays _ (small (getD m i 0)) _ _ (by-class (getD m i 0) h .silent ∙ ne-eqb (classOf (getD m i 0)) 8 n)
 
 -- the letters after which т and д are elided
 abbrev beforeSilent : List ℕ
@@ -76,6 +70,8 @@ pub record Entry (k c : ℕ) : Type 0 where
   pub next : nextKind k c < 16
   pub fault : faultIn k c ≡ stopIn k c - 1
   pub plain : stopIn k c ≡ 0 → nextKind k c ≡ c
+  pub consonant : isConsonantClass (nextKind k c) ≡ isConsonantClass c
+  pub sign : isSignKind (nextKind k c) ≡ isSignClass c
 
 -- every entry that is read is so, by one computation each
 pub entry-holds : (k c : ℕ) → k < 16 → c < 13 → Entry k c
@@ -88,6 +84,8 @@ entry-holds k c h l = record {
   next = omega (arith, most nextKind 15 refl);
   fault = pairs-same faultIn (λ x y. stopIn x y - 1) 16 13 k c refl h l;
   plain = λ e. rw e at (pairs-same (λ x y. cond (eqb (stopIn x y) 0) (nextKind x y) y) (λ x y. y) 16 13 k c refl h l);
+  consonant = pairs-same (λ x y. isConsonantClass (nextKind x y)) (λ x y. isConsonantClass y) 16 13 k c refl h l;
+  sign = pairs-same (λ x y. isSignKind (nextKind x y)) (λ x y. isSignClass y) 16 13 k c refl h l;
 }
   where
     most : (f : ℕ → ℕ → ℕ) (n : ℕ) → map (λ x. map (λ y. leb (f x y) n) (below 13)) (below 16) ≡ map (λ x. map (λ y. true) (below 13)) (below 16) → f k c ≤ n

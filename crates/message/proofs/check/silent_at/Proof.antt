@@ -1,19 +1,13 @@
 -- No other byte is elided, and of т and д the test tells.
-use Rattle.laws.proofs.Kit.{ℕ, _<_, _≡_, refl, sym, _∙_, arith, eqb, getD, eqb-false, needs}
-use Rattle.message.specs.Classes.{classOf, isTOrD}
-use Rattle.message.proofs.{Bytes.below-same, Computed.everything, StepTable.class-spoken}
+use Rattle.laws.proofs.Kit.{_<_, sym, _∙_, arith, getD, eqb-false, needs}
+use Rattle.message.proofs.{Bytes.by-class, StepTable.class-spoken}
 use Rattle.message.proofs.check.silent_at.Statement.{statement}
 use Rattle.message.proofs.check.silent_at.Tie as tie
-
--- the bytes of т and д are those of their class
-t-or-d : (b : ℕ) → b < 256 → isTOrD b ≡ eqb (classOf b) 8
-unfolding everything
-t-or-d b h = below-same isTOrD (λ x. eqb (classOf x) 8) 256 b refl h
 
 returns-3 : tie.Need-returns-3
 returns-3 c = let s = c .before .before .before .before in
     let h : getD (s .args .m .now) (s .args .i) 0 < 256 = omega (arith, c .before .before .before .shared-slice-known .given (s .args .i)) in
-    (rw (class-spoken (s .args .m .now) (s .args .i) h (eqb-false _ _ (sym (t-or-d _ h) ∙ sym (c .before .is-t-or-d .ensures) ∙ c .if1 .left))), omega arith)
+    (rw (class-spoken (s .args .m .now) (s .args .i) h (eqb-false _ _ (sym (by-class _ h .tOrD) ∙ sym (c .before .is-t-or-d .ensures) ∙ c .if1 .left))), omega arith)
 
 pub silent-at-spec : {M : Type 1} → statement M
 silent-at-spec =
