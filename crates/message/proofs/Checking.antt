@@ -1,8 +1,8 @@
 -- What the check has seen stays true, over a byte and over any number of bytes that need only be added; at the end it is the answer.
-use Rattle.laws.proofs.Kit.{ℕ, zero, suc, _+_, _-_, _*_, _/_, _%_, _<_, _≤_, _≡_, refl, sym, _∙_, Bool, true, false, cond, _&&_, and-false, and-eq-true-iff, false≢true, List, arith, eqb, leb, length, getD, eqb-true, eqb-false, leb-true, leb-false, ne-eqb}
+use Rattle.laws.proofs.Kit.{ℕ, zero, suc, _+_, _-_, _*_, _/_, _%_, _<_, _≤_, _≡_, refl, sym, _∙_, Bool, true, false, cond, _&&_, and-false, and-eq-true-iff, List, arith, eqb, leb, length, getD, eqb-true, eqb-false, leb-true, leb-false, lt-leb, ne-eqb}
 use Rattle.spec.specs.{Refusals.refusal, Refusals.checkOf, declared.Checked.the-variants.Accepted, declared.Checked.the-variants.Refused}
-use Rattle.message.specs.{Classes.isBreakClass, Classes.isLetterClass, Classes.classAt, Classes.silentAt, Steps.nextKind, Steps.faultIn, Steps.widthIn, Steps.namesIn, Steps.askIn, Steps.stopIn, Steps.tailNames, Steps.packed, Steps.kindAt, Steps.widthAt, Steps.codesTo, Steps.namesTo, Steps.lettersAt, Steps.faultHere, Steps.Sees, Steps.fourAt, Steps.silentFour, Steps.Counted, Steps.finishOf, Steps.nameUnit, Steps.askUnit, Steps.stopUnit, declared.Seen.Seen}
-use Rattle.laws.proofs.Accepted.{countsOf}
+use Rattle.message.specs.{Classes.isBreakClass, Classes.isLetterClass, Classes.classAt, Classes.silentAt, Steps.nextKind, Steps.faultIn, Steps.widthIn, Steps.askIn, Steps.stopIn, Steps.tailNames, Steps.packed, Steps.kindAt, Steps.codesTo, Steps.namesTo, Steps.lettersAt, Steps.faultHere, Steps.Sees, Steps.fourAt, Steps.silentFour, Steps.Counted, Steps.finishOf, Steps.nameUnit, Steps.askUnit, Steps.stopUnit, declared.Seen.Seen}
+use Rattle.laws.proofs.{Accepted.countsOf, Classes.cond-both, Classes.refuted}
 use Rattle.message.proofs.{Steadiness.accepted-steady, StepTable.Entry, StepTable.unpacks, StepTable.silent-asks, Lengths.codes-all, Lengths.names-all, Faults.here-clear, Faults.clear-here, Faults.kind-small, Faults.entry-at, Faults.counts-up, Faults.last-refused, Faults.all-accepted}
 
 -- the end of the walk is the check's answer
@@ -26,12 +26,8 @@ seen-all m s z l w e =
 -- a byte more is one letter more at most
 letters-more : (m : List ℕ) (i : ℕ) → lettersAt m (suc i) ≤ suc (lettersAt m i)
 unfolding lettersAt
-letters-more m i = by (isBreakClass (classAt m i)) (isLetterClass (classAt m i))
-  where
-    by : (s t : Bool) → cond s 0 (cond t (suc (lettersAt m i)) (lettersAt m i)) ≤ suc (lettersAt m i)
-    by true t = omega arith
-    by false true = omega arith
-    by false false = omega arith
+letters-more m i =
+    cond-both (λ n. n ≤ suc (lettersAt m i)) (isBreakClass (classAt m i)) (omega arith) (cond-both (λ n. n ≤ suc (lettersAt m i)) (isLetterClass (classAt m i)) (omega arith) (omega arith))
 
 -- so n bytes have n letters at most
 letters-up : (m : List ℕ) (i n : ℕ) → lettersAt m (n + i) ≤ n + lettersAt m i
@@ -88,10 +84,6 @@ module _ {m : List ℕ} {s : Seen} (w : Sees m s) (h : s .at < length m) where
   pub entry-here : Entry (s .kind) (classAt m (s .at))
   entry-here = rw (w .kind) (entry-at m (w .bytes) (s .at))
 
-  -- what it adds, with what it loses, is what its entry has
-  adds : widthAt m (s .at) (kindAt m (s .at)) + silentAt m (s .at) + nameUnit * namesIn (kindAt m (s .at)) (classAt m (s .at)) ≡ packed (s .kind) (classAt m (s .at)) % askUnit
-  adds = rw (w .kind) (omega (arith, silent-asks m (s .at) (w .bytes) .1, unpacks _ _ (entry-at m (w .bytes) (s .at)) .counts))
-
   -- it is passed where it has no fault
   pub sees-more : (sum : ℕ) → faultHere m (s .at) ≡ 0 → sum + silentAt m (s .at) ≡ s .sum + packed (s .kind) (classAt m (s .at)) % askUnit
       → Sees m (record { at = suc (s .at); kind = nextKind (s .kind) (classAt m (s .at)); from = s .from; limit = s .limit; sum = sum })
@@ -101,7 +93,7 @@ module _ {m : List ℕ} {s : Seen} (w : Sees m s) (h : s .at < length m) where
     within = h;
     clear = λ j b. by j (eqb j (s .at)) refl b;
     kind = rw (w .kind);
-    sum = omega (arith, e, adds, w .sum);
+    sum = omega (arith, rw (w .kind) at e, silent-asks m (s .at) (w .bytes) .1, unpacks _ _ (entry-at m (w .bytes) (s .at)) .counts, w .sum);
     from = omega (arith, w .from);
     limit = w .limit;
   }
@@ -109,12 +101,6 @@ module _ {m : List ℕ} {s : Seen} (w : Sees m s) (h : s .at < length m) where
       by : (j : ℕ) (t : Bool) → eqb j (s .at) ≡ t → j < suc (s .at) → faultHere m j ≡ 0
       by j true d b = rw (eqb-true j (s .at) d) f
       by j false d b = w .clear j (omega (arith, eqb-false j (s .at) d))
-
-  -- a byte before the limit has no fault but its entry's
-  clear-below : s .at < s .limit → faultIn (s .kind) (classAt m (s .at)) ≡ 0 → faultHere m (s .at) ≡ 0
-  clear-below l f =
-      let z : eqb (lettersAt m (s .at)) 64 ≡ false = ne-eqb (lettersAt m (s .at)) 64 (λ e. omega (arith, below-limit m s w l, e)) in
-      clear-here m (s .at) (rw (w .kind) at f) (rw (z, and-false (isLetterClass (classAt m (s .at)))))
 
   -- a second stop is the byte's fault
   pub stop-here : 2 * stopUnit ≤ packed (s .kind) (classAt m (s .at)) → let n = packed (s .kind) (classAt m (s .at)) / stopUnit - 1 in (faultHere m (s .at) ≡ n) × (n ≡ 0 → ⊥)
@@ -138,12 +124,9 @@ module _ {m : List ℕ} {s : Seen} (w : Sees m s) (h : s .at < length m) where
 
   -- any other byte is none
   pub clear-other : packed (s .kind) (classAt m (s .at)) < 2 * stopUnit → (isLetterClass (classAt m (s .at)) && leb (s .limit) (s .at)) ≡ false → faultHere m (s .at) ≡ 0
-  clear-other l e = clear-here m (s .at) (first-here l) (by (isLetterClass (classAt m (s .at))) (leb (s .limit) (s .at)) refl e)
-    where
-      by : (t u : Bool) → leb (s .limit) (s .at) ≡ u → (t && u) ≡ false → (t && eqb (lettersAt m (s .at)) 64) ≡ false
-      by true true d z = absurd (false≢true (sym z))
-      by true false d z = ne-eqb (lettersAt m (s .at)) 64 (λ e. omega (arith, below-limit m s w (omega (arith, leb-false (s .limit) (s .at) d)), e))
-      by false u d z = refl
+  clear-other l e = clear-here m (s .at) (first-here l) (refuted _ (λ q.
+      let a = and-eq-true-iff (isLetterClass (classAt m (s .at))) (eqb (lettersAt m (s .at)) 64) .0 q in
+      omega (arith, eqb-true (lettersAt m (s .at)) 64 (a .1), below-limit m s w (omega (arith, leb-false (s .limit) (s .at) (rw (a .0) at e))))))
 
   -- where it is enough to add, its class is the next kind
   pub sees-plain : (sum : ℕ) → s .at < s .limit → packed (s .kind) (classAt m (s .at)) < stopUnit
@@ -151,7 +134,7 @@ module _ {m : List ℕ} {s : Seen} (w : Sees m s) (h : s .at < length m) where
       → Sees m (record { at = suc (s .at); kind = classAt m (s .at); from = s .from; limit = s .limit; sum = sum })
   sees-plain sum l p e =
       let n : stopIn (s .kind) (classAt m (s .at)) ≡ 0 = omega (arith, unpacks _ _ entry-here .stop) in
-      rw (entry-here .plain n) at (sees-more sum (clear-below l (omega (arith, n, entry-here .fault))) e)
+      rw (entry-here .plain n) at (sees-more sum (clear-other (omega arith) (rw (lt-leb (s .limit) (s .at) l, and-false (isLetterClass (classAt m (s .at)))))) e)
 
   -- What the entry has: as many codes as the byte loses, no ask where it loses none, and not much.
   pub record Gives : Type 0 where
@@ -198,27 +181,18 @@ adds-up m zero l s w h u p = record {
   small = omega arith;
   seen = λ sum e. let z : s .at + 0 ≡ s .at = omega arith in let d : sum ≡ s .sum = omega (arith, e) in rw (z, d) w;
 }
-adds-up m (suc n) l s w h u p = by (adds-up m n (omega arith) next seen (omega (arith, h)) (omega (arith, u)) (omega (arith, p)))
-  where
-    g : Gives w (omega (arith, h))
-    g = gives w (omega (arith, h))
-
-    next : Seen
-    next = record { at = suc (s .at); kind = classAt m (s .at); from = s .from; limit = s .limit; sum = s .sum + packed (s .kind) (classAt m (s .at)) % askUnit - silentAt m (s .at) }
-
-    seen : Sees m next
-    seen = sees-plain w (omega (arith, h)) _ (omega (arith, u)) (omega (arith, p)) (omega (arith, g .enough))
-
-    by : Adds m next n (sums m (next .kind) (next .at) n) (losses m (next .at) n) (kindPast m (next .kind) (next .at) n)
-        → Adds m s (suc n) (sums m (s .kind) (s .at) (suc n)) (losses m (s .at) (suc n)) (kindPast m (s .kind) (s .at) (suc n))
-    by r =
-        let a : (packed (s .kind) (classAt m (s .at)) + sums m (classAt m (s .at)) (suc (s .at)) n) % askUnit ≡ packed (s .kind) (classAt m (s .at)) % askUnit + sums m (classAt m (s .at)) (suc (s .at)) n % askUnit = omega (arith, g .small, r .small, l) in
-        record {
-          enough = omega (arith, a, g .enough, r .enough);
-          plain = λ q. omega (arith, g .plain (omega (arith, q)), r .plain (omega (arith, q)));
-          small = omega (arith, a, g .small, r .small);
-          seen = λ sum e. let z : s .at + suc n ≡ suc (s .at) + n = omega arith in rw z (r .seen sum (omega (arith, a, e, g .enough)));
-        }
+adds-up m (suc n) l s w h u p =
+    let e = packed (s .kind) (classAt m (s .at)) in
+    let g = gives w (omega (arith, h)) in
+    let next : Seen = record { at = suc (s .at); kind = classAt m (s .at); from = s .from; limit = s .limit; sum = s .sum + e % askUnit - silentAt m (s .at) } in
+    let r = adds-up m n (omega arith) next (sees-plain w (omega (arith, h)) _ (omega (arith, u)) (omega (arith, p)) (omega (arith, g .enough))) (omega (arith, h)) (omega (arith, u)) (omega (arith, p)) in
+    let a : (e + sums m (classAt m (s .at)) (suc (s .at)) n) % askUnit ≡ e % askUnit + sums m (classAt m (s .at)) (suc (s .at)) n % askUnit = omega (arith, g .small, r .small, l) in
+    record {
+      enough = omega (arith, a, g .enough, r .enough);
+      plain = λ q. omega (arith, g .plain (omega (arith, q)), r .plain (omega (arith, q)));
+      small = omega (arith, a, g .small, r .small);
+      seen = λ sum e. let z : s .at + suc n ≡ suc (s .at) + n = omega arith in rw z (r .seen sum (omega (arith, a, e, g .enough)));
+    }
 
 -- four of them as the code has them
 fours : (m : List ℕ) (k i : ℕ) → (fourAt m i k ≡ sums m k i 4) × (silentFour m i ≡ losses m i 4) × (classAt m (i + 3) ≡ kindPast m k i 4)

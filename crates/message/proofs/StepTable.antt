@@ -1,7 +1,7 @@
 -- The check's tables by their rules: each entry is what specs/Steps.antt says, by one computation over all of them.
 use Rattle.laws.proofs.Kit.{ℕ, zero, suc, _+_, _-_, _*_, _/_, _%_, _<_, _≤_, _≡_, refl, sym, ap, _∙_, Bool, true, false, cond, not, and-false, false≢true, List, [], _∷_, map, arith, eqb, leb, getD, eqb-true, eqb-false, leb-true, ne-eqb}
 use Rattle.spec.specs.{Alphabet.«з», Alphabet.«н», Alphabet.«р», Alphabet.«с», Tables.among, Letters.small, Elision.elidesT, Elision.elidesD, Elision.elidesAmong}
-use Rattle.message.specs.{Classes.classOf, Classes.classAt, Classes.isConsonantClass, Classes.isSignClass, Classes.tabulate, Classes.classes, Classes.letterAt, Classes.letterBefore, Classes.elidedAt, Classes.silentAt, Steps.isSignKind, Steps.nextKind, Steps.faultIn, Steps.widthIn, Steps.namesIn, Steps.askIn, Steps.stopIn, Steps.packed, Steps.pairs, Steps.kindAt, Steps.widthAt, Steps.nameUnit, Steps.askUnit, Steps.stopUnit}
+use Rattle.message.specs.{Classes.classOf, Classes.classAt, Classes.isBreakClass, Classes.isConsonantClass, Classes.isSignClass, Classes.tabulate, Classes.classes, Classes.letterAt, Classes.letterBefore, Classes.elidedAt, Classes.silentAt, Steps.isSignKind, Steps.nextKind, Steps.faultIn, Steps.widthIn, Steps.namesIn, Steps.askIn, Steps.stopIn, Steps.packed, Steps.pairs, Steps.kindAt, Steps.widthAt, Steps.nameUnit, Steps.askUnit, Steps.stopUnit}
 use Rattle.message.proofs.{Bytes.below, Bytes.pairs-same, Bytes.by-class, Bytes.not-both, Elided.other-stays, Computed.everything}
 use Rattle.laws.proofs.Classes.{among-none}
 
@@ -70,6 +70,7 @@ pub record Entry (k c : ℕ) : Type 0 where
   pub next : nextKind k c < 16
   pub fault : faultIn k c ≡ stopIn k c - 1
   pub plain : stopIn k c ≡ 0 → nextKind k c ≡ c
+  pub break : isBreakClass (nextKind k c) ≡ isBreakClass c
   pub consonant : isConsonantClass (nextKind k c) ≡ isConsonantClass c
   pub sign : isSignKind (nextKind k c) ≡ isSignClass c
 
@@ -84,6 +85,7 @@ entry-holds k c h l = record {
   next = omega (arith, most nextKind 15 refl);
   fault = pairs-same faultIn (λ x y. stopIn x y - 1) 16 13 k c refl h l;
   plain = λ e. rw e at (pairs-same (λ x y. cond (eqb (stopIn x y) 0) (nextKind x y) y) (λ x y. y) 16 13 k c refl h l);
+  break = pairs-same (λ x y. isBreakClass (nextKind x y)) (λ x y. isBreakClass y) 16 13 k c refl h l;
   consonant = pairs-same (λ x y. isConsonantClass (nextKind x y)) (λ x y. isConsonantClass y) 16 13 k c refl h l;
   sign = pairs-same (λ x y. isSignKind (nextKind x y)) (λ x y. isSignClass y) 16 13 k c refl h l;
 }
