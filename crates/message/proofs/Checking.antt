@@ -151,61 +151,45 @@ module _ {m : List ℕ} {s : Seen} (w : Sees m s) (h : s .at < length m) where
       let c : silentAt m (s .at) ≤ widthIn (s .kind) (classAt m (s .at)) = rw (w .kind) (omega (arith, a .1)) in
       record { enough = omega (arith, c, u .counts); plain = λ q. omega (arith, b, u .ask q); small = omega (arith, u .counts, entry-here .width, entry-here .names) }
 
--- n bytes from place i on, the first after kind k: the sum of their entries, the codes they lose, the kind after them
-unfoldable sums : List ℕ → ℕ → ℕ → ℕ → ℕ
-sums m k i zero = 0
-sums m k i (suc n) = packed k (classAt m i) + sums m (classAt m i) (suc i) n
-
-unfoldable losses : List ℕ → ℕ → ℕ → ℕ
-losses m i zero = 0
-losses m i (suc n) = silentAt m i + losses m (suc i) n
-
-unfoldable kindPast : List ℕ → ℕ → ℕ → ℕ → ℕ
-kindPast m k i zero = k
-kindPast m k i (suc n) = kindPast m (classAt m i) (suc i) n
-
--- They need only be added: x is the sum of their entries, and has the codes that they lose.
+-- The next n bytes need only be added: x is the sum of their entries, and has the codes that they lose; k is the kind after them.
 pub record Adds (m : List ℕ) (s : Seen) (n x lost k : ℕ) : Type 0 where
   pub enough : lost ≤ x % askUnit
   pub plain : x < askUnit → lost ≡ 0
   pub small : x % askUnit ≤ (nameUnit + 2) * n
   pub seen : (sum : ℕ) → sum + lost ≡ s .sum + x % askUnit → Sees m (record { at = s .at + n; kind = k; from = s .from; limit = s .limit; sum = sum })
 
--- one after the other
-adds-up : (m : List ℕ) (n : ℕ) → n ≤ 7 → (s : Seen) → Sees m s → s .at + n ≤ length m → s .at + n ≤ s .limit → sums m (s .kind) (s .at) n < stopUnit
-    → Adds m s n (sums m (s .kind) (s .at) n) (losses m (s .at) n) (kindPast m (s .kind) (s .at) n)
-unfolding sums losses kindPast
-adds-up m zero l s w h u p = record {
+-- none do
+adds-none : {m : List ℕ} {s : Seen} → Sees m s → Adds m s 0 0 0 (s .kind)
+adds-none {m} {s} w = record {
   enough = omega arith;
   plain = λ q. refl;
   small = omega arith;
   seen = λ sum e. let z : s .at + 0 ≡ s .at = omega arith in let d : sum ≡ s .sum = omega (arith, e) in rw (z, d) w;
 }
-adds-up m (suc n) l s w h u p =
-    let e = packed (s .kind) (classAt m (s .at)) in
-    let g = gives w (omega (arith, h)) in
-    let next : Seen = record { at = suc (s .at); kind = classAt m (s .at); from = s .from; limit = s .limit; sum = s .sum + e % askUnit - silentAt m (s .at) } in
-    let r = adds-up m n (omega arith) next (sees-plain w (omega (arith, h)) _ (omega (arith, u)) (omega (arith, p)) (omega (arith, g .enough))) (omega (arith, h)) (omega (arith, u)) (omega (arith, p)) in
-    let a : (e + sums m (classAt m (s .at)) (suc (s .at)) n) % askUnit ≡ e % askUnit + sums m (classAt m (s .at)) (suc (s .at)) n % askUnit = omega (arith, g .small, r .small, l) in
+
+-- and one more, without a stop
+adds-more : {m : List ℕ} {s : Seen} {n x lost k : ℕ} → Adds m s n x lost k → n ≤ 6 → s .at + n < length m → s .at + n < s .limit → packed k (classAt m (s .at + n)) < stopUnit
+    → Adds m s (suc n) (x + packed k (classAt m (s .at + n))) (lost + silentAt m (s .at + n)) (classAt m (s .at + n))
+adds-more {m} {s} {n} {x} {lost} {k} r l h u p =
+    let e = packed k (classAt m (s .at + n)) in
+    let w = r .seen (s .sum + x % askUnit - lost) (omega (arith, r .enough)) in
+    let g = gives w h in
+    let a : (x + e) % askUnit ≡ x % askUnit + e % askUnit = omega (arith, g .small, r .small, l) in
     record {
       enough = omega (arith, a, g .enough, r .enough);
       plain = λ q. omega (arith, g .plain (omega (arith, q)), r .plain (omega (arith, q)));
       small = omega (arith, a, g .small, r .small);
-      seen = λ sum e. let z : s .at + suc n ≡ suc (s .at) + n = omega arith in rw z (r .seen sum (omega (arith, a, e, g .enough)));
+      seen = λ sum q. let z : s .at + suc n ≡ suc (s .at + n) = omega arith in rw z (sees-plain w h sum u p (omega (arith, a, q, r .enough)));
     }
-
--- four of them as the code has them
-fours : (m : List ℕ) (k i : ℕ) → (fourAt m i k ≡ sums m k i 4) × (silentFour m i ≡ losses m i 4) × (classAt m (i + 3) ≡ kindPast m k i 4)
-unfolding sums losses kindPast
-fours m k i =
-    let a : i + 1 ≡ suc i = omega arith in
-    let b : i + 2 ≡ suc (suc i) = omega arith in
-    let c : i + 3 ≡ suc (suc (suc i)) = omega arith in
-    rw (a, b, c) (omega arith, omega arith, refl)
 
 -- four need only be added where their sum has no stop
 pub sees-four : (m : List ℕ) (s : Seen) → Sees m s → s .at + 4 ≤ length m → s .at + 4 ≤ s .limit → fourAt m (s .at) (s .kind) < stopUnit
     → Adds m s 4 (fourAt m (s .at) (s .kind)) (silentFour m (s .at)) (classAt m (s .at + 3))
 sees-four m s w h l p =
-    let f = fours m (s .kind) (s .at) in
-    rw (f .0, f .1, f .2) (adds-up m 4 (omega arith) s w h l (rw (f .0) at p))
+    let z : s .at + 0 ≡ s .at = omega arith in
+    let x : 0 + packed (s .kind) (classAt m (s .at)) ≡ packed (s .kind) (classAt m (s .at)) = omega arith in
+    let y : 0 + silentAt m (s .at) ≡ silentAt m (s .at) = omega arith in
+    let one = rw (z, x, y) at (adds-more (adds-none w) (omega arith) (omega (arith, h)) (omega (arith, l)) (rw z (omega (arith, p)))) in
+    let two = adds-more one (omega arith) (omega (arith, h)) (omega (arith, l)) (omega (arith, p)) in
+    let three = adds-more two (omega arith) (omega (arith, h)) (omega (arith, l)) (omega (arith, p)) in
+    adds-more three (omega arith) (omega (arith, h)) (omega (arith, l)) (omega (arith, p))
