@@ -52,15 +52,6 @@ class-read t b e h =
     let z : 0 + b ≡ b = omega arith in
     rw (e, tabulate-at classOf 0 256 b h, z)
 
--- the table of pairs has a row of 16 classes for each kind
-pub pairs-read : (t : List ℕ) (k c : ℕ) → t ≡ pairs → k < 16 → c < 16 → getD t (16 * k + c) 0 ≡ packed k c
-unfolding pairs
-pairs-read t k c e h l =
-    let f : ℕ → ℕ = λ j. packed (j / 16) (j % 16) in
-    let q : (0 + (16 * k + c)) / 16 ≡ k = omega arith in
-    let r : (0 + (16 * k + c)) % 16 ≡ c = omega arith in
-    rw (e, tabulate-at f 0 256 (16 * k + c) (omega arith), q, r)
-
 -- How large the parts of an entry are. A stop is 1 and the fault, and where there is none the class is the next kind.
 pub record Entry (k c : ℕ) : Type 0 where
   pub width : widthIn k c ≤ 2
@@ -109,6 +100,15 @@ unpacks k c e = record {
   stop = omega (arith, e .width, e .names, e .ask);
   small = omega (arith, e .width, e .names, e .ask, e .stop);
 }
+
+-- the table of pairs has a row of 16 classes for each kind, and its entries are small
+pub pairs-read : (t : List ℕ) (k c : ℕ) → t ≡ pairs → k < 16 → c < 13 → (16 * k + c < 256) × (getD t (16 * k + c) 0 ≡ packed k c) × (packed k c < 32 * stopUnit)
+unfolding pairs
+pairs-read t k c e h l =
+    let f : ℕ → ℕ = λ j. packed (j / 16) (j % 16) in
+    let q : (0 + (16 * k + c)) / 16 ≡ k = omega arith in
+    let r : (0 + (16 * k + c)) % 16 ≡ c = omega arith in
+    (omega arith, rw (e, tabulate-at f 0 256 (16 * k + c) (omega arith), q, r), unpacks k c (entry-holds k c h l) .small)
 
 -- Only a letter that may be elided is, and it makes one code: so a byte asks where it loses a code, and the codes it makes and the one it loses are those of its class.
 pub silent-asks : (m : List ℕ) (i : ℕ) → ((j : ℕ) → getD m j 0 < 256)
