@@ -6,8 +6,8 @@ use Rattle.laws.proofs.{Accepted.countsOf, Classes.cond-both, Classes.refuted}
 use Rattle.message.proofs.{Steadiness.accepted-steady, StepTable.Entry, StepTable.unpacks, StepTable.silent-asks, Lengths.codes-all, Lengths.names-all, Faults.here-clear, Faults.clear-here, Faults.kind-small, Faults.entry-at, Faults.counts-up, Faults.last-refused, Faults.all-accepted}
 
 -- the end of the walk is the check's answer
-pub seen-all : (m : List ℕ) (s : Seen) → 0 < length m → length m ≤ 4096 → Sees m s → s .at ≡ length m → finishOf (length m) s ≡ checkOf m
-seen-all m s z l w e =
+pub seen-all : (m : List ℕ) (s : Seen) → 0 < length m → Sees m s → s .at ≡ length m → finishOf (length m) s ≡ checkOf m
+seen-all m s z w e =
     let n = length m in
     let up = counts-up m (w .bytes) n in
     let sum : s .sum ≡ codesTo m n + nameUnit * namesTo m n = rw e at (w .sum) in
@@ -17,9 +17,9 @@ seen-all m s z l w e =
   where
     by : (t : Bool) → isBreakClass (kindAt m (length m)) ≡ t
         → cond t (Refused (refusal 4 (length m - 1))) (Accepted (record { codes = codesTo m (length m); names = namesTo m (length m) + tailNames (kindAt m (length m)) })) ≡ checkOf m
-    by true d = sym (last-refused m (w .bytes) (length m - 1) (omega (arith, z)) l (rw e at (w .clear)) d)
+    by true d = sym (last-refused m (w .bytes) (length m - 1) (omega (arith, z)) (w .short) (rw e at (w .clear)) d)
     by false d =
-        let q = all-accepted m (w .bytes) (length m - 1) (omega (arith, z)) l (rw e at (w .clear)) d in
+        let q = all-accepted m (w .bytes) (length m - 1) (omega (arith, z)) (w .short) (rw e at (w .clear)) d in
         let y = accepted-steady m (countsOf m) q (w .bytes) in
         sym (q ∙ rw (codes-all m y, names-all m y))
 
@@ -51,9 +51,9 @@ letters-most m (suc i) c = by (isBreakClass (classAt m i)) (isLetterClass (class
     by false false e h = h
 
 -- at the start nothing is seen
-pub sees-none : (m : List ℕ) → ((j : ℕ) → getD m j 0 < 256) → Sees m (record { at = 0; kind = 2; from = 0; limit = 64; sum = 0 })
+pub sees-none : (m : List ℕ) → ((j : ℕ) → getD m j 0 < 256) → length m ≤ 4096 → Sees m (record { at = 0; kind = 2; from = 0; limit = 64; sum = 0 })
 unfolding kindAt codesTo namesTo lettersAt
-sees-none m bytes = record { bytes = bytes; within = omega arith; clear = λ j h. absurd (omega arith); kind = refl; sum = refl; from = omega arith; limit = refl }
+sees-none m bytes short = record { bytes = bytes; short = short; within = omega arith; clear = λ j h. absurd (omega arith); kind = refl; sum = refl; from = omega arith; limit = refl }
 
 -- a kind has its row in the table, and a sum is small
 pub sees-small : {m : List ℕ} {s : Seen} → Sees m s → (s .kind < 16) × (s .sum ≤ (nameUnit + 2) * s .at)
@@ -73,7 +73,7 @@ pub sees-counted : (m : List ℕ) (s : Seen) (n : ℕ) → Sees m s → n ≡ le
 sees-counted m s n w e =
     let h = letters-most m (s .at) (w .clear) in
     record {
-      sees = record { bytes = w .bytes; within = w .within; clear = w .clear; kind = w .kind; sum = w .sum; from = omega arith; limit = omega (arith, e, h) };
+      sees = record { bytes = w .bytes; short = w .short; within = w .within; clear = w .clear; kind = w .kind; sum = w .sum; from = omega arith; limit = omega (arith, e, h) };
       place = refl;
       full = λ l. omega (arith, l, e, h);
     }
@@ -90,6 +90,7 @@ module _ {m : List ℕ} {s : Seen} (w : Sees m s) (h : s .at < length m) where
   unfolding kindAt codesTo namesTo
   sees-more sum f e = record {
     bytes = w .bytes;
+    short = w .short;
     within = h;
     clear = λ j b. by j (eqb j (s .at)) refl b;
     kind = rw (w .kind);
