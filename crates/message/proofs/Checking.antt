@@ -1,8 +1,8 @@
 -- What the check has seen stays true, over a byte and over any number of bytes that need only be added; at the end it is the answer.
-use Rattle.laws.proofs.Kit.{ℕ, zero, suc, _+_, _-_, _*_, _/_, _%_, _<_, _≤_, _≡_, refl, sym, _∙_, Bool, true, false, cond, _&&_, and-false, and-eq-true-iff, List, arith, eqb, leb, length, getD, eqb-true, eqb-false, leb-true, leb-false, lt-leb, ne-eqb}
+use Rattle.laws.proofs.Kit.{ℕ, zero, suc, _+_, _-_, _*_, _/_, _%_, _<_, _≤_, _≡_, refl, sym, _∙_, ⊎-elim, Bool, true, false, cond, _&&_, and-false, and-eq-true-iff, List, arith, eqb, leb, length, getD, eqb-true, eqb-false, leb-true, leb-false, le-leb, lt-leb, eq-eqb, ne-eqb}
 use Rattle.spec.specs.{Refusals.refusal, Refusals.checkOf, declared.Checked.the-variants.Accepted, declared.Checked.the-variants.Refused}
 use Rattle.message.specs.{Classes.isBreakClass, Classes.isLetterClass, Classes.classAt, Classes.silentAt, Steps.nextKind, Steps.faultIn, Steps.widthIn, Steps.askIn, Steps.stopIn, Steps.tailNames, Steps.packed, Steps.kindAt, Steps.codesTo, Steps.namesTo, Steps.lettersAt, Steps.faultHere, Steps.Sees, Steps.fourAt, Steps.silentFour, Steps.Counted, Steps.finishOf, Steps.nameUnit, Steps.askUnit, Steps.stopUnit, declared.Seen.Seen}
-use Rattle.laws.proofs.{Accepted.countsOf, Classes.cond-both, Classes.refuted}
+use Rattle.laws.proofs.{Accepted.countsOf, Classes.cond-both, Classes.below-or}
 use Rattle.message.proofs.{Steadiness.accepted-steady, StepTable.Entry, StepTable.unpacks, StepTable.silent-asks, Lengths.codes-all, Lengths.names-all, Faults.here-clear, Faults.clear-here, Faults.kind-small, Faults.entry-at, Faults.counts-up, Faults.last-refused, Faults.all-accepted}
 
 -- the end of the walk is the check's answer
@@ -78,79 +78,66 @@ sees-counted m s n w e =
       full = λ l. omega (arith, l, e, h);
     }
 
--- The check sees all up to a byte.
-module _ {m : List ℕ} {s : Seen} (w : Sees m s) (h : s .at < length m) where
-  -- its entry
-  pub entry-here : Entry (s .kind) (classAt m (s .at))
+-- The check sees all up to a byte; c is its class, and x its entry.
+module _ {m : List ℕ} {s : Seen} {c x : ℕ} (w : Sees m s) (h : s .at < length m) (f : c ≡ classAt m (s .at)) (e : x ≡ packed (s .kind) (classAt m (s .at))) where
+  -- the entry is one of the table
+  entry-here : Entry (s .kind) (classAt m (s .at))
   entry-here = rw (w .kind) (entry-at m (w .bytes) (s .at))
 
-  -- it is passed where it has no fault
-  pub sees-more : (sum : ℕ) → faultHere m (s .at) ≡ 0 → sum + silentAt m (s .at) ≡ s .sum + packed (s .kind) (classAt m (s .at)) % askUnit
-      → Sees m (record { at = suc (s .at); kind = nextKind (s .kind) (classAt m (s .at)); from = s .from; limit = s .limit; sum = sum })
+  -- the byte is passed where it has no fault
+  pub sees-more : (sum : ℕ) → faultHere m (s .at) ≡ 0 → sum + silentAt m (s .at) ≡ s .sum + x % askUnit
+      → Sees m (record { at = suc (s .at); kind = nextKind (s .kind) c; from = s .from; limit = s .limit; sum = sum })
   unfolding kindAt codesTo namesTo
-  sees-more sum f e = record {
+  sees-more sum z q = record {
     bytes = w .bytes;
     short = w .short;
     within = h;
-    clear = λ j b. by j (eqb j (s .at)) refl b;
-    kind = rw (w .kind);
-    sum = omega (arith, rw (w .kind) at e, silent-asks m (s .at) (w .bytes) .1, unpacks _ _ (entry-at m (w .bytes) (s .at)) .counts, w .sum);
+    clear = λ j b. ⊎-elim (w .clear j) (λ l. let d : j ≡ s .at = omega arith in rw d z) (below-or j (s .at));
+    kind = rw (f, w .kind);
+    sum = omega (arith, q, rw (w .kind) at e, silent-asks m (s .at) (w .bytes) .1, unpacks _ _ (entry-at m (w .bytes) (s .at)) .counts, w .sum);
     from = omega (arith, w .from);
     limit = w .limit;
   }
-    where
-      by : (j : ℕ) (t : Bool) → eqb j (s .at) ≡ t → j < suc (s .at) → faultHere m j ≡ 0
-      by j true d b = rw (eqb-true j (s .at) d) f
-      by j false d b = w .clear j (omega (arith, eqb-false j (s .at) d))
 
   -- a second stop is the byte's fault
-  pub stop-here : 2 * stopUnit ≤ packed (s .kind) (classAt m (s .at)) → let n = packed (s .kind) (classAt m (s .at)) / stopUnit - 1 in (faultHere m (s .at) ≡ n) × (n ≡ 0 → ⊥)
+  pub stop-here : 2 * stopUnit ≤ x → (faultHere m (s .at) ≡ x / stopUnit - 1) × (x / stopUnit - 1 ≡ 0 → ⊥)
   unfolding faultHere
   stop-here l =
-      let f : packed (s .kind) (classAt m (s .at)) / stopUnit ≡ suc (faultIn (s .kind) (classAt m (s .at))) = omega (arith, unpacks _ _ entry-here .stop, entry-here .fault) in
-      let z : faultIn (s .kind) (classAt m (s .at)) ≡ 0 → ⊥ = λ e. omega (arith, f, e) in
-      (rw (← w .kind, ne-eqb (faultIn (s .kind) (classAt m (s .at))) 0 z) (omega (arith, f)), λ e. omega (arith, f, z, e))
+      let n = faultIn (s .kind) (classAt m (s .at)) in
+      let y : x / stopUnit ≡ suc n = omega (arith, e, unpacks _ _ entry-here .stop, entry-here .fault) in
+      let z : n ≡ 0 → ⊥ = λ q. omega (arith, y, q) in
+      (rw (← w .kind, ne-eqb n 0 z) (omega (arith, y)), λ q. omega (arith, y, z, q))
 
-  -- before it the byte has no fault but as a 65th letter
-  first-here : packed (s .kind) (classAt m (s .at)) < 2 * stopUnit → faultIn (kindAt m (s .at)) (classAt m (s .at)) ≡ 0
-  first-here l = rw (← w .kind) (omega (arith, unpacks _ _ entry-here .stop, entry-here .fault))
-
-  -- a letter at the limit, where that is counted, is one
-  pub full-here : packed (s .kind) (classAt m (s .at)) < 2 * stopUnit → (s .limit ≤ s .at → lettersAt m (s .at) ≡ 64) → (isLetterClass (classAt m (s .at)) && leb (s .limit) (s .at)) ≡ true
-      → faultHere m (s .at) ≡ 10
+  -- before it the byte has no fault but as a letter at the limit, where that is counted
+  pub full-here : x < 2 * stopUnit → (s .limit ≤ s .at → lettersAt m (s .at) ≡ 64) → faultHere m (s .at) ≡ cond (isLetterClass c && leb (s .limit) (s .at)) 10 0
   unfolding faultHere
-  full-here l q e =
-      let b = and-eq-true-iff (isLetterClass (classAt m (s .at))) (leb (s .limit) (s .at)) .0 e in
-      rw (first-here l, b .0, q (leb-true _ _ (b .1)))
-
-  -- any other byte is none
-  pub clear-other : packed (s .kind) (classAt m (s .at)) < 2 * stopUnit → (isLetterClass (classAt m (s .at)) && leb (s .limit) (s .at)) ≡ false → faultHere m (s .at) ≡ 0
-  clear-other l e = clear-here m (s .at) (first-here l) (refuted _ (λ q.
-      let a = and-eq-true-iff (isLetterClass (classAt m (s .at))) (eqb (lettersAt m (s .at)) 64) .0 q in
-      omega (arith, eqb-true (lettersAt m (s .at)) 64 (a .1), below-limit m s w (omega (arith, leb-false (s .limit) (s .at) (rw (a .0) at e))))))
+  full-here l q =
+      let z : faultIn (s .kind) (classAt m (s .at)) ≡ 0 = omega (arith, e, unpacks _ _ entry-here .stop, entry-here .fault) in
+      let y : eqb (lettersAt m (s .at)) 64 ≡ leb (s .limit) (s .at) = ⊎-elim
+      (λ b. ne-eqb (lettersAt m (s .at)) 64 (λ t. omega (arith, below-limit m s w b, t)) ∙ sym (lt-leb (s .limit) (s .at) b))
+      (λ b. eq-eqb (lettersAt m (s .at)) 64 (q b) ∙ sym (le-leb (s .limit) (s .at) b)) (below-or (s .at) (s .limit)) in
+      rw (f, ← w .kind, z, y)
 
   -- where it is enough to add, its class is the next kind
-  pub sees-plain : (sum : ℕ) → s .at < s .limit → packed (s .kind) (classAt m (s .at)) < stopUnit
-      → sum + silentAt m (s .at) ≡ s .sum + packed (s .kind) (classAt m (s .at)) % askUnit
-      → Sees m (record { at = suc (s .at); kind = classAt m (s .at); from = s .from; limit = s .limit; sum = sum })
-  sees-plain sum l p e =
-      let n : stopIn (s .kind) (classAt m (s .at)) ≡ 0 = omega (arith, unpacks _ _ entry-here .stop) in
-      rw (entry-here .plain n) at (sees-more sum (clear-other (omega arith) (rw (lt-leb (s .limit) (s .at) l, and-false (isLetterClass (classAt m (s .at)))))) e)
+  pub sees-plain : (sum : ℕ) → s .at < s .limit → x < stopUnit → sum + silentAt m (s .at) ≡ s .sum + x % askUnit
+      → Sees m (record { at = suc (s .at); kind = c; from = s .from; limit = s .limit; sum = sum })
+  sees-plain sum l p q =
+      let n : stopIn (s .kind) (classAt m (s .at)) ≡ 0 = omega (arith, e, unpacks _ _ entry-here .stop) in
+      let z = rw (lt-leb (s .limit) (s .at) l, and-false (isLetterClass c)) at (full-here (omega arith) (λ b. absurd (omega (arith, l, b)))) in
+      rw f (rw (f, entry-here .plain n) at (sees-more sum z q))
 
   -- What the entry has: as many codes as the byte loses, no ask where it loses none, and not much.
   pub record Gives : Type 0 where
-    pub enough : silentAt m (s .at) ≤ packed (s .kind) (classAt m (s .at)) % askUnit
-    pub plain : packed (s .kind) (classAt m (s .at)) < askUnit → silentAt m (s .at) ≡ 0
-    pub small : packed (s .kind) (classAt m (s .at)) % askUnit ≤ nameUnit + 2
+    pub enough : silentAt m (s .at) ≤ x % askUnit
+    pub plain : x < askUnit → silentAt m (s .at) ≡ 0
+    pub small : x % askUnit ≤ nameUnit + 2
 
   -- it has
   pub gives : Gives
   gives =
       let u = unpacks _ _ entry-here in
-      let a = silent-asks m (s .at) (w .bytes) in
-      let b : silentAt m (s .at) ≤ askIn (s .kind) (classAt m (s .at)) = rw (w .kind) (a .0) in
-      let c : silentAt m (s .at) ≤ widthIn (s .kind) (classAt m (s .at)) = rw (w .kind) (omega (arith, a .1)) in
-      record { enough = omega (arith, c, u .counts); plain = λ q. omega (arith, b, u .ask q); small = omega (arith, u .counts, entry-here .width, entry-here .names) }
+      let a = rw (← w .kind) at (silent-asks m (s .at) (w .bytes)) in
+      record { enough = omega (arith, e, a .1, u .counts); plain = λ q. omega (arith, a .0, u .ask (omega (arith, e, q))); small = omega (arith, e, u .counts, entry-here .width, entry-here .names) }
 
 -- The next n bytes need only be added: x is the sum of their entries, and has the codes that they lose; k is the kind after them.
 pub record Adds (m : List ℕ) (s : Seen) (n x lost k : ℕ) : Type 0 where
@@ -174,13 +161,13 @@ adds-more : {m : List ℕ} {s : Seen} {n x lost k : ℕ} → Adds m s n x lost k
 adds-more {m} {s} {n} {x} {lost} {k} r l h u p =
     let e = packed k (classAt m (s .at + n)) in
     let w = r .seen (s .sum + x % askUnit - lost) (omega (arith, r .enough)) in
-    let g = gives w h in
+    let g = gives w h refl refl in
     let a : (x + e) % askUnit ≡ x % askUnit + e % askUnit = omega (arith, g .small, r .small, l) in
     record {
       enough = omega (arith, a, g .enough, r .enough);
       plain = λ q. omega (arith, g .plain (omega (arith, q)), r .plain (omega (arith, q)));
       small = omega (arith, a, g .small, r .small);
-      seen = λ sum q. let z : s .at + suc n ≡ suc (s .at + n) = omega arith in rw z (sees-plain w h sum u p (omega (arith, a, q, r .enough)));
+      seen = λ sum q. let z : s .at + suc n ≡ suc (s .at + n) = omega arith in rw z (sees-plain w h refl refl sum u p (omega (arith, a, q, r .enough)));
     }
 
 -- four need only be added where their sum has no stop

@@ -166,7 +166,7 @@ pub record Goes (m t s : List ℕ) (seen : Seen) (to : ℕ) : Type 0 where
 pub record Counted (m : List ℕ) (i : ℕ) (s : Seen) : Type 0 where
   pub sees : Sees m s
   pub place : s .at ≡ i
-  pub full : s .limit ≤ i → lettersAt m i ≡ 64
+  pub full : s .limit ≤ s .at → lettersAt m (s .at) ≡ 64
 
 -- The check begins: there is a byte, and not too many.
 pub record Begins (m t s : List ℕ) : Type 0 where
