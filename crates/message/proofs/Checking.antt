@@ -1,9 +1,9 @@
 -- What the check has seen stays true, over a byte and over any number of bytes that need only be added; at the end it is the answer.
-use Rattle.laws.proofs.Kit.{ℕ, zero, suc, _+_, _-_, _*_, _/_, _%_, _<_, _≤_, _≡_, refl, sym, _∙_, ⊎-elim, Bool, true, false, cond, _&&_, and-false, and-eq-true-iff, List, arith, eqb, leb, length, getD, eqb-true, eqb-false, leb-true, leb-false, le-leb, lt-leb, eq-eqb, ne-eqb}
+use Rattle.laws.proofs.Kit.{ℕ, zero, suc, _+_, _-_, _*_, _/_, _%_, _<_, _≤_, _≡_, refl, sym, _∙_, ⊎-elim, Bool, true, false, cond, _&&_, and-false, List, arith, eqb, leb, length, getD, eqb-false, le-leb, lt-leb, eq-eqb, ne-eqb}
 use Rattle.spec.specs.{Refusals.refusal, Refusals.checkOf, declared.Checked.the-variants.Accepted, declared.Checked.the-variants.Refused}
-use Rattle.message.specs.{Classes.isBreakClass, Classes.isLetterClass, Classes.classAt, Classes.silentAt, Steps.nextKind, Steps.faultIn, Steps.widthIn, Steps.askIn, Steps.stopIn, Steps.tailNames, Steps.packed, Steps.kindAt, Steps.codesTo, Steps.namesTo, Steps.lettersAt, Steps.faultHere, Steps.Sees, Steps.fourAt, Steps.silentFour, Steps.Counted, Steps.finishOf, Steps.nameUnit, Steps.askUnit, Steps.stopUnit, declared.Seen.Seen}
+use Rattle.message.specs.{Classes.isBreakClass, Classes.isLetterClass, Classes.classAt, Classes.silentAt, Steps.nextKind, Steps.faultIn, Steps.stopIn, Steps.tailNames, Steps.packed, Steps.kindAt, Steps.codesTo, Steps.namesTo, Steps.lettersAt, Steps.faultHere, Steps.Sees, Steps.fourAt, Steps.silentFour, Steps.Counted, Steps.finishOf, Steps.nameUnit, Steps.askUnit, Steps.stopUnit, declared.Seen.Seen}
 use Rattle.laws.proofs.{Accepted.countsOf, Classes.cond-both, Classes.below-or}
-use Rattle.message.proofs.{Steadiness.accepted-steady, StepTable.Entry, StepTable.unpacks, StepTable.silent-asks, Lengths.codes-all, Lengths.names-all, Faults.here-clear, Faults.clear-here, Faults.kind-small, Faults.entry-at, Faults.counts-up, Faults.last-refused, Faults.all-accepted}
+use Rattle.message.proofs.{Steadiness.accepted-steady, StepTable.Entry, StepTable.unpacks, StepTable.silent-asks, Lengths.codes-all, Lengths.names-all, Faults.here-clear, Faults.kind-small, Faults.entry-at, Faults.counts-up, Faults.last-refused, Faults.all-accepted}
 
 -- the end of the walk is the check's answer
 pub seen-all : (m : List ℕ) (s : Seen) → 0 < length m → Sees m s → s .at ≡ length m → finishOf (length m) s ≡ checkOf m

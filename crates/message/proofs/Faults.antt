@@ -86,11 +86,6 @@ here-clear m i e = by (faultIn (kindAt m i) (classOf (getD m i 0))) (isLetterCla
     by zero false z = (refl, refl)
     by (suc f) u z = absurd (omega (arith, rw (ne-eqb (suc f) 0 (λ q. omega arith)) at z))
 
--- and the other way round
-pub clear-here : (m : List ℕ) (i : ℕ) → faultIn (kindAt m i) (classOf (getD m i 0)) ≡ 0 → (isLetterClass (classOf (getD m i 0)) && eqb (lettersAt m i) 64) ≡ false → faultHere m i ≡ 0
-unfolding faultHere
-clear-here m i f l = rw (f, l)
-
 module _ (m : List ℕ) (bytes : (j : ℕ) → getD m j 0 < 256) where
   -- every kind has its row in the table
   pub kind-small : (i : ℕ) → kindAt m i < 16

@@ -1,5 +1,5 @@
 -- An accepted message is steady: each of its bytes has a class, and a mark stands right after a vowel.
-use Rattle.laws.proofs.Kit.{ℕ, suc, _<_, _≡_, refl, sym, _∙_, ⊎-elim, true, false, true≢false, false≢true, List, [], getD, drop}
+use Rattle.laws.proofs.Kit.{ℕ, suc, _<_, _≡_, sym, _∙_, ⊎-elim, true, false, true≢false, false≢true, List, [], getD, drop}
 use Rattle.spec.specs.{Letters.isMark, Refusals.vowelByte, Refusals.first, Refusals.row3, Refusals.row5, Refusals.rows, Refusals.fitsIn, Refusals.beforeAt, Refusals.checkOf, declared.Counts.Counts, declared.Checked.the-variants.Accepted}
 use Rattle.laws.proofs.{Accepted.Clear, Accepted.accepted-passes, Classes.yes-or, Classes.refuted}
 use Rattle.message.specs.{Classes.classOf, Places.Steady}
