@@ -13,7 +13,7 @@ pub silent-at-spec : {M : Type 1} → statement M
 silent-at-spec =
     tie.close
     (tie.spec
-    (λ c. search needs) (λ c κs. search needs) (λ c κs. search needs)
+    (search needs) (search needs) (search needs)
     (λ c. (rw (← c .before .is-elided .ensures, c .if2 .taken), omega arith))
     (λ c. (rw (← c .before .is-elided .ensures, c .if2 .left), omega arith))
     returns-3)

@@ -40,15 +40,12 @@ pub step-spec : {M : Type 1} → statement M
 step-spec =
     tie.close
     (tie.spec
-    (λ c κs. search needs) (λ c. search needs) (λ c κs. search needs)
+    (λ c κs. search needs) (search needs) (λ c κs. search needs)
     (λ c κs. let b = sees-small (c .before .before .count-on .ensures .sees) in let h = byte c in search needs)
-    (λ c. search needs) (λ c. search needs) (λ c. search needs)
-    returns
-    (λ c κs. search needs)
+    (search needs) (search needs) (search needs) returns (search needs)
     (λ c. (rw (← c .before .before .before .before .before .before .count-on .ensures .place, fault (c .before), c .if2 .taken), search needs))
     (λ c κs. let r = c .before .before .before .before .before .before .count-on in let b = by-class _ (r .ensures .sees .bytes (r .result .at)) in search needs)
     (λ c. let k = c .before .before .before .before .before .before in let b = sees-small (k .before .before .count-on .ensures .sees) in let h = byte k in search needs)
-    (λ c κs. search needs)
+    (search needs)
     (λ c. let g = here (c .before .before .before .before .before .before) in search needs)
-    (λ c. search needs)
-    returns-3)
+    (search needs) returns-3)

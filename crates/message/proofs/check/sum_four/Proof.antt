@@ -13,12 +13,11 @@ pub sum-four-spec : {M : Type 1} → statement M
 sum-four-spec =
     tie.close
     (tie.spec
-    (search needs) (λ c κs. search needs) (search needs) (search needs) (λ c κs. search needs) (search needs) (search needs)
-    (λ c κs. search needs) (λ c κs. search needs) (search needs)
+    (search needs) (λ c κs. search needs) (search needs) (search needs) (λ c κs. search needs) (search needs) (search needs) (λ c κs. search needs)
+    (λ c κs. search needs) (search needs)
     (λ c κs. let a = c .before .before .before .before .before in let k = small a (a .before .before .before .args .i) in search needs)
     (search needs) (search needs)
     (λ c κs. let a = c .before .before .before .before .before .before in let k = small a (a .before .before .before .args .i + 1) in search needs)
     (search needs) (search needs)
     (λ c κs. let a = c .before .before .before .before .before .before .before in let k = small a (a .before .before .before .args .i + 2) in search needs)
-    (search needs)
-    (λ c. cc))
+    (search needs) (λ c. cc))

@@ -27,5 +27,5 @@ walk-spec =
     (search needs) (search needs) (λ c κs. search needs) (λ c κs. search needs) (search needs) returns (search needs)
     (λ c. let q = rw (c .before .next .given .1) at (c .before .before .before .step .ensures) in search needs)
     (λ c. let q = rw (c .before .next .given .1) at (c .before .before .before .step .ensures) in search needs)
-    (λ c. search needs) (λ c. search needs) (λ c κs. search needs)
+    (search needs) (λ c. search needs) (search needs)
     (λ c. let l = c .before .before .before in c .finish .ensures ∙ seen-all _ (l .loop .seen) (l .before .before .pre .some) (l .loop .inv) (omega (arith, l .loop .inv .within, c .before .if1 .left))))

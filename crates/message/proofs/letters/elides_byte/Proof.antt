@@ -10,6 +10,5 @@ unfolding among
 elides-byte-spec =
     tie.close
     (tie.spec
-    (λ c κs. search needs) (λ c κs. search needs) (λ c κs. search needs) (λ c κs. search needs) (λ c κs. search needs)
-    (λ c κs. search needs) (λ c. cc)
+    (search needs) (search needs) (search needs) (search needs) (search needs) (search needs) (λ c. cc)
     (λ c. sym (before-other _ _ _ _ (simp or-false (rw (c .before .before .small-letter .ensures) at (sym (c .before .follows-elided .ensures) ∙ c .if1 .left))))))
