@@ -1,7 +1,7 @@
 -- What stands before a place is told in three ways: by the last letter of the word, by the byte before, and by the kind. They agree in all that elision and the syllables ask: which consonant it is, if any, and
 -- whether it is a sign. Only a break and a mark are no letters, and a mark stands right after a vowel.
 use Rattle.laws.proofs.Kit.{ℕ, zero, suc, _<_, _≤_, _≡_, refl, sym, _∙_, ⊎-elim, true, false, false≢true, List, [], _∷_, _++_, eqb, length, getD, eqb-true, arith}
-use Rattle.spec.specs.{Alphabet.mark, Letters.small, Letters.hardOnly, Letters.paired, Letters.softOnly, Letters.plainVowels, Letters.softeningVowels, Letters.isMark, Letters.isBreak, Letters.isVowel, Letters.isSign, Letters.isConsonant, Refusals.vowelByte, Refusals.signByte, Refusals.consonantByte}
+use Rattle.spec.specs.{Alphabet.mark, Letters.small, Letters.hardOnly, Letters.paired, Letters.softOnly, Letters.plainVowels, Letters.softeningVowels, Letters.isMark, Letters.isBreak, Letters.isVowel, Letters.isSign, Letters.isConsonant, Refusals.vowelByte}
 use Rattle.message.specs.{Classes.isConsonantClass, Steps.isSignKind, Steps.kindAt, Places.leftAt, Places.letterOf, Places.Steady}
 use Rattle.message.proofs.{Bytes.by-class, Bytes.vowel-break, Bytes.vowel-mark, Faults.entry-at, Left.left-letter, Left.left-mark, Left.left-break, Computed.everything}
 use Rattle.laws.proofs.Classes.{yes-or, among-same, among-none, break-sign, break-consonant}
@@ -27,15 +27,10 @@ alike-other p q n o =
     let l = hardOnly ++ paired ++ softOnly in
     record { each = λ x c. among-none l p x (cc) c ∙ sym (among-none l q x (cc) c); consonant = cc; sign = cc }
 
--- 0, for no letter, is one
-pub none-other : Other 0
+-- so are no letter and the byte of a break
+pub alike-break : (b : ℕ) → isBreak b ≡ true → Alike 0 (small b)
 unfolding everything
-none-other = refl
-
--- so is the byte of a break
-pub break-other : (b : ℕ) → isBreak b ≡ true → Other (small b)
-unfolding consonantByte signByte
-break-other b s = let n = break-consonant b s in let o = break-sign b s in rw (n, o)
+alike-break b s = let n = break-consonant b s in let o = break-sign b s in alike-other 0 (small b) refl (rw (n, o))
 
 module _ (m : List ℕ) (steady : Steady m) where
   -- the letter before a mark is a vowel
@@ -51,7 +46,7 @@ module _ (m : List ℕ) (steady : Steady m) where
   pub alike-before : (i : ℕ) → i < length m → Alike (leftAt m (suc i) .p) (small (getD m i 0))
   unfolding everything letterOf
   alike-before i h = ⊎-elim
-      (λ s. rw (left-break m i h s) (alike-other 0 (small (getD m i 0)) none-other (break-other (getD m i 0) s)))
+      (λ s. rw (left-break m i h s) (alike-break (getD m i 0) s))
       (λ s. ⊎-elim
       (λ k. rw (left-mark m i h k, eqb-true (getD m i 0) mark k)
       (alike-other (leftAt m i .p) mark (among-same (λ x. isConsonant x ∷ isSign x ∷ []) (λ _. false ∷ false ∷ []) (plainVowels ++ softeningVowels) (leftAt m i .p) refl (vowel-before i h k)) refl))

@@ -23,18 +23,17 @@ seen-all m s z w e =
         let y = accepted-steady m (countsOf m) q (w .bytes) in
         sym (q ∙ rw (codes-all m y, names-all m y))
 
--- a byte more is one letter more at most
-letters-more : (m : List ℕ) (i : ℕ) → lettersAt m (suc i) ≤ suc (lettersAt m i)
-unfolding lettersAt
-letters-more m i =
-    cond-both (λ n. n ≤ suc (lettersAt m i)) (isBreakClass (classAt m i)) (omega arith) (cond-both (λ n. n ≤ suc (lettersAt m i)) (isLetterClass (classAt m i)) (omega arith) (omega arith))
-
--- so n bytes have n letters at most
+-- n bytes have n letters at most
 letters-up : (m : List ℕ) (i n : ℕ) → lettersAt m (n + i) ≤ n + lettersAt m i
+unfolding lettersAt
 letters-up m i zero = let e : 0 + i ≡ i = omega arith in rw e (omega arith)
-letters-up m i (suc n) = let e : suc n + i ≡ suc (n + i) = omega arith in rw e (omega (arith, letters-more m (n + i), letters-up m i n))
+letters-up m i (suc n) =
+    let e : suc n + i ≡ suc (n + i) = omega arith in
+    let most : ℕ → Type 0 = λ k. k ≤ suc n + lettersAt m i in
+    let r = letters-up m i n in
+    rw e (cond-both most (isBreakClass (classAt m (n + i))) (omega arith) (cond-both most (isLetterClass (classAt m (n + i))) (omega arith) (omega arith)))
 
--- and no place has more letters before it than bytes
+-- so no place has more letters before it than bytes
 pub letters-all : (m : List ℕ) (i : ℕ) → lettersAt m i ≤ i
 unfolding lettersAt
 letters-all m i = let e : i + 0 ≡ i = omega arith in omega (arith, rw e at (letters-up m 0 i))

@@ -48,7 +48,7 @@ unfolding everything
 next-plain b h = record { vowel = among-same isVowel (λ _. false) afterSilent b refl h; sign = among-same isSign (λ _. false) afterSilent b refl h; soft = among-same softens (λ _. false) afterSilent b refl h }
 
 -- what fails where a test fails holds only where the test holds
-only-where : (t x : Bool) → (t ≡ false → x ≡ false) → x ≡ true → t ≡ true
+pub only-where : (t x : Bool) → (t ≡ false → x ≡ false) → x ≡ true → t ≡ true
 only-where true x f e = refl
 only-where false x f e = sym (f refl) ∙ e
 

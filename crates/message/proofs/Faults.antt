@@ -1,8 +1,8 @@
 -- The walk of the message check finds the paper's faults: a kind tells all that the rows ask of the bytes before, so a fault goes by kind and class.
-use Rattle.laws.proofs.Kit.{ℕ, zero, suc, _*_, _<_, _≤_, _≡_, refl, sym, _∙_, Bool, true, false, cond, _&&_, _||_, not, and-false, or-assoc, or-comm, false≢true, List, [], _∷_, arith, eqb, length, getD, drop, drop-cons, drop-length, eqb-true, eqb-false, ne-eqb}
+use Rattle.laws.proofs.Kit.{ℕ, zero, suc, _*_, _<_, _≤_, _≡_, refl, sym, _∙_, ⊎-elim, Bool, true, false, cond, _&&_, _||_, not, and-false, or-assoc, or-comm, false≢true, List, [], _∷_, arith, eqb, length, getD, drop, drop-cons, drop-length, eqb-true, ne-eqb}
 use Rattle.spec.specs.{Letters.isMark, Letters.isBreak, Refusals.vowelByte, Refusals.signByte, Refusals.hardSignByte, Refusals.first, Refusals.none, Refusals.adjacent, Refusals.vowelSign, Refusals.lettersBefore, Refusals.row3, Refusals.row4, Refusals.row5, Refusals.row6, Refusals.row7, Refusals.row8, Refusals.row9, Refusals.row10, Refusals.rows, Refusals.firstFit, Refusals.faultAt, Refusals.beforeAt, Refusals.refusal, Refusals.checkOf, declared.Checked.the-variants.Accepted, declared.Checked.the-variants.Refused}
 use Rattle.message.specs.{Classes.classOf, Classes.isBreakClass, Classes.isSignClass, Classes.isConsonantClass, Classes.isVowelClass, Classes.isLetterClass, Classes.classAt, Steps.isVowelKind, Steps.isHardSignKind, Steps.isVowelSignKind, Steps.isSignKind, Steps.nextKind, Steps.faultIn, Steps.kindAt, Steps.codesTo, Steps.namesTo, Steps.lettersAt, Steps.faultHere}
-use Rattle.laws.proofs.Accepted.{countsOf, ClearAt, fault-clear, first-refused, passes-accepted}
+use Rattle.laws.proofs.{Accepted.countsOf, Accepted.ClearAt, Accepted.fault-clear, Accepted.first-refused, Accepted.passes-accepted, Classes.refuted, Classes.below-or}
 use Rattle.message.proofs.{Bytes.pairs-same, Bytes.ByClass, Bytes.by-class, StepTable.Entry, StepTable.entry-holds, StepTable.silent-asks, Computed.everything}
 
 -- what the rows ask of the bytes before
@@ -31,11 +31,7 @@ next-answers k c h l e =
 vowel-adjacent : (before : List ℕ) → first vowelByte before ≡ true → adjacent before ≡ before
 unfolding everything
 vowel-adjacent [] e = refl
-vowel-adjacent (b ∷ before) e = by (isMark b) refl
-  where
-    by : (t : Bool) → isMark b ≡ t → cond t before (b ∷ before) ≡ b ∷ before
-    by true d = absurd (false≢true (rw (eqb-true b 42 d) at e))
-    by false d = refl
+vowel-adjacent (b ∷ before) e = rw (refuted (isMark b) (λ d. false≢true (rw (eqb-true b 42 d) at e)))
 
 -- the kind goes on telling what the rows ask, over a byte without a fault
 told-more : (before : List ℕ) (k b : ℕ) → k < 16 → ByClass b → asked before ≡ answers k → faultIn k (classOf b) ≡ 0 → asked (b ∷ before) ≡ answers (nextKind k (classOf b))
@@ -158,8 +154,10 @@ module _ (m : List ℕ) (bytes : (j : ℕ) → getD m j 0 < 256) where
     -- any other message is accepted
     pub all-accepted : isBreakClass (kindAt m (length m)) ≡ false → checkOf m ≡ Accepted (countsOf m)
     unfolding kindAt
-    all-accepted b = passes-accepted m (record { some = omega arith; short = short; rows = λ j h. by j h (eqb j i) refl })
-      where
-        by : (j : ℕ) → j < length m → (t : Bool) → eqb j i ≡ t → ClearAt m j
-        by j h true d = rw (eqb-true j i d) (passed i (λ k r. clear k (omega arith)) (rw (sym (entry-at i .break) ∙ rw size at b)))
-        by j h false d = passed-over j (omega (arith, eqb-false j i d)) (λ k r. clear k (omega arith))
+    all-accepted b = passes-accepted m (record {
+      some = omega arith;
+      short = short;
+      rows = λ j h. ⊎-elim
+          (λ (l : j < i). passed-over j (omega arith) (λ k r. clear k (omega arith)))
+          (λ (l : i ≤ j). let d : j ≡ i = omega arith in rw d (passed i (λ k r. clear k (omega arith)) (rw (sym (entry-at i .break) ∙ rw size at b)))) (below-or j i);
+    })

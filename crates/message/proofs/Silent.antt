@@ -2,7 +2,7 @@
 use Rattle.laws.proofs.Kit.{ℕ, zero, suc, _+_, _<_, _≤_, _≡_, refl, sym, ap, _∙_, ⊎-elim, Bool, true, false, _&&_, false≢true, List, [], _++_, eqb, length, getD, drop-of-length-le, List·getD-eq-default, eqb-true, arith, add-one}
 use Rattle.spec.specs.{Alphabet.«д», Alphabet.«з», Alphabet.«к», Alphabet.«н», Alphabet.«р», Alphabet.«с», Alphabet.«т», Alphabet.«ц», Alphabet.«ч», Alphabet.«ш», Tables.among, Letters.read, Letters.firstWord, Letters.firstByte, Letters.small, Letters.hardOnly, Letters.paired, Letters.softOnly, Letters.isMark, Letters.isBreak, Letters.isConsonant, Elision.secondByte, Elision.elides, Elision.elidesT, Elision.elidesD, Elision.elidesAmong}
 use Rattle.message.specs.{Classes.letterAt, Classes.letterBefore, Classes.elidedAt, Places.leftAt, Places.wordAt, Places.letterOf, Places.Steady}
-use Rattle.message.proofs.{Bytes.consonant-vowel, Left.unmarked-after, Tail.word-letter, Tail.word-break, Before.Alike, Before.alike-same, Before.alike-other, Before.none-other, Before.break-other, Before.alike-before, Computed.everything}
+use Rattle.message.proofs.{Bytes.consonant-vowel, Left.unmarked-after, Tail.word-letter, Tail.word-break, Before.Alike, Before.alike-same, Before.alike-break, Before.alike-before, Computed.everything}
 use Rattle.laws.proofs.Classes.{yes-or, below-or, among-none}
 
 -- a letter that is no consonant is never silent
@@ -43,7 +43,7 @@ module _ (m : List ℕ) (steady : Steady m) where
   alike-at : (j : ℕ) → isMark (getD m j 0) ≡ false → Alike (firstByte (wordAt m j)) (letterAt m j)
   unfolding firstByte letterAt letterOf
   alike-at j k = ⊎-elim
-      (λ h. ⊎-elim (λ s. rw (word-break m steady j h s) (alike-other 0 _ none-other (break-other (getD m j 0) s))) (λ s. rw (word-letter m steady j h s k) (alike-same (small (getD m j 0)))) (yes-or (isBreak (getD m j 0))))
+      (λ h. ⊎-elim (λ s. rw (word-break m steady j h s) (alike-break (getD m j 0) s)) (λ s. rw (word-letter m steady j h s k) (alike-same (small (getD m j 0)))) (yes-or (isBreak (getD m j 0))))
       (λ o. rw (past j o .0, past j o .1) (alike-same 0)) (below-or j (length m))
 
   -- the second letter from a place on, and the byte after it, where the first is a consonant
