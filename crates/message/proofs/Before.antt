@@ -6,9 +6,13 @@ use Rattle.message.specs.{Classes.isConsonantClass, Steps.isSignKind, St
 use Rattle.message.proofs.{Bytes.by-class, Bytes.vowel-break, Bytes.vowel-mark, Faults.entry-at, Left.left-letter, Left.left-mark, Left.left-break, Computed.everything}
 use Rattle.laws.proofs.Classes.{yes-or, among-same, among-none, break-sign, break-consonant}
 
--- two letters, 0 for none, are alike
+-- no test of consonants tells two letters apart, 0 for none
+abbrev pub Same : ℕ → ℕ → Type 0
+Same p q = (x : ℕ) → isConsonant x ≡ true → eqb p x ≡ eqb q x
+
+-- two letters are alike
 pub record Alike (p q : ℕ) : Type 0 where
-  pub each : (x : ℕ) → isConsonant x ≡ true → eqb p x ≡ eqb q x
+  pub each : Same p q
   pub consonant : isConsonant p ≡ isConsonant q
   pub sign : isSign p ≡ isSign q
 

@@ -2,7 +2,7 @@
 use Rattle.laws.proofs.Kit.{ℕ, zero, suc, _+_, _<_, _≤_, _≡_, refl, sym, ap, _∙_, ⊎-elim, Bool, true, false, _&&_, false≢true, List, [], _++_, eqb, length, getD, drop-of-length-le, List·getD-eq-default, eqb-true, arith, add-one}
 use Rattle.spec.specs.{Alphabet.«д», Alphabet.«з», Alphabet.«к», Alphabet.«н», Alphabet.«р», Alphabet.«с», Alphabet.«т», Alphabet.«ц», Alphabet.«ч», Alphabet.«ш», Tables.among, Letters.read, Letters.firstWord, Letters.firstByte, Letters.small, Letters.hardOnly, Letters.paired, Letters.softOnly, Letters.isMark, Letters.isBreak, Letters.isConsonant, Elision.secondByte, Elision.elides, Elision.elidesT, Elision.elidesD, Elision.elidesAmong}
 use Rattle.message.specs.{Classes.letterAt, Classes.letterBefore, Classes.elidedAt, Places.leftAt, Places.wordAt, Places.letterOf, Places.Steady}
-use Rattle.message.proofs.{Bytes.consonant-vowel, Left.unmarked-after, Tail.word-letter, Tail.word-break, Before.Alike, Before.alike-same, Before.alike-break, Before.alike-before, Computed.everything}
+use Rattle.message.proofs.{Bytes.consonant-vowel, Left.unmarked-after, Tail.word-letter, Tail.word-break, Before.Same, Before.Alike, Before.alike-same, Before.alike-break, Before.alike-before, Computed.everything}
 use Rattle.laws.proofs.Classes.{yes-or, below-or, among-none}
 
 -- a letter that is no consonant is never silent
@@ -11,17 +11,17 @@ unfolding elidesAmong isConsonant among
 plain-stays p b c d n = let l = hardOnly ++ paired ++ softOnly in rw (among-none l b «т» n refl, among-none l b «д» n refl)
 
 -- a letter is as silent beside alike bytes; the second after it counts only where a consonant stands between
-alike-elides : (p q b c c′ d d′ : ℕ) → Alike p q → Alike c c′ → (isConsonant c ≡ true → Alike d d′) → elidesAmong p b c d ≡ elidesAmong q b c′ d′
+pub alike-elides : (p q b c c′ d d′ : ℕ) → Same p q → Same c c′ → (isConsonant c ≡ true → Same d d′) → elidesAmong p b c d ≡ elidesAmong q b c′ d′
 unfolding elidesAmong elidesT elidesD everything
 alike-elides p q b c c′ d d′ f g h =
-    rw (two «с» «к» refl refl, two «ш» «т» refl refl, f .each «с» refl, f .each «н» refl, f .each «р» refl, f .each «з» refl, g .each «с» refl, g .each «н» refl, g .each «ч» refl, g .each «ц» refl)
+    rw (two «с» «к» refl refl, two «ш» «т» refl refl, f «с» refl, f «н» refl, f «р» refl, f «з» refl, g «с» refl, g «н» refl, g «ч» refl, g «ц» refl)
   where
     two : (x y : ℕ) → isConsonant x ≡ true → isConsonant y ≡ true → (eqb c x && eqb d y) ≡ (eqb c′ x && eqb d′ y)
     two x y i j = by (eqb c x) refl
       where
         by : (t : Bool) → eqb c x ≡ t → (t && eqb d y) ≡ (eqb c′ x && eqb d′ y)
-        by true e = rw (← g .each x i, e) (h (ap isConsonant (eqb-true c x e) ∙ i) .each y j)
-        by false e = rw (← g .each x i, e)
+        by true e = rw (← g x i, e) (h (ap isConsonant (eqb-true c x e) ∙ i) y j)
+        by false e = rw (← g x i, e)
 
 module _ (m : List ℕ) (steady : Steady m) where
   -- no mark stands after a consonant
@@ -61,6 +61,6 @@ module _ (m : List ℕ) (steady : Steady m) where
       (λ c.
       let two : i + 2 ≡ suc (suc i) = omega arith in
       let a = alike-left i (omega arith) in
-      rw (add-one i, two) (alike-elides _ _ (small (getD m i 0)) _ _ _ _ a (alike-at (suc i) (unmarked i c)) (alike-second (suc i) (unmarked i c))))
+      rw (add-one i, two) (alike-elides _ _ (small (getD m i 0)) _ _ _ _ (a .each) (alike-at (suc i) (unmarked i c) .each) (λ q. alike-second (suc i) (unmarked i c) q .each)))
       (λ c. plain-stays (leftAt m i .p) (small (getD m i 0)) _ _ c ∙ sym (plain-stays (letterBefore m i) (small (getD m i 0)) (letterAt m (i + 1)) (letterAt m (i + 2)) c))
       (yes-or (isConsonant (small (getD m i 0))))

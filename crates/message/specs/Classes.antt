@@ -1,6 +1,6 @@
 -- The class of each byte, by which the code judges it, and the letters beside a place. These are not the paper's words: `proofs/` shows that they agree with them.
 -- Assumes nothing: these are definitions.
-use Prim.Native.Nat.{ℕ, zero, suc, _+_}
+use Prim.Native.Nat.{ℕ, zero, suc, _+_, _%_}
 use mathlib.Core.Bool.{Bool, cond, _||_}
 use mathlib.Core.List.{List, [], _∷_}
 use lib.Dec.{eqb, leb}
@@ -74,6 +74,10 @@ followsElided c = eqb c «с» || (eqb c «н» || (eqb c «ч» || (eqb c «ц�
 -- the bytes of т and д
 abbrev pub isTOrD : ℕ → Bool
 isTOrD b = eqb b «т» || (eqb b 0xD2 || (eqb b «д» || eqb b 0xC4))
+
+-- the small letter of a byte among а to я; 0 for any other byte, ё too
+abbrev pub foldOf : ℕ → ℕ
+foldOf b = cond (leb 0xC0 b) (b % 32 + 0xE0) 0
 
 -- how many codes the byte at place i loses by elision
 abbrev pub silentAt : List ℕ → ℕ → ℕ

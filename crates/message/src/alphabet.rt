@@ -104,4 +104,6 @@ pub const FIRST_CAPITAL: u8 = CAPITAL_A;
 
 pub const LAST_CAPITAL: u8 = CAPITAL_YA;
 
+pub const FIRST_SMALL: u8 = A;
+
 pub const CASE_STEP: u8 = 32;

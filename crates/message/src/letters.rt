@@ -4,7 +4,7 @@ ghost use Prim.Native.Nat.{_<_};
 ghost use lib.ListN.{length};
 ghost use Rattle.spec.specs.Letters.{small};
 ghost use Rattle.spec.specs.Elision.{elidesAmong};
-ghost use Rattle.message.specs.Classes.{letterAt, elidedAt, followsElided, isTOrD};
+ghost use Rattle.message.specs.Classes.{letterAt, elidedAt, followsElided, foldOf, isTOrD};
 use crate::alphabet::CAPITAL_DE;
 use crate::alphabet::CAPITAL_IO;
 use crate::alphabet::CAPITAL_TE;
@@ -15,6 +15,7 @@ use crate::alphabet::EN;
 use crate::alphabet::ER;
 use crate::alphabet::ES;
 use crate::alphabet::FIRST_CAPITAL;
+use crate::alphabet::FIRST_SMALL;
 use crate::alphabet::IO;
 use crate::alphabet::KA;
 use crate::alphabet::LAST_CAPITAL;
@@ -45,12 +46,14 @@ pub fn letter_at(m: &[u8], i: usize) -> u8
 fn elides(p: u8, b: u8, c: u8, d: u8) -> bool
     ensures { λ r. ⌜ r ≡ elidesAmong p b c d ⌝ }
 {
-    (b == TE)
-        & ((p == ES) & ((c == ES) & (d == KA) | (c == EN)) | (p == EN) & ((c == ES) & (d == KA)))
-        | (b == DE)
-            & ((p == ER) & ((c == CHE) | (c == TSE))
-                | ((p == ZE) & ((c == EN) | (c == TSE))
-                    | (p == EN) & ((c == TSE) | ((c == ES) | (c == SHA) & (d == TE)))))
+    if b == TE {
+        return (p == ES) & ((c == ES) & (d == KA) | (c == EN))
+            | (p == EN) & ((c == ES) & (d == KA));
+    }
+    (b == DE)
+        & ((p == ER) & ((c == CHE) | (c == TSE))
+            | ((p == ZE) & ((c == EN) | (c == TSE))
+                | (p == EN) & ((c == TSE) | ((c == ES) | (c == SHA) & (d == TE)))))
 }
 
 // May a silent letter stand before this one? Before most it may not, and then nothing else is asked.
@@ -60,13 +63,23 @@ fn follows_elided(c: u8) -> bool
     (c == ES) | ((c == EN) | ((c == CHE) | ((c == TSE) | (c == SHA))))
 }
 
+// The letter of a byte as the rules of silent letters need it: what is no letter from а to я, small or capital, is 0.
+fn fold_case(b: u8) -> u8
+    ensures { λ r. ⌜ r ≡ foldOf b ⌝ }
+{
+    if b < FIRST_CAPITAL {
+        return 0;
+    }
+    b % CASE_STEP + FIRST_SMALL
+}
+
 // Is the letter of byte b silent between these bytes, small letters or capitals, 0 for none? The letter after it is asked for first.
 fn elides_byte(p: u8, b: u8, c: u8, d: u8) -> bool
     ensures { λ r. ⌜ r ≡ elidesAmong (small p) (small b) (small c) (small d) ⌝ }
 {
-    let next = small_letter(c);
+    let next = fold_case(c);
     if follows_elided(next) {
-        return elides(small_letter(p), small_letter(b), next, small_letter(d));
+        return elides(fold_case(p), fold_case(b), next, fold_case(d));
     }
     false
 }

@@ -1,14 +1,33 @@
--- The letter after an elided one is one of five.
-use Rattle.laws.proofs.Kit.{sym, _∙_, or-false, needs}
-use Rattle.spec.specs.Tables.{among}
-use Rattle.message.proofs.Elided.{before-other}
+-- The rules ask of consonants, and a folded letter is one of them just when the small letter is; the letter after an elided one is one of five.
+use Rattle.laws.proofs.Kit.{ℕ, _<_, _≡_, refl, sym, _∙_, or-false, _++_, map, arith, eqb, needs}
+use Rattle.spec.specs.{Alphabet.«д», Alphabet.«т», Tables.among, Letters.small, Letters.hardOnly, Letters.paired, Letters.softOnly, Elision.elidesAmong}
+use Rattle.laws.proofs.Classes.{among-same}
+use Rattle.message.specs.Classes.{foldOf}
+use Rattle.message.proofs.{Bytes.below-same, Before.Same, Elided.before-other, Silent.alike-elides, Computed.everything}
 use Rattle.message.proofs.letters.elides_byte.Statement.{statement}
 use Rattle.message.proofs.letters.elides_byte.Tie as tie
+
+-- each consonant is told alike, by one computation
+same : (b : ℕ) → b < 256 → Same (foldOf b) (small b)
+unfolding everything
+same b h x i =
+    let l = hardOnly ++ paired ++ softOnly in
+    among-same (eqb (foldOf b)) (eqb (small b)) l x (below-same (λ y. map (eqb (foldOf y)) l) (λ y. map (eqb (small y)) l) 256 b refl h) i
+
+-- so the rules say the same
+folds : (c : tie.After-fold-case) → let a = c .before .args in elidesAmong (foldOf (a .p)) (foldOf (a .b)) (foldOf (a .c)) (foldOf (a .d)) ≡ elidesAmong (small (a .p)) (small (a .b)) (small (a .c)) (small (a .d))
+unfolding everything
+folds c =
+    let a = c .before .args in
+    let f = c .before .fits in
+    let b = same (a .b) (omega (arith, f .b)) in
+    alike-elides _ _ (foldOf (a .b)) _ _ _ _ (same (a .p) (omega (arith, f .p))) (same (a .c) (omega (arith, f .c))) (λ _. same (a .d) (omega (arith, f .d))) ∙ rw (b «т» refl, b «д» refl)
 
 pub elides-byte-spec : {M : Type 1} → statement M
 unfolding among
 elides-byte-spec =
     tie.close
     (tie.spec
-    (search needs) (search needs) (search needs) (search needs) (search needs) (search needs) (λ c. cc)
-    (λ c. sym (before-other _ _ _ _ (simp or-false (rw (c .before .before .small-letter .ensures) at (sym (c .before .follows-elided .ensures) ∙ c .if1 .left))))))
+    (search needs) (search needs) (search needs) (search needs) (search needs) (search needs)
+    (λ c. let f = folds (c .before .before .before .before .before .before) in cc)
+    (λ c. let k = c .before .before in sym (before-other _ _ _ _ (simp or-false (rw (k .fold-case .ensures) at (sym (c .before .follows-elided .ensures) ∙ c .if1 .left)))) ∙ folds k))
