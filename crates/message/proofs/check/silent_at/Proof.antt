@@ -4,11 +4,6 @@ use Rattle.message.proofs.{Bytes.by-class, StepTable.class-spoken}
 use Rattle.message.proofs.check.silent_at.Statement.{statement}
 use Rattle.message.proofs.check.silent_at.Tie as tie
 
-returns-3 : tie.Need-returns-3
-returns-3 c = let s = c .before .before .before .before in
-    let h : getD (s .args .m .now) (s .args .i) 0 < 256 = omega (arith, c .before .before .before .shared-slice-known .given (s .args .i)) in
-    (rw (class-spoken (s .args .m .now) (s .args .i) h (eqb-false _ _ (sym (by-class _ h .tOrD) ∙ sym (c .before .is-t-or-d .ensures) ∙ c .if1 .left))), omega arith)
-
 pub silent-at-spec : {M : Type 1} → statement M
 silent-at-spec =
     tie.close
@@ -16,4 +11,5 @@ silent-at-spec =
     (search needs) (search needs) (search needs)
     (λ c. (rw (← c .before .is-elided .ensures, c .if2 .taken), omega arith))
     (λ c. (rw (← c .before .is-elided .ensures, c .if2 .left), omega arith))
-    returns-3)
+    (λ c. let s = c .before .before .before .before in let h : getD (s .args .m .now) (s .args .i) 0 < 256 = omega (arith, c .before .before .before .shared-slice-known .given (s .args .i)) in
+    (rw (class-spoken (s .args .m .now) (s .args .i) h (eqb-false _ _ (sym (by-class _ h .tOrD) ∙ sym (c .before .is-t-or-d .ensures) ∙ c .if1 .left))), search needs)))
