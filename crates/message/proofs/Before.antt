@@ -1,66 +1,40 @@
--- The kind of what stands before a place tells the class of the last letter of the word: a letter's kind is its class, and a mark stands right after a vowel and counts as one.
-use Rattle.laws.proofs.Kit.{ℕ, zero, suc, _+_, _<_, _≤_, _≡_, refl, sym, _∙_, Bool, true, false, cond, _&&_, false≢true, List, [], _∷_, _++_, map, eqb, length, getD, eqb-true, arith}
-use Rattle.spec.specs.{Letters.small, Letters.plainVowels, Letters.softeningVowels, Letters.isMark, Letters.isBreak, Letters.isVowel, Letters.isSign, Letters.isConsonant, Refusals.vowelByte}
-use Rattle.message.specs.{Classes.classOf, Classes.isBreakClass, Classes.isConsonantClass, Classes.isSignClass, Classes.isLetterClass, Steps.isVowelKind, Steps.isSignKind, Steps.nextKind, Steps.kindAt, Places.leftAt, Places.letterOf, Places.Steady}
-use Rattle.message.proofs.{Bytes.below, Bytes.below-same, Bytes.by-class, Bytes.letter-class, Bytes.vowel-break, Bytes.vowel-mark, Left.left-letter, Left.left-mark, Left.left-break, Computed.everything}
-use Rattle.laws.proofs.Classes.{among-same}
+-- What stands before a place is told in three ways: by the last letter of the word, by the byte before, and by the kind. They agree in all that elision and the syllables ask: which consonant it is, if any, and
+-- whether it is a sign. Only a break and a mark are no letters, and a mark stands right after a vowel.
+use Rattle.laws.proofs.Kit.{ℕ, zero, suc, _<_, _≤_, _≡_, refl, sym, _∙_, ⊎-elim, true, false, false≢true, List, [], _∷_, _++_, eqb, length, getD, eqb-true, arith}
+use Rattle.spec.specs.{Alphabet.mark, Letters.small, Letters.hardOnly, Letters.paired, Letters.softOnly, Letters.plainVowels, Letters.softeningVowels, Letters.isMark, Letters.isBreak, Letters.isVowel, Letters.isSign, Letters.isConsonant, Refusals.vowelByte}
+use Rattle.message.specs.{Classes.isConsonantClass, Steps.isSignKind, Steps.kindAt, Places.leftAt, Places.letterOf, Places.Steady}
+use Rattle.message.proofs.{Bytes.by-class, Bytes.vowel-break, Bytes.vowel-mark, Faults.entry-at, Left.left-letter, Left.left-mark, Left.left-break, Computed.everything}
+use Rattle.laws.proofs.Classes.{yes-or, among-same, among-none, break-sign, break-consonant}
 
--- the kind k tells the class of the letter p, 0 for none
-pub record Kind (p k : ℕ) : Type 0 where
-  pub start : eqb p 0 ≡ isBreakClass k
-  pub consonant : isConsonant p ≡ isConsonantClass k
-  pub sign : isSign p ≡ isSignKind k
-  pub vowel : isVowel p ≡ isVowelKind k
+-- no test of consonants tells two letters apart, 0 for none
+abbrev pub Same : ℕ → ℕ → Type 0
+Same p q = (x : ℕ) → isConsonant x ≡ true → eqb p x ≡ eqb q x
 
--- what is asked of a letter
-abbrev told : ℕ → List Bool
-told p = eqb p 0 ∷ isConsonant p ∷ isSign p ∷ isVowel p ∷ []
+-- two letters are alike
+pub record Alike (p q : ℕ) : Type 0 where
+  pub each : Same p q
+  pub consonant : isConsonant p ≡ isConsonant q
+  pub sign : isSign p ≡ isSign q
 
--- what a kind answers
-abbrev tells : ℕ → List Bool
-tells k = isBreakClass k ∷ isConsonantClass k ∷ isSignKind k ∷ isVowelKind k ∷ []
+-- so one is with itself
+pub alike-same : (p : ℕ) → Alike p p
+alike-same p = record { each = λ x c. refl; consonant = refl; sign = refl }
 
--- the kind after a byte, where v says that a vowel stands before it
-abbrev after : Bool → ℕ → ℕ
-after v b = cond (isSignClass (classOf b) && v) (classOf b + 10) (classOf b)
+-- neither a consonant nor a sign
+abbrev pub Other : ℕ → Type 0
+Other p = (isConsonant p ∷ isSign p ∷ []) ≡ (false ∷ false ∷ [])
 
--- the kind after each byte that passes a test is told by one computation
-kind-after : (test : ℕ → Bool) (p : ℕ → ℕ) (v : Bool) (b : ℕ)
-    → map (λ x. cond (test x) (told (p x)) []) (below 256) ≡ map (λ x. cond (test x) (tells (after v x)) []) (below 256)
-    → b < 256 → test b ≡ true → Kind (p b) (after v b)
-kind-after test p v b t h e =
-    let s : told (p b) ≡ tells (after v b) = rw e at (below-same (λ x. cond (test x) (told (p x)) []) (λ x. cond (test x) (tells (after v x)) []) 256 b t h) in
-    record { start = cc; consonant = cc; sign = cc; vowel = cc }
+-- two of these are alike
+pub alike-other : (p q : ℕ) → Other p → Other q → Alike p q
+unfolding isConsonant
+alike-other p q n o =
+    let l = hardOnly ++ paired ++ softOnly in
+    record { each = λ x c. among-none l p x (cc) c ∙ sym (among-none l q x (cc) c); consonant = cc; sign = cc }
 
--- so after a letter
-pub kind-letter : (v : Bool) (b : ℕ) → b < 256 → isLetterClass (classOf b) ≡ true → Kind (small b) (after v b)
+-- so are no letter and the byte of a break
+pub alike-break : (b : ℕ) → isBreak b ≡ true → Alike 0 (small b)
 unfolding everything
-kind-letter true b = kind-after (λ x. isLetterClass (classOf x)) small true b refl
-kind-letter false b = kind-after (λ x. isLetterClass (classOf x)) small false b refl
-
--- after a break
-pub kind-break : (v : Bool) (b : ℕ) → b < 256 → isBreak b ≡ true → Kind 0 (after v b)
-unfolding everything
-kind-break true b = kind-after isBreak (λ _. 0) true b refl
-kind-break false b = kind-after isBreak (λ _. 0) false b refl
-
--- and after a mark, where the letter before is a vowel
-pub kind-mark : (v : Bool) (b : ℕ) → b < 256 → isMark b ≡ true → (p : ℕ) → isVowel p ≡ true → Kind p (after v b)
-unfolding everything
-kind-mark v b h k p e =
-    let vowels = plainVowels ++ softeningVowels in
-    let c : classOf b ≡ 1 = eqb-true _ _ (sym (by-class b h .mark) ∙ k) in
-    rw c (record {
-      start = among-same (λ x. eqb x 0) (λ _. false) vowels p refl e;
-      consonant = among-same isConsonant (λ _. false) vowels p refl e;
-      sign = among-same isSign (λ _. false) vowels p refl e;
-      vowel = e;
-    })
-
--- the kind at the start
-pub kind-none : Kind 0 2
-unfolding everything
-kind-none = record { start = refl; consonant = refl; sign = refl; vowel = refl }
+alike-break b s = let n = break-consonant b s in let o = break-sign b s in alike-other 0 (small b) refl (rw (n, o))
 
 module _ (m : List ℕ) (steady : Steady m) where
   -- the letter before a mark is a vowel
@@ -72,19 +46,28 @@ module _ (m : List ℕ) (steady : Steady m) where
       let t = steady .bytes i in
       rw (left-letter m i (omega arith) (vowel-break _ t v) (vowel-mark _ t v)) v
 
-  -- the kind of what stands before a place tells the class of the last letter of the word
-  pub kind-at : (i : ℕ) → i ≤ length m → Kind (leftAt m i .p) (kindAt m i)
-  unfolding leftAt kindAt nextKind letterOf
-  kind-at zero h = kind-none
-  kind-at (suc i) h = by (isBreak b) refl (isMark b) refl
-    where
-      b : ℕ
-      b = getD m i 0
+  -- the last letter of the word after a byte, and the byte
+  pub alike-before : (i : ℕ) → i < length m → Alike (leftAt m (suc i) .p) (small (getD m i 0))
+  unfolding everything letterOf
+  alike-before i h = ⊎-elim
+      (λ s. rw (left-break m i h s) (alike-break (getD m i 0) s))
+      (λ s. ⊎-elim
+      (λ k. rw (left-mark m i h k, eqb-true (getD m i 0) mark k)
+      (alike-other (leftAt m i .p) mark (among-same (λ x. isConsonant x ∷ isSign x ∷ []) (λ _. false ∷ false ∷ []) (plainVowels ++ softeningVowels) (leftAt m i .p) refl (vowel-before i h k)) refl))
+      (λ k. rw (left-letter m i h s k) (alike-same (small (getD m i 0)))) (yes-or (isMark (getD m i 0))))
+      (yes-or (isBreak (getD m i 0)))
 
-      v : Bool
-      v = isVowelKind (kindAt m i)
+  -- The kind tells the same.
+  pub record Kind (i : ℕ) : Type 0 where
+    pub consonant : isConsonant (leftAt m i .p) ≡ isConsonantClass (kindAt m i)
+    pub sign : isSign (leftAt m i .p) ≡ isSignKind (kindAt m i)
 
-      by : (s : Bool) → isBreak b ≡ s → (k : Bool) → isMark b ≡ k → Kind (leftAt m (suc i) .p) (after v b)
-      by true s k e = rw (left-break m i h s) (kind-break v b (steady .bytes i) s)
-      by false s true e = rw (left-mark m i h e) (kind-mark v b (steady .bytes i) e (leftAt m i .p) (vowel-before i h e))
-      by false s false e = rw (left-letter m i h s e) (kind-letter v b (steady .bytes i) (letter-class b (steady .bytes i) s e (steady .named i h)))
+  -- it does
+  pub kind-at : (i : ℕ) → i ≤ length m → Kind i
+  unfolding everything leftAt
+  kind-at zero h = record { consonant = refl; sign = refl }
+  kind-at (suc i) h =
+      let b = by-class (getD m i 0) (steady .bytes i) in
+      let a = alike-before i h in
+      let e = entry-at m (steady .bytes) i in
+      record { consonant = a .consonant ∙ b .consonant ∙ sym (e .consonant); sign = a .sign ∙ b .sign ∙ sym (e .sign) }

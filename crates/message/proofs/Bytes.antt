@@ -1,7 +1,7 @@
 -- What holds of every number below a bound is one computation, so a byte's tests go by its class.
 use Rattle.laws.proofs.Kit.{ℕ, zero, suc, _<_, _≡_, refl, Bool, true, false, _&&_, _||_, List, [], _∷_, map, arith, eqb, leb, eqb-true, eqb-false, leb-true, ne-eqb}
-use Rattle.spec.specs.{Alphabet.«д», Alphabet.«т», Letters.small, Letters.isMark, Letters.isBreak, Letters.isConsonant, Refusals.vowelByte, Refusals.signByte, Refusals.hardSignByte, Refusals.consonantByte, Refusals.letterByte}
-use Rattle.message.specs.Classes.{classOf, isBreakClass, isSignClass, isConsonantClass, isVowelClass, isLetterClass}
+use Rattle.spec.specs.{Alphabet.«д», Alphabet.«е», Alphabet.«ё», Alphabet.«и», Alphabet.«т», Alphabet.«ю», Alphabet.«я», Tables.among, Letters.small, Letters.isMark, Letters.isBreak, Letters.isConsonant, Refusals.vowelByte, Refusals.signByte, Refusals.hardSignByte, Refusals.consonantByte, Refusals.letterByte}
+use Rattle.message.specs.Classes.{classOf, isBreakClass, isSignClass, isConsonantClass, isVowelClass, isLetterClass, isTOrD}
 use Rattle.message.proofs.Computed.{everything}
 
 -- the numbers below n
@@ -25,11 +25,11 @@ pairs-same f g n p k c e h l = below-same (f k) (g k) p c (below-same (λ x. map
 
 -- the tests of a byte
 abbrev tests : ℕ → List Bool
-tests b = isMark b ∷ isBreak b ∷ vowelByte b ∷ signByte b ∷ hardSignByte b ∷ consonantByte b ∷ letterByte b ∷ (eqb (small b) «т» || eqb (small b) «д») ∷ true ∷ []
+tests b = isMark b ∷ isBreak b ∷ vowelByte b ∷ signByte b ∷ hardSignByte b ∷ consonantByte b ∷ letterByte b ∷ among («т» ∷ «д» ∷ []) (small b) ∷ isTOrD b ∷ among («е» ∷ «ё» ∷ «ю» ∷ «я» ∷ []) (small b) ∷ eqb (small b) «и» ∷ true ∷ []
 
 -- what its class says of them
 abbrev classTests : ℕ → List Bool
-classTests c = eqb c 1 ∷ isBreakClass c ∷ isVowelClass c ∷ isSignClass c ∷ eqb c 4 ∷ isConsonantClass c ∷ isLetterClass c ∷ eqb c 8 ∷ leb c 12 ∷ []
+classTests c = eqb c 1 ∷ isBreakClass c ∷ isVowelClass c ∷ isSignClass c ∷ eqb c 4 ∷ isConsonantClass c ∷ isLetterClass c ∷ eqb c 8 ∷ eqb c 8 ∷ eqb c 11 ∷ eqb c 12 ∷ leb c 12 ∷ []
 
 -- the two agree
 tests-same : (b : ℕ) → b < 256 → tests b ≡ classTests (classOf b)
@@ -45,7 +45,10 @@ pub record ByClass (b : ℕ) : Type 0 where
   pub hardSign : hardSignByte b ≡ eqb (classOf b) 4
   pub consonant : consonantByte b ≡ isConsonantClass (classOf b)
   pub letter : letterByte b ≡ isLetterClass (classOf b)
-  pub silent : (eqb (small b) «т» || eqb (small b) «д») ≡ eqb (classOf b) 8
+  pub silent : among («т» ∷ «д» ∷ []) (small b) ≡ eqb (classOf b) 8
+  pub tOrD : isTOrD b ≡ eqb (classOf b) 8
+  pub softening : among («е» ∷ «ё» ∷ «ю» ∷ «я» ∷ []) (small b) ≡ eqb (classOf b) 11
+  pub vowelI : eqb (small b) «и» ≡ eqb (classOf b) 12
   pub class : classOf b < 13
 
 -- every byte is
@@ -53,7 +56,7 @@ pub by-class : (b : ℕ) → b < 256 → ByClass b
 by-class b h =
     let e = tests-same b h in
     let l : leb (classOf b) 12 ≡ true = cc in
-    record { mark = cc; break = cc; vowel = cc; sign = cc; hardSign = cc; consonant = cc; letter = cc; silent = cc; class = omega (arith, leb-true (classOf b) 12 l) }
+    record { mark = cc; break = cc; vowel = cc; sign = cc; hardSign = cc; consonant = cc; letter = cc; silent = cc; tOrD = cc; softening = cc; vowelI = cc; class = omega (arith, leb-true (classOf b) 12 l) }
 
 -- two tests that no byte passes both
 pub not-both : (f g : ℕ → Bool) (b : ℕ) → map (λ x. f x && g x) (below 256) ≡ map (λ _. false) (below 256) → b < 256 → f b ≡ true → g b ≡ false
@@ -68,11 +71,6 @@ vowel-break b = not-both vowelByte isBreak b refl
 pub vowel-mark : (b : ℕ) → b < 256 → vowelByte b ≡ true → isMark b ≡ false
 unfolding everything
 vowel-mark b = not-both vowelByte isMark b refl
-
--- a mark is no consonant
-pub mark-consonant : (b : ℕ) → b < 256 → isMark b ≡ true → isConsonant (small b) ≡ false
-unfolding everything
-mark-consonant b = not-both isMark consonantByte b refl
 
 -- a consonant is no vowel
 pub consonant-vowel : (b : ℕ) → b < 256 → isConsonant (small b) ≡ true → vowelByte b ≡ false

@@ -1,44 +1,36 @@
 -- What the check has seen stays true, over a byte and over any number of bytes that need only be added; at the end it is the answer.
-use Rattle.laws.proofs.Kit.{ℕ, zero, suc, _+_, _-_, _*_, _/_, _%_, _<_, _≤_, _≡_, refl, sym, _∙_, Bool, true, false, cond, _&&_, and-false, and-eq-true-iff, false≢true, List, arith, eqb, leb, length, getD, eqb-true, eqb-false, leb-true, leb-false, ne-eqb}
-use Rattle.spec.specs.{Refusals.refusal, Refusals.checkOf, declared.Checked.the-variants.Accepted, declared.Checked.the-variants.Refused}
-use Rattle.message.specs.{Classes.isBreakClass, Classes.isLetterClass, Classes.classAt, Classes.silentAt, Steps.nextKind, Steps.faultIn, Steps.widthIn, Steps.namesIn, Steps.askIn, Steps.stopIn, Steps.tailNames, Steps.packed, Steps.kindAt, Steps.widthAt, Steps.codesTo, Steps.namesTo, Steps.lettersAt, Steps.faultHere, Steps.Sees, Steps.fourAt, Steps.silentFour, Steps.Counted, Steps.finishOf, Steps.nameUnit, Steps.askUnit, Steps.stopUnit, declared.Seen.Seen}
-use Rattle.laws.proofs.Accepted.{countsOf}
-use Rattle.message.proofs.{Steadiness.accepted-steady, StepTable.Entry, StepTable.unpacks, StepTable.silent-asks, Lengths.codes-all, Lengths.names-all, Faults.here-clear, Faults.clear-here, Faults.kind-small, Faults.entry-at, Faults.counts-up, Faults.last-refused, Faults.all-accepted}
+use Rattle.laws.proofs.Kit.{ℕ, zero, suc, _+_, _-_, _*_, _/_, _%_, _<_, _≤_, _≡_, refl, sym, _∙_, ⊎-elim, Bool, true, false, cond, _&&_, and-false, List, arith, eqb, leb, length, getD, eqb-false, le-leb, lt-leb, eq-eqb, ne-eqb}
+use Rattle.spec.specs.Refusals.{checkOf}
+use Rattle.message.specs.{Classes.isBreakClass, Classes.isLetterClass, Classes.classAt, Classes.silentAt, Steps.nextKind, Steps.faultIn, Steps.stopIn, Steps.packed, Steps.kindAt, Steps.codesTo, Steps.namesTo, Steps.lettersAt, Steps.faultHere, Steps.Sees, Steps.fourAt, Steps.silentFour, Steps.Counted, Steps.finishOf, Steps.nameUnit, Steps.askUnit, Steps.stopUnit, declared.Seen.Seen}
+use Rattle.laws.proofs.{Accepted.countsOf, Classes.cond-both, Classes.yes-or, Classes.below-or}
+use Rattle.message.proofs.{Steadiness.accepted-steady, StepTable.Entry, StepTable.unpacks, StepTable.silent-asks, Lengths.codes-all, Lengths.names-all, Faults.here-clear, Faults.kind-small, Faults.entry-at, Faults.counts-up, Faults.last-refused, Faults.all-accepted}
 
 -- the end of the walk is the check's answer
-pub seen-all : (m : List ℕ) (s : Seen) → 0 < length m → length m ≤ 4096 → Sees m s → s .at ≡ length m → finishOf (length m) s ≡ checkOf m
-seen-all m s z l w e =
+pub seen-all : (m : List ℕ) (s : Seen) → 0 < length m → Sees m s → s .at ≡ length m → finishOf (length m) s ≡ checkOf m
+seen-all m s z w e =
     let n = length m in
     let up = counts-up m (w .bytes) n in
     let sum : s .sum ≡ codesTo m n + nameUnit * namesTo m n = rw e at (w .sum) in
     let codes : s .sum % nameUnit ≡ codesTo m n = omega (arith, sum, up .0) in
     let names : s .sum / nameUnit ≡ namesTo m n = omega (arith, sum, up .0) in
-    rw (rw e at (w .kind), codes, names) (by (isBreakClass (kindAt m n)) refl)
-  where
-    by : (t : Bool) → isBreakClass (kindAt m (length m)) ≡ t
-        → cond t (Refused (refusal 4 (length m - 1))) (Accepted (record { codes = codesTo m (length m); names = namesTo m (length m) + tailNames (kindAt m (length m)) })) ≡ checkOf m
-    by true d = sym (last-refused m (w .bytes) (length m - 1) (omega (arith, z)) l (rw e at (w .clear)) d)
-    by false d =
-        let q = all-accepted m (w .bytes) (length m - 1) (omega (arith, z)) l (rw e at (w .clear)) d in
-        let y = accepted-steady m (countsOf m) q (w .bytes) in
-        sym (q ∙ rw (codes-all m y, names-all m y))
+    rw (rw e at (w .kind), codes, names) (⊎-elim
+    (λ (d : isBreakClass (kindAt m n) ≡ true). rw d (sym (last-refused m (w .bytes) (n - 1) (omega (arith, z)) (w .short) (rw e at (w .clear)) d)))
+    (λ (d : isBreakClass (kindAt m n) ≡ false).
+    let q = all-accepted m (w .bytes) (n - 1) (omega (arith, z)) (w .short) (rw e at (w .clear)) d in
+    let y = accepted-steady m (countsOf m) q (w .bytes) in
+    rw d (sym (q ∙ rw (codes-all m y, names-all m y)))) (yes-or (isBreakClass (kindAt m n))))
 
--- a byte more is one letter more at most
-letters-more : (m : List ℕ) (i : ℕ) → lettersAt m (suc i) ≤ suc (lettersAt m i)
-unfolding lettersAt
-letters-more m i = by (isBreakClass (classAt m i)) (isLetterClass (classAt m i))
-  where
-    by : (s t : Bool) → cond s 0 (cond t (suc (lettersAt m i)) (lettersAt m i)) ≤ suc (lettersAt m i)
-    by true t = omega arith
-    by false true = omega arith
-    by false false = omega arith
-
--- so n bytes have n letters at most
+-- n bytes have n letters at most
 letters-up : (m : List ℕ) (i n : ℕ) → lettersAt m (n + i) ≤ n + lettersAt m i
+unfolding lettersAt
 letters-up m i zero = let e : 0 + i ≡ i = omega arith in rw e (omega arith)
-letters-up m i (suc n) = let e : suc n + i ≡ suc (n + i) = omega arith in rw e (omega (arith, letters-more m (n + i), letters-up m i n))
+letters-up m i (suc n) =
+    let e : suc n + i ≡ suc (n + i) = omega arith in
+    let most : ℕ → Type 0 = λ k. k ≤ suc n + lettersAt m i in
+    let r = letters-up m i n in
+    rw e (cond-both most (isBreakClass (classAt m (n + i))) (omega arith) (cond-both most (isLetterClass (classAt m (n + i))) (omega arith) (omega arith)))
 
--- and no place has more letters before it than bytes
+-- so no place has more letters before it than bytes
 pub letters-all : (m : List ℕ) (i : ℕ) → lettersAt m i ≤ i
 unfolding lettersAt
 letters-all m i = let e : i + 0 ≡ i = omega arith in omega (arith, rw e at (letters-up m 0 i))
@@ -55,9 +47,9 @@ letters-most m (suc i) c = by (isBreakClass (classAt m i)) (isLetterClass (class
     by false false e h = h
 
 -- at the start nothing is seen
-pub sees-none : (m : List ℕ) → ((j : ℕ) → getD m j 0 < 256) → Sees m (record { at = 0; kind = 2; from = 0; limit = 64; sum = 0 })
+pub sees-none : (m : List ℕ) → ((j : ℕ) → getD m j 0 < 256) → length m ≤ 4096 → Sees m (record { at = 0; kind = 2; from = 0; limit = 64; sum = 0 })
 unfolding kindAt codesTo namesTo lettersAt
-sees-none m bytes = record { bytes = bytes; within = omega arith; clear = λ j h. absurd (omega arith); kind = refl; sum = refl; from = omega arith; limit = refl }
+sees-none m bytes short = record { bytes = bytes; short = short; within = omega arith; clear = λ j h. absurd (omega arith); kind = refl; sum = refl; from = omega arith; limit = refl }
 
 -- a kind has its row in the table, and a sum is small
 pub sees-small : {m : List ℕ} {s : Seen} → Sees m s → (s .kind < 16) × (s .sum ≤ (nameUnit + 2) * s .at)
@@ -77,161 +69,111 @@ pub sees-counted : (m : List ℕ) (s : Seen) (n : ℕ) → Sees m s → n ≡ le
 sees-counted m s n w e =
     let h = letters-most m (s .at) (w .clear) in
     record {
-      sees = record { bytes = w .bytes; within = w .within; clear = w .clear; kind = w .kind; sum = w .sum; from = omega arith; limit = omega (arith, e, h) };
+      sees = record { bytes = w .bytes; short = w .short; within = w .within; clear = w .clear; kind = w .kind; sum = w .sum; from = omega arith; limit = omega (arith, e, h) };
       place = refl;
       full = λ l. omega (arith, l, e, h);
     }
 
--- The check sees all up to a byte.
-module _ {m : List ℕ} {s : Seen} (w : Sees m s) (h : s .at < length m) where
-  -- its entry
-  pub entry-here : Entry (s .kind) (classAt m (s .at))
+-- The check sees all up to a byte; c is its class, and x its entry.
+module _ {m : List ℕ} {s : Seen} {c x : ℕ} (w : Sees m s) (h : s .at < length m) (f : c ≡ classAt m (s .at)) (e : x ≡ packed (s .kind) (classAt m (s .at))) where
+  -- the entry is one of the table
+  entry-here : Entry (s .kind) (classAt m (s .at))
   entry-here = rw (w .kind) (entry-at m (w .bytes) (s .at))
 
-  -- what it adds, with what it loses, is what its entry has
-  adds : widthAt m (s .at) (kindAt m (s .at)) + silentAt m (s .at) + nameUnit * namesIn (kindAt m (s .at)) (classAt m (s .at)) ≡ packed (s .kind) (classAt m (s .at)) % askUnit
-  adds = rw (w .kind) (omega (arith, silent-asks m (s .at) (w .bytes) .1, unpacks _ _ (entry-at m (w .bytes) (s .at)) .counts))
-
-  -- it is passed where it has no fault
-  pub sees-more : (sum : ℕ) → faultHere m (s .at) ≡ 0 → sum + silentAt m (s .at) ≡ s .sum + packed (s .kind) (classAt m (s .at)) % askUnit
-      → Sees m (record { at = suc (s .at); kind = nextKind (s .kind) (classAt m (s .at)); from = s .from; limit = s .limit; sum = sum })
+  -- the byte is passed where it has no fault
+  pub sees-more : (sum : ℕ) → faultHere m (s .at) ≡ 0 → sum + silentAt m (s .at) ≡ s .sum + x % askUnit
+      → Sees m (record { at = suc (s .at); kind = nextKind (s .kind) c; from = s .from; limit = s .limit; sum = sum })
   unfolding kindAt codesTo namesTo
-  sees-more sum f e = record {
+  sees-more sum z q = record {
     bytes = w .bytes;
+    short = w .short;
     within = h;
-    clear = λ j b. by j (eqb j (s .at)) refl b;
-    kind = rw (w .kind);
-    sum = omega (arith, e, adds, w .sum);
+    clear = λ j b. ⊎-elim (w .clear j) (λ l. let d : j ≡ s .at = omega arith in rw d z) (below-or j (s .at));
+    kind = rw (f, w .kind);
+    sum = omega (arith, q, rw (w .kind) at e, silent-asks m (s .at) (w .bytes) .1, unpacks _ _ (entry-at m (w .bytes) (s .at)) .counts, w .sum);
     from = omega (arith, w .from);
     limit = w .limit;
   }
-    where
-      by : (j : ℕ) (t : Bool) → eqb j (s .at) ≡ t → j < suc (s .at) → faultHere m j ≡ 0
-      by j true d b = rw (eqb-true j (s .at) d) f
-      by j false d b = w .clear j (omega (arith, eqb-false j (s .at) d))
-
-  -- a byte before the limit has no fault but its entry's
-  clear-below : s .at < s .limit → faultIn (s .kind) (classAt m (s .at)) ≡ 0 → faultHere m (s .at) ≡ 0
-  clear-below l f =
-      let z : eqb (lettersAt m (s .at)) 64 ≡ false = ne-eqb (lettersAt m (s .at)) 64 (λ e. omega (arith, below-limit m s w l, e)) in
-      clear-here m (s .at) (rw (w .kind) at f) (rw (z, and-false (isLetterClass (classAt m (s .at)))))
 
   -- a second stop is the byte's fault
-  pub stop-here : 2 * stopUnit ≤ packed (s .kind) (classAt m (s .at)) → let n = packed (s .kind) (classAt m (s .at)) / stopUnit - 1 in (faultHere m (s .at) ≡ n) × (n ≡ 0 → ⊥)
+  pub stop-here : 2 * stopUnit ≤ x → (faultHere m (s .at) ≡ x / stopUnit - 1) × (x / stopUnit - 1 ≡ 0 → ⊥)
   unfolding faultHere
   stop-here l =
-      let f : packed (s .kind) (classAt m (s .at)) / stopUnit ≡ suc (faultIn (s .kind) (classAt m (s .at))) = omega (arith, unpacks _ _ entry-here .stop, entry-here .fault) in
-      let z : faultIn (s .kind) (classAt m (s .at)) ≡ 0 → ⊥ = λ e. omega (arith, f, e) in
-      (rw (← w .kind, ne-eqb (faultIn (s .kind) (classAt m (s .at))) 0 z) (omega (arith, f)), λ e. omega (arith, f, z, e))
+      let n = faultIn (s .kind) (classAt m (s .at)) in
+      let y : x / stopUnit ≡ suc n = omega (arith, e, unpacks _ _ entry-here .stop, entry-here .fault) in
+      let z : n ≡ 0 → ⊥ = λ q. omega (arith, y, q) in
+      (rw (← w .kind, ne-eqb n 0 z) (omega (arith, y)), λ q. omega (arith, y, z, q))
 
-  -- before it the byte has no fault but as a 65th letter
-  first-here : packed (s .kind) (classAt m (s .at)) < 2 * stopUnit → faultIn (kindAt m (s .at)) (classAt m (s .at)) ≡ 0
-  first-here l = rw (← w .kind) (omega (arith, unpacks _ _ entry-here .stop, entry-here .fault))
-
-  -- a letter at the limit, where that is counted, is one
-  pub full-here : packed (s .kind) (classAt m (s .at)) < 2 * stopUnit → (s .limit ≤ s .at → lettersAt m (s .at) ≡ 64) → (isLetterClass (classAt m (s .at)) && leb (s .limit) (s .at)) ≡ true
-      → faultHere m (s .at) ≡ 10
+  -- before it the byte has no fault but as a letter at the limit, where that is counted
+  pub full-here : x < 2 * stopUnit → (s .limit ≤ s .at → lettersAt m (s .at) ≡ 64) → faultHere m (s .at) ≡ cond (isLetterClass c && leb (s .limit) (s .at)) 10 0
   unfolding faultHere
-  full-here l q e =
-      let b = and-eq-true-iff (isLetterClass (classAt m (s .at))) (leb (s .limit) (s .at)) .0 e in
-      rw (first-here l, b .0, q (leb-true _ _ (b .1)))
-
-  -- any other byte is none
-  pub clear-other : packed (s .kind) (classAt m (s .at)) < 2 * stopUnit → (isLetterClass (classAt m (s .at)) && leb (s .limit) (s .at)) ≡ false → faultHere m (s .at) ≡ 0
-  clear-other l e = clear-here m (s .at) (first-here l) (by (isLetterClass (classAt m (s .at))) (leb (s .limit) (s .at)) refl e)
-    where
-      by : (t u : Bool) → leb (s .limit) (s .at) ≡ u → (t && u) ≡ false → (t && eqb (lettersAt m (s .at)) 64) ≡ false
-      by true true d z = absurd (false≢true (sym z))
-      by true false d z = ne-eqb (lettersAt m (s .at)) 64 (λ e. omega (arith, below-limit m s w (omega (arith, leb-false (s .limit) (s .at) d)), e))
-      by false u d z = refl
+  full-here l q =
+      let z : faultIn (s .kind) (classAt m (s .at)) ≡ 0 = omega (arith, e, unpacks _ _ entry-here .stop, entry-here .fault) in
+      let y : eqb (lettersAt m (s .at)) 64 ≡ leb (s .limit) (s .at) = ⊎-elim
+      (λ b. ne-eqb (lettersAt m (s .at)) 64 (λ t. omega (arith, below-limit m s w b, t)) ∙ sym (lt-leb (s .limit) (s .at) b))
+      (λ b. eq-eqb (lettersAt m (s .at)) 64 (q b) ∙ sym (le-leb (s .limit) (s .at) b)) (below-or (s .at) (s .limit)) in
+      rw (f, ← w .kind, z, y)
 
   -- where it is enough to add, its class is the next kind
-  pub sees-plain : (sum : ℕ) → s .at < s .limit → packed (s .kind) (classAt m (s .at)) < stopUnit
-      → sum + silentAt m (s .at) ≡ s .sum + packed (s .kind) (classAt m (s .at)) % askUnit
-      → Sees m (record { at = suc (s .at); kind = classAt m (s .at); from = s .from; limit = s .limit; sum = sum })
-  sees-plain sum l p e =
-      let n : stopIn (s .kind) (classAt m (s .at)) ≡ 0 = omega (arith, unpacks _ _ entry-here .stop) in
-      rw (entry-here .plain n) at (sees-more sum (clear-below l (omega (arith, n, entry-here .fault))) e)
+  pub sees-plain : (sum : ℕ) → s .at < s .limit → x < stopUnit → sum + silentAt m (s .at) ≡ s .sum + x % askUnit
+      → Sees m (record { at = suc (s .at); kind = c; from = s .from; limit = s .limit; sum = sum })
+  sees-plain sum l p q =
+      let n : stopIn (s .kind) (classAt m (s .at)) ≡ 0 = omega (arith, e, unpacks _ _ entry-here .stop) in
+      let z = rw (lt-leb (s .limit) (s .at) l, and-false (isLetterClass c)) at (full-here (omega arith) (λ b. absurd (omega (arith, l, b)))) in
+      rw f (rw (f, entry-here .plain n) at (sees-more sum z q))
 
   -- What the entry has: as many codes as the byte loses, no ask where it loses none, and not much.
   pub record Gives : Type 0 where
-    pub enough : silentAt m (s .at) ≤ packed (s .kind) (classAt m (s .at)) % askUnit
-    pub plain : packed (s .kind) (classAt m (s .at)) < askUnit → silentAt m (s .at) ≡ 0
-    pub small : packed (s .kind) (classAt m (s .at)) % askUnit ≤ nameUnit + 2
+    pub enough : silentAt m (s .at) ≤ x % askUnit
+    pub plain : x < askUnit → silentAt m (s .at) ≡ 0
+    pub small : x % askUnit ≤ nameUnit + 2
 
   -- it has
   pub gives : Gives
   gives =
       let u = unpacks _ _ entry-here in
-      let a = silent-asks m (s .at) (w .bytes) in
-      let b : silentAt m (s .at) ≤ askIn (s .kind) (classAt m (s .at)) = rw (w .kind) (a .0) in
-      let c : silentAt m (s .at) ≤ widthIn (s .kind) (classAt m (s .at)) = rw (w .kind) (omega (arith, a .1)) in
-      record { enough = omega (arith, c, u .counts); plain = λ q. omega (arith, b, u .ask q); small = omega (arith, u .counts, entry-here .width, entry-here .names) }
+      let a = rw (← w .kind) at (silent-asks m (s .at) (w .bytes)) in
+      record { enough = omega (arith, e, a .1, u .counts); plain = λ q. omega (arith, a .0, u .ask (omega (arith, e, q))); small = omega (arith, e, u .counts, entry-here .width, entry-here .names) }
 
--- n bytes from place i on, the first after kind k: the sum of their entries, the codes they lose, the kind after them
-unfoldable sums : List ℕ → ℕ → ℕ → ℕ → ℕ
-sums m k i zero = 0
-sums m k i (suc n) = packed k (classAt m i) + sums m (classAt m i) (suc i) n
-
-unfoldable losses : List ℕ → ℕ → ℕ → ℕ
-losses m i zero = 0
-losses m i (suc n) = silentAt m i + losses m (suc i) n
-
-unfoldable kindPast : List ℕ → ℕ → ℕ → ℕ → ℕ
-kindPast m k i zero = k
-kindPast m k i (suc n) = kindPast m (classAt m i) (suc i) n
-
--- They need only be added: x is the sum of their entries, and has the codes that they lose.
+-- The next n bytes need only be added: x is the sum of their entries, and has the codes that they lose; k is the kind after them.
 pub record Adds (m : List ℕ) (s : Seen) (n x lost k : ℕ) : Type 0 where
   pub enough : lost ≤ x % askUnit
   pub plain : x < askUnit → lost ≡ 0
   pub small : x % askUnit ≤ (nameUnit + 2) * n
   pub seen : (sum : ℕ) → sum + lost ≡ s .sum + x % askUnit → Sees m (record { at = s .at + n; kind = k; from = s .from; limit = s .limit; sum = sum })
 
--- one after the other
-adds-up : (m : List ℕ) (n : ℕ) → n ≤ 7 → (s : Seen) → Sees m s → s .at + n ≤ length m → s .at + n ≤ s .limit → sums m (s .kind) (s .at) n < stopUnit
-    → Adds m s n (sums m (s .kind) (s .at) n) (losses m (s .at) n) (kindPast m (s .kind) (s .at) n)
-unfolding sums losses kindPast
-adds-up m zero l s w h u p = record {
+-- none do
+adds-none : {m : List ℕ} {s : Seen} → Sees m s → Adds m s 0 0 0 (s .kind)
+adds-none {m} {s} w = record {
   enough = omega arith;
   plain = λ q. refl;
   small = omega arith;
   seen = λ sum e. let z : s .at + 0 ≡ s .at = omega arith in let d : sum ≡ s .sum = omega (arith, e) in rw (z, d) w;
 }
-adds-up m (suc n) l s w h u p = by (adds-up m n (omega arith) next seen (omega (arith, h)) (omega (arith, u)) (omega (arith, p)))
-  where
-    g : Gives w (omega (arith, h))
-    g = gives w (omega (arith, h))
 
-    next : Seen
-    next = record { at = suc (s .at); kind = classAt m (s .at); from = s .from; limit = s .limit; sum = s .sum + packed (s .kind) (classAt m (s .at)) % askUnit - silentAt m (s .at) }
-
-    seen : Sees m next
-    seen = sees-plain w (omega (arith, h)) _ (omega (arith, u)) (omega (arith, p)) (omega (arith, g .enough))
-
-    by : Adds m next n (sums m (next .kind) (next .at) n) (losses m (next .at) n) (kindPast m (next .kind) (next .at) n)
-        → Adds m s (suc n) (sums m (s .kind) (s .at) (suc n)) (losses m (s .at) (suc n)) (kindPast m (s .kind) (s .at) (suc n))
-    by r =
-        let a : (packed (s .kind) (classAt m (s .at)) + sums m (classAt m (s .at)) (suc (s .at)) n) % askUnit ≡ packed (s .kind) (classAt m (s .at)) % askUnit + sums m (classAt m (s .at)) (suc (s .at)) n % askUnit = omega (arith, g .small, r .small, l) in
-        record {
-          enough = omega (arith, a, g .enough, r .enough);
-          plain = λ q. omega (arith, g .plain (omega (arith, q)), r .plain (omega (arith, q)));
-          small = omega (arith, a, g .small, r .small);
-          seen = λ sum e. let z : s .at + suc n ≡ suc (s .at) + n = omega arith in rw z (r .seen sum (omega (arith, a, e, g .enough)));
-        }
-
--- four of them as the code has them
-fours : (m : List ℕ) (k i : ℕ) → (fourAt m i k ≡ sums m k i 4) × (silentFour m i ≡ losses m i 4) × (classAt m (i + 3) ≡ kindPast m k i 4)
-unfolding sums losses kindPast
-fours m k i =
-    let a : i + 1 ≡ suc i = omega arith in
-    let b : i + 2 ≡ suc (suc i) = omega arith in
-    let c : i + 3 ≡ suc (suc (suc i)) = omega arith in
-    rw (a, b, c) (omega arith, omega arith, refl)
+-- and one more, without a stop
+adds-more : {m : List ℕ} {s : Seen} {n x lost k : ℕ} → Adds m s n x lost k → n ≤ 6 → s .at + n < length m → s .at + n < s .limit → packed k (classAt m (s .at + n)) < stopUnit
+    → Adds m s (suc n) (x + packed k (classAt m (s .at + n))) (lost + silentAt m (s .at + n)) (classAt m (s .at + n))
+adds-more {m} {s} {n} {x} {lost} {k} r l h u p =
+    let e = packed k (classAt m (s .at + n)) in
+    let w = r .seen (s .sum + x % askUnit - lost) (omega (arith, r .enough)) in
+    let g = gives w h refl refl in
+    let a : (x + e) % askUnit ≡ x % askUnit + e % askUnit = omega (arith, g .small, r .small, l) in
+    record {
+      enough = omega (arith, a, g .enough, r .enough);
+      plain = λ q. omega (arith, g .plain (omega (arith, q)), r .plain (omega (arith, q)));
+      small = omega (arith, a, g .small, r .small);
+      seen = λ sum q. let z : s .at + suc n ≡ suc (s .at + n) = omega arith in rw z (sees-plain w h refl refl sum u p (omega (arith, a, q, r .enough)));
+    }
 
 -- four need only be added where their sum has no stop
 pub sees-four : (m : List ℕ) (s : Seen) → Sees m s → s .at + 4 ≤ length m → s .at + 4 ≤ s .limit → fourAt m (s .at) (s .kind) < stopUnit
     → Adds m s 4 (fourAt m (s .at) (s .kind)) (silentFour m (s .at)) (classAt m (s .at + 3))
 sees-four m s w h l p =
-    let f = fours m (s .kind) (s .at) in
-    rw (f .0, f .1, f .2) (adds-up m 4 (omega arith) s w h l (rw (f .0) at p))
+    let z : s .at + 0 ≡ s .at = omega arith in
+    let x : 0 + packed (s .kind) (classAt m (s .at)) ≡ packed (s .kind) (classAt m (s .at)) = omega arith in
+    let y : 0 + silentAt m (s .at) ≡ silentAt m (s .at) = omega arith in
+    let one = rw (z, x, y) at (adds-more (adds-none w) (omega arith) (omega (arith, h)) (omega (arith, l)) (rw z (omega (arith, p)))) in
+    let two = adds-more one (omega arith) (omega (arith, h)) (omega (arith, l)) (omega (arith, p)) in
+    let three = adds-more two (omega arith) (omega (arith, h)) (omega (arith, l)) (omega (arith, p)) in
+    adds-more three (omega arith) (omega (arith, h)) (omega (arith, l)) (omega (arith, p))

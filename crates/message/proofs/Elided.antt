@@ -1,6 +1,6 @@
 -- Only т and д are elided, and only before с н ч ц ш: none of these is a vowel or a sign or softens, so elision changes no syllable and no softness.
-use Rattle.laws.proofs.Kit.{ℕ, _≡_, refl, sym, _∙_, Bool, true, false, cond, _&&_, _||_, and-false, false≢true, List, [], _∷_, eqb}
-use Rattle.spec.specs.{Alphabet.«д», Alphabet.«н», Alphabet.«с», Alphabet.«т», Alphabet.«ц», Alphabet.«ч», Alphabet.«ш», Tables.among, Letters.Letter, Letters.firstByte, Letters.isSign, Letters.isVowel, Elision.secondByte, Elision.elidesT, Elision.elidesD, Elision.elides, Elision.elideFrom, Elision.elidesAmong, Syllables.Facts, Syllables.levelOf, Syllables.nextStressed, Syllables.syllableOf, Syllables.namesFrom, Vowels.softens, Vowels.phonesOf, Vowels.phonesFrom}
+use Rattle.laws.proofs.Kit.{ℕ, _≡_, refl, sym, _∙_, Bool, true, false, cond, and-false, false≢true, List, [], _∷_, eqb}
+use Rattle.spec.specs.{Alphabet.«д», Alphabet.«н», Alphabet.«с», Alphabet.«т», Alphabet.«ц», Alphabet.«ч», Alphabet.«ш», Tables.among, Letters.Letter, Letters.firstByte, Letters.isSign, Letters.isVowel, Elision.elidesT, Elision.elidesD, Elision.elides, Elision.elideFrom, Elision.elidesAmong, Syllables.Facts, Syllables.levelOf, Syllables.nextStressed, Syllables.syllableOf, Syllables.namesFrom, Vowels.softens, Vowels.phonesOf, Vowels.phonesFrom}
 use Rattle.laws.proofs.Classes.{among-same, among-none}
 use Rattle.message.proofs.Computed.{everything}
 
@@ -12,15 +12,10 @@ silent = «т» ∷ «д» ∷ []
 abbrev pub afterSilent : List ℕ
 afterSilent = «с» ∷ «н» ∷ «ч» ∷ «ц» ∷ «ш» ∷ []
 
--- an elided letter is т or д
-pub elided-silent : (p b : ℕ) (w : List Letter) → elides p b w ≡ true → among silent b ≡ true
-unfolding elides elidesAmong among
-elided-silent p b w h = by (eqb b «т») (eqb b «д») (elidesT p (firstByte w) (secondByte w)) (elidesD p (firstByte w) (secondByte w)) h
-  where
-    by : (t d x y : Bool) → ((t && x) || (d && y)) ≡ true → (t || (d || false)) ≡ true
-    by true d x y e = refl
-    by false true x y e = refl
-    by false false x y e = e
+-- no other letter is elided
+pub other-stays : (p b c d : ℕ) → among silent b ≡ false → elidesAmong p b c d ≡ false
+unfolding elidesAmong among
+other-stays p b c d e = rw (among-none silent b «т» e refl, among-none silent b «д» e refl)
 
 -- no letter is elided but before с н ч ц ш
 pub before-other : (p b c d : ℕ) → among afterSilent c ≡ false → elidesAmong p b c d ≡ false
@@ -30,16 +25,7 @@ before-other p b c d e = simp (no «с» refl, no «н» refl, no «ч» refl, n
     no : (x : ℕ) → among afterSilent x ≡ true → eqb c x ≡ false
     no x i = among-none afterSilent c x e i
 
--- so one of them stands after an elided one
-pub elided-next : (p b : ℕ) (w : List Letter) → elides p b w ≡ true → among afterSilent (firstByte w) ≡ true
-unfolding elides
-elided-next p b w h = by (among afterSilent (firstByte w)) refl
-  where
-    by : (t : Bool) → among afterSilent (firstByte w) ≡ t → t ≡ true
-    by true e = refl
-    by false e = sym (before-other p b (firstByte w) (secondByte w) e) ∙ h
-
--- and those letters stay
+-- those letters stay
 pub next-stays : (p : ℕ) (w : List Letter) → among afterSilent (firstByte w) ≡ true → firstByte (elideFrom p w) ≡ firstByte w
 unfolding elideFrom elides elidesAmong firstByte among
 next-stays p [] h = refl
@@ -61,15 +47,22 @@ pub next-plain : (b : ℕ) → among afterSilent b ≡ true → Plain b
 unfolding everything
 next-plain b h = record { vowel = among-same isVowel (λ _. false) afterSilent b refl h; sign = among-same isSign (λ _. false) afterSilent b refl h; soft = among-same softens (λ _. false) afterSilent b refl h }
 
+-- what fails where a test fails holds only where the test holds
+pub only-where : (t x : Bool) → (t ≡ false → x ≡ false) → x ≡ true → t ≡ true
+only-where true x f e = refl
+only-where false x f e = sym (f refl) ∙ e
+
 -- A letter goes or stays: what holds of the letters left where it is elided, and where it is not, holds. The letter that goes is plain, and с н ч ц ш is left after it.
 pub elide-cases : (P : Bool → List Letter → Type 0) (p : ℕ) (l : Letter) (w : List Letter)
     → (Plain (l .byte) → among afterSilent (firstByte (elideFrom (l .byte) w)) ≡ true → P true (elideFrom (l .byte) w))
     → P false (l ∷ elideFrom (l .byte) w) → P (elides p (l .byte) w) (elideFrom p (l ∷ w))
-unfolding elideFrom
+unfolding elideFrom elides
 elide-cases P p l w gone stays = by (elides p (l .byte) w) refl
   where
     by : (t : Bool) → elides p (l .byte) w ≡ t → P t (cond t (elideFrom (l .byte) w) (l ∷ elideFrom (l .byte) w))
-    by true e = let n = elided-next p (l .byte) w e in gone (silent-plain (l .byte) (elided-silent p (l .byte) w e)) (rw (next-stays (l .byte) w n) n)
+    by true e =
+        let n = only-where (among afterSilent (firstByte w)) _ (before-other p (l .byte) _ _) e in
+        gone (silent-plain (l .byte) (only-where (among silent (l .byte)) _ (other-stays p (l .byte) _ _) e)) (rw (next-stays (l .byte) w n) n)
     by false e = stays
 
 -- elision changes no softness of the letter before

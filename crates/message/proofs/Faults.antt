@@ -1,97 +1,51 @@
 -- The walk of the message check finds the paper's faults: a kind tells all that the rows ask of the bytes before, so a fault goes by kind and class.
-use Rattle.laws.proofs.Kit.{ℕ, zero, suc, _*_, _<_, _≤_, _≡_, refl, sym, _∙_, Bool, true, false, cond, _&&_, _||_, not, and-false, or-assoc, or-comm, false≢true, List, [], _∷_, arith, eqb, length, getD, drop, drop-cons, drop-length, eqb-true, eqb-false, ne-eqb}
+use Rattle.laws.proofs.Kit.{ℕ, zero, suc, _*_, _<_, _≤_, _≡_, refl, sym, _∙_, ⊎-elim, Bool, true, false, cond, _&&_, _||_, not, and-false, or-assoc, or-comm, false≢true, List, [], _∷_, arith, eqb, length, getD, drop, drop-cons, drop-length, eqb-true, ne-eqb}
 use Rattle.spec.specs.{Letters.isMark, Letters.isBreak, Refusals.vowelByte, Refusals.signByte, Refusals.hardSignByte, Refusals.first, Refusals.none, Refusals.adjacent, Refusals.vowelSign, Refusals.lettersBefore, Refusals.row3, Refusals.row4, Refusals.row5, Refusals.row6, Refusals.row7, Refusals.row8, Refusals.row9, Refusals.row10, Refusals.rows, Refusals.firstFit, Refusals.faultAt, Refusals.beforeAt, Refusals.refusal, Refusals.checkOf, declared.Checked.the-variants.Accepted, declared.Checked.the-variants.Refused}
 use Rattle.message.specs.{Classes.classOf, Classes.isBreakClass, Classes.isSignClass, Classes.isConsonantClass, Classes.isVowelClass, Classes.isLetterClass, Classes.classAt, Steps.isVowelKind, Steps.isHardSignKind, Steps.isVowelSignKind, Steps.isSignKind, Steps.nextKind, Steps.faultIn, Steps.kindAt, Steps.codesTo, Steps.namesTo, Steps.lettersAt, Steps.faultHere}
-use Rattle.laws.proofs.Accepted.{countsOf, ClearAt, fault-clear, first-refused, passes-accepted}
-use Rattle.message.proofs.{Bytes.below-same, Bytes.pairs-same, Bytes.ByClass, Bytes.by-class, StepTable.Entry, StepTable.entry-holds, StepTable.silent-asks, Computed.everything}
+use Rattle.laws.proofs.{Accepted.countsOf, Accepted.ClearAt, Accepted.fault-clear, Accepted.first-refused, Accepted.passes-accepted, Classes.refuted, Classes.below-or}
+use Rattle.message.proofs.{Bytes.pairs-same, Bytes.ByClass, Bytes.by-class, StepTable.Entry, StepTable.entry-holds, StepTable.silent-asks, Computed.everything}
 
--- the kind k tells what the rows ask of the bytes before
-pub record Told (before : List ℕ) (k : ℕ) : Type 0 where
-  pub start : (none before || first isBreak before) ≡ isBreakClass k
-  pub vowel : first vowelByte before ≡ isVowelClass k
-  pub sign : first signByte (adjacent before) ≡ isSignKind k
-  pub hardSign : first hardSignByte (adjacent before) ≡ isHardSignKind k
-  pub vowelSigned : vowelSign (adjacent before) ≡ isVowelSignKind k
-  pub vowelNear : first vowelByte (adjacent before) ≡ isVowelKind k
+-- what the rows ask of the bytes before
+abbrev asked : List ℕ → List Bool
+asked before =
+    (none before || first isBreak before) ∷ first vowelByte before ∷ first signByte (adjacent before) ∷ first hardSignByte (adjacent before) ∷ vowelSign (adjacent before)
+    ∷ first vowelByte (adjacent before) ∷ []
 
--- at the start a gap's kind does
-told-none : Told [] 2
-unfolding none first adjacent vowelSign
-told-none = record { start = refl; vowel = refl; sign = refl; hardSign = refl; vowelSigned = refl; vowelNear = refl }
+-- what a kind answers
+abbrev answers : ℕ → List Bool
+answers k = isBreakClass k ∷ isVowelClass k ∷ isSignKind k ∷ isHardSignKind k ∷ isVowelSignKind k ∷ isVowelKind k ∷ []
 
--- what the next kind says of a byte of class c after kind k
-abbrev nextTests : ℕ → ℕ → List Bool
-nextTests k c = let n = nextKind k c in isBreakClass n ∷ isVowelClass n ∷ isSignKind n ∷ isHardSignKind n ∷ isVowelSignKind n ∷ (eqb c 1 || isVowelKind n) ∷ []
+-- what the next kind answers after a byte of class c, by that class and the kind before; a mark, told by t, is passed over
+abbrev after : Bool → ℕ → ℕ → List Bool
+after t k c =
+    isBreakClass c ∷ isVowelClass c ∷ cond t (isSignKind k) (isSignClass c) ∷ cond t (isHardSignKind k) (eqb c 4) ∷ cond t (isVowelSignKind k) (isSignClass c && isVowelKind k)
+    ∷ cond t (isVowelClass k) (isVowelClass c) ∷ []
 
--- the same by its class; a mark is passed over
-abbrev byteTests : ℕ → ℕ → List Bool
-byteTests k c = isBreakClass c ∷ isVowelClass c ∷ isSignClass c ∷ eqb c 4 ∷ (isSignClass c && isVowelKind k) ∷ (eqb c 1 || isVowelClass c) ∷ []
-
--- the two agree
-next-tests : (k c : ℕ) → k < 16 → c < 13 → byteTests k c ≡ nextTests k c
+-- it does, where there is no fault
+next-answers : (k c : ℕ) → k < 16 → c < 13 → faultIn k c ≡ 0 → after (eqb c 1) k c ≡ answers (nextKind k c)
 unfolding everything
-next-tests k c h l = pairs-same byteTests nextTests 16 13 k c refl h l
+next-answers k c h l e =
+    rw e at (pairs-same (λ k c. cond (eqb (faultIn k c) 0) (after (eqb c 1) k c) []) (λ k c. cond (eqb (faultIn k c) 0) (answers (nextKind k c)) []) 16 13 k c refl h l)
 
 -- a vowel right before is no mark, so it is the adjacent letter
 vowel-adjacent : (before : List ℕ) → first vowelByte before ≡ true → adjacent before ≡ before
 unfolding everything
 vowel-adjacent [] e = refl
-vowel-adjacent (b ∷ before) e = by (isMark b) refl
+vowel-adjacent (b ∷ before) e = rw (refuted (isMark b) (λ d. false≢true (rw (eqb-true b 42 d) at e)))
+
+-- the kind goes on telling what the rows ask, over a byte without a fault
+told-more : (before : List ℕ) (k b : ℕ) → k < 16 → ByClass b → asked before ≡ answers k → faultIn k (classOf b) ≡ 0 → asked (b ∷ before) ≡ answers (nextKind k (classOf b))
+unfolding none first adjacent vowelSign nextKind
+told-more before k b h c t f = by (isMark b) refl (rw (← c .mark) at (next-answers k (classOf b) h (c .class) f))
   where
-    by : (t : Bool) → isMark b ≡ t → cond t before (b ∷ before) ≡ b ∷ before
-    by true d = absurd (false≢true (rw (eqb-true b 42 d) at e))
-    by false d = refl
-
--- what a kind says of a vowel and of signs
-abbrev markTests : ℕ → List Bool
-markTests k = isVowelClass k ∷ isSignKind k ∷ isHardSignKind k ∷ isVowelSignKind k ∷ []
-
--- a mark without a fault stands after a vowel's kind, which is no sign's
-mark-tests : (k : ℕ) → k < 16 → faultIn k 1 ≡ 0 → markTests k ≡ (true ∷ false ∷ false ∷ false ∷ [])
-unfolding everything
-mark-tests k h e = rw e at (below-same (λ x. cond (eqb (faultIn x 1) 0) (markTests x) []) (λ x. cond (eqb (faultIn x 1) 0) (true ∷ false ∷ false ∷ false ∷ []) []) 16 k refl h)
-
-module _ (before : List ℕ) (k b : ℕ) (h : k < 16) (c : ByClass b) (t : Told before k) where
-  -- the kind after a mark
-  told-mark : isMark b ≡ true → faultIn k (classOf b) ≡ 0 → Told (b ∷ before) (nextKind k (classOf b))
-  unfolding none first adjacent vowelSign nextKind
-  told-mark d f =
-      let e : classOf b ≡ 1 = eqb-true (classOf b) 1 (sym (c .mark) ∙ d) in
-      let g = mark-tests k h (rw e at f) in
-      let v : isVowelClass k ≡ true = cc in
-      let a = vowel-adjacent before (t .vowel ∙ v) in
-      record {
-        start = c .break ∙ rw e;
-        vowel = c .vowel ∙ rw e;
-        sign = rw (d, e) (rw a at (t .sign) ∙ (cc));
-        hardSign = rw (d, e) (rw a at (t .hardSign) ∙ (cc));
-        vowelSigned = rw (d, e) (rw a at (t .vowelSigned) ∙ (cc));
-        vowelNear = rw (d, e) (t .vowel ∙ v);
-      }
-
-  -- the kind after any other byte
-  told-other : isMark b ≡ false → Told (b ∷ before) (nextKind k (classOf b))
-  unfolding none first adjacent vowelSign
-  told-other d =
-      let n = next-tests k (classOf b) h (c .class) in
-      let e : eqb (classOf b) 1 ≡ false = sym (c .mark) ∙ d in
-      let v : (eqb (classOf b) 1 || isVowelClass (classOf b)) ≡ (eqb (classOf b) 1 || isVowelKind (nextKind k (classOf b))) = cc in
-      record {
-        start = c .break ∙ (cc);
-        vowel = c .vowel ∙ (cc);
-        sign = rw d (c .sign ∙ (cc));
-        hardSign = rw d (c .hardSign ∙ (cc));
-        vowelSigned = rw (d, c .sign, t .vowelNear) (cc);
-        vowelNear = rw d (c .vowel ∙ rw e at v);
-      }
-
-  -- the kind goes on telling, over a byte without a fault
-  pub told-more : faultIn k (classOf b) ≡ 0 → Told (b ∷ before) (nextKind k (classOf b))
-  told-more f = by (isMark b) refl
-    where
-      by : (u : Bool) → isMark b ≡ u → Told (b ∷ before) (nextKind k (classOf b))
-      by true d = told-mark d f
-      by false d = told-other d
+    by : (u : Bool) → isMark b ≡ u → after u k (classOf b) ≡ answers (nextKind k (classOf b)) → asked (b ∷ before) ≡ answers (nextKind k (classOf b))
+    by true d n =
+        let e : classOf b ≡ 1 = eqb-true (classOf b) 1 (sym (c .mark) ∙ d) in
+        let w : isVowelKind (nextKind k (classOf b)) ≡ true = rw e in
+        let v : first vowelByte before ≡ true = cc in
+        let a = rw (vowel-adjacent before v) at t in
+        rw d (cc)
+    by false d n = rw d (cc)
 
 -- the rows by kind and class: last, nothing stands after; full, the word has 64 letters
 abbrev faultBy : Bool → Bool → ℕ → ℕ → ℕ
@@ -106,8 +60,8 @@ faultBy last full k c =
     (cond (isLetterClass c && full) 10 0)))))))
 
 -- the walk's fault; then the 65th letter; then a break last
-abbrev pub faultOf : Bool → Bool → ℕ → ℕ → ℕ
-faultOf last full k c = cond (eqb (faultIn k c) 0) (cond (isLetterClass c && full) 10 (cond (isBreakClass c && last) 4 0)) (faultIn k c)
+abbrev faultOf : Bool → Bool → ℕ → ℕ → ℕ
+faultOf last full k c = let f = cond (eqb (faultIn k c) 0) (cond (isLetterClass c && full) 10 0) (faultIn k c) in cond (eqb f 0) (cond (isBreakClass c && last) 4 0) f
 
 -- the two agree
 fault-same : (last full : Bool) (k c : ℕ) → k < 16 → c < 13 → faultBy last full k c ≡ faultOf last full k c
@@ -116,14 +70,6 @@ fault-same true true k c h l = pairs-same (faultBy true true) (faultOf true true
 fault-same true false k c h l = pairs-same (faultBy true false) (faultOf true false) 16 13 k c refl h l
 fault-same false true k c h l = pairs-same (faultBy false true) (faultOf false true) 16 13 k c refl h l
 fault-same false false k c h l = pairs-same (faultBy false false) (faultOf false false) 16 13 k c refl h l
-
--- the fault at a byte, by the kind before it and its class
-pub fault-told : (before : List ℕ) (k b : ℕ) (after : List ℕ) → k < 16 → ByClass b → Told before k
-    → faultAt before b after ≡ faultOf (none after) (eqb (lettersBefore before) 64) k (classOf b)
-unfolding faultAt firstFit rows row3 row4 row5 row6 row7 row8 row9 row10
-fault-told before k b after h c t =
-    rw (or-comm (none after) (first isBreak before), ← or-assoc (none before) (first isBreak before) (none after), t .start, or-comm (isBreakClass k) (none after), t .vowel, t .sign, t .hardSign, t .vowelSigned, c .letter, c .mark, c .break, c .sign, c .consonant, c .vowel)
-    (fault-same (none after) (eqb (lettersBefore before) 64) k (classOf b) h (c .class))
 
 -- a byte without a fault here has no number of the table of steps, and is no 65th letter
 pub here-clear : (m : List ℕ) (i : ℕ) → faultHere m i ≡ 0
@@ -135,11 +81,6 @@ here-clear m i e = by (faultIn (kindAt m i) (classOf (getD m i 0))) (isLetterCla
     by zero true z = absurd (omega arith)
     by zero false z = (refl, refl)
     by (suc f) u z = absurd (omega (arith, rw (ne-eqb (suc f) 0 (λ q. omega arith)) at z))
-
--- and the other way round
-pub clear-here : (m : List ℕ) (i : ℕ) → faultIn (kindAt m i) (classOf (getD m i 0)) ≡ 0 → (isLetterClass (classOf (getD m i 0)) && eqb (lettersAt m i) 64) ≡ false → faultHere m i ≡ 0
-unfolding faultHere
-clear-here m i f l = rw (f, l)
 
 module _ (m : List ℕ) (bytes : (j : ℕ) → getD m j 0 < 256) where
   -- every kind has its row in the table
@@ -167,24 +108,24 @@ module _ (m : List ℕ) (bytes : (j : ℕ) → getD m j 0 < 256) where
   letters-at (suc i) = let c = by-class (getD m i 0) (bytes i) in rw (c .break, c .letter, letters-at i)
 
   -- where no byte before has a fault, the kind tells what the rows ask
-  told-at : (i : ℕ) → ((j : ℕ) → j < i → faultHere m j ≡ 0) → Told (beforeAt m i) (kindAt m i)
-  unfolding kindAt beforeAt
-  told-at zero c = told-none
+  told-at : (i : ℕ) → ((j : ℕ) → j < i → faultHere m j ≡ 0) → asked (beforeAt m i) ≡ answers (kindAt m i)
+  unfolding kindAt beforeAt none first adjacent vowelSign
+  told-at zero c = refl
   told-at (suc i) c =
       told-more (beforeAt m i) (kindAt m i) (getD m i 0) (kind-small i) (by-class (getD m i 0) (bytes i)) (told-at i (λ j l. c j (omega arith))) (here-clear m i (c i (omega arith)) .0)
 
   -- the paper's fault is then the one here, or that of a break last
   fault-paper : (i : ℕ) → ((j : ℕ) → j < i → faultHere m j ≡ 0)
       → faultAt (beforeAt m i) (getD m i 0) (drop (suc i) m) ≡ cond (eqb (faultHere m i) 0) (cond (isBreakClass (classAt m i) && none (drop (suc i) m)) 4 0) (faultHere m i)
-  unfolding faultHere
+  unfolding faultHere faultAt firstFit rows row3 row4 row5 row6 row7 row8 row9 row10
   fault-paper i c =
-      fault-told (beforeAt m i) (kindAt m i) (getD m i 0) (drop (suc i) m) (kind-small i) (by-class (getD m i 0) (bytes i)) (told-at i c)
-      ∙ rw (← letters-at i) (by (faultIn (kindAt m i) (classAt m i)) (isLetterClass (classAt m i) && eqb (lettersAt m i) 64) _)
-    where
-      by : (f : ℕ) (u : Bool) (x : ℕ) → cond (eqb f 0) (cond u 10 x) f ≡ cond (eqb (cond (eqb f 0) (cond u 10 0) f) 0) x (cond (eqb f 0) (cond u 10 0) f)
-      by zero true x = refl
-      by zero false x = refl
-      by (suc f) u x = simp (ne-eqb (suc f) 0 (λ q. omega arith))
+      let x = beforeAt m i in
+      let y = none (drop (suc i) m) in
+      let b = by-class (getD m i 0) (bytes i) in
+      let t = told-at i c in
+      let e : faultAt x (getD m i 0) (drop (suc i) m) ≡ faultBy y (eqb (lettersAt m i) 64) (kindAt m i) (classAt m i) =
+      rw (or-comm y (first isBreak x), ← or-assoc (none x) (first isBreak x) y, or-comm (none x || first isBreak x) y, letters-at i) (cc) in
+      e ∙ fault-same y (eqb (lettersAt m i) 64) (kindAt m i) (classAt m i) (kind-small i) (b .class)
 
   -- so a byte that is passed is clear, but for a break last
   passed : (i : ℕ) → ((j : ℕ) → j < suc i → faultHere m j ≡ 0) → (isBreakClass (classAt m i) && none (drop (suc i) m)) ≡ false → ClearAt m i
@@ -199,26 +140,24 @@ module _ (m : List ℕ) (bytes : (j : ℕ) → getD m j 0 < 256) where
   pub seen-fault : (i n : ℕ) → i < length m → length m ≤ 4096 → ((j : ℕ) → j < i → faultHere m j ≡ 0) → faultHere m i ≡ n → (n ≡ 0 → ⊥) → Refused (refusal n i) ≡ checkOf m
   seen-fault i n h l c e z = sym (first-refused m l i h (λ j q. passed-over j (omega arith) (λ k r. c k (omega arith))) n (fault-paper i c ∙ rw (e, ne-eqb n 0 z)) z)
 
-  -- a break is the only kind that a break leaves
-  kind-break : (i : ℕ) → isBreakClass (kindAt m (suc i)) ≡ isBreakClass (classAt m i)
-  unfolding kindAt
-  kind-break i = let e = next-tests (kindAt m i) (classAt m i) (kind-small i) (by-class (getD m i 0) (bytes i) .class) in cc
-
   -- The whole message, of suc i bytes, is passed.
   module _ (i : ℕ) (size : length m ≡ suc i) (short : length m ≤ 4096) (clear : (j : ℕ) → j < length m → faultHere m j ≡ 0) where
     -- a break last is refused
     pub last-refused : isBreakClass (kindAt m (length m)) ≡ true → checkOf m ≡ Refused (refusal 4 i)
-    unfolding none
+    unfolding none kindAt
     last-refused b =
         let d : drop (suc i) m ≡ [] = rw (← size) (drop-length m) in
-        let k : isBreakClass (classAt m i) ≡ true = sym (kind-break i) ∙ rw size at b in
+        let k : isBreakClass (classAt m i) ≡ true = sym (entry-at i .break) ∙ rw size at b in
         first-refused m short i (omega arith) (λ j q. passed-over j (omega arith) (λ k r. clear k (omega arith))) 4
         (fault-paper i (λ k r. clear k (omega arith)) ∙ rw (clear i (omega arith), k, d)) (omega arith)
 
     -- any other message is accepted
     pub all-accepted : isBreakClass (kindAt m (length m)) ≡ false → checkOf m ≡ Accepted (countsOf m)
-    all-accepted b = passes-accepted m (record { some = omega arith; short = short; rows = λ j h. by j h (eqb j i) refl })
-      where
-        by : (j : ℕ) → j < length m → (t : Bool) → eqb j i ≡ t → ClearAt m j
-        by j h true d = rw (eqb-true j i d) (passed i (λ k r. clear k (omega arith)) (rw (sym (kind-break i) ∙ rw size at b)))
-        by j h false d = passed-over j (omega (arith, eqb-false j i d)) (λ k r. clear k (omega arith))
+    unfolding kindAt
+    all-accepted b = passes-accepted m (record {
+      some = omega arith;
+      short = short;
+      rows = λ j h. ⊎-elim
+          (λ (l : j < i). passed-over j (omega arith) (λ k r. clear k (omega arith)))
+          (λ (l : i ≤ j). let d : j ≡ i = omega arith in rw d (passed i (λ k r. clear k (omega arith)) (rw (sym (entry-at i .break) ∙ rw size at b)))) (below-or j i);
+    })

@@ -1,11 +1,11 @@
 -- All five passes of a word as one recursion over its letters as written, from the right: a letter's codes are settled by the letter before it,
 -- the letters after it as written, and the finished codes after it. Equal to the passes one after the other, because elision changes nothing that
 -- the letters around it go by (Elided.antt), and palatalization does not change whether a sound voices or devoices the one before it.
-use Rattle.laws.proofs.Kit.{ℕ, _≡_, refl, sym, Bool, true, false, cond, _&&_, List, [], _∷_, _++_}
-use Rattle.spec.specs.{Letters.Letter, Letters.paired, Letters.firstByte, Letters.isPaired, Letters.isSign, Letters.isVowel, Letters.isObstruent, Codes.palatalized, Elision.elideFrom, Elision.elide, Syllables.Facts, Syllables.factsOf, Syllables.syllableOf, Syllables.namesFrom, Vowels.Phone, Vowels.glides, Vowels.writtenCode, Vowels.softens, Vowels.vowelPhones, Vowels.phonesOf, Vowels.phonesFrom, Voicing.Tone, Voicing.voiced, Voicing.voiceless, Voicing.asWritten, Voicing.voices, Voicing.toneOf, Voicing.toned, Voicing.codesOf, Voicing.voiceOne, Voicing.voice, Palatalization.isSoft, Palatalization.firstCode, Palatalization.palatalize, Tape.wordTape, Tape.wordNames}
+use Rattle.laws.proofs.Kit.{ℕ, _≡_, refl, ⊎-elim, Bool, true, false, cond, List, [], _∷_, _++_}
+use Rattle.spec.specs.{Letters.Letter, Letters.paired, Letters.firstByte, Letters.isPaired, Letters.isSign, Letters.isVowel, Letters.isObstruent, Codes.palatalized, Elision.elideFrom, Elision.elide, Syllables.Facts, Syllables.factsOf, Syllables.syllableOf, Vowels.Phone, Vowels.glides, Vowels.writtenCode, Vowels.softens, Vowels.vowelPhones, Vowels.phonesOf, Vowels.phonesFrom, Voicing.Tone, Voicing.voiced, Voicing.voiceless, Voicing.asWritten, Voicing.voices, Voicing.toneOf, Voicing.toned, Voicing.codesOf, Voicing.voiceOne, Voicing.voice, Palatalization.isSoft, Palatalization.firstCode, Palatalization.palatalize, Tape.wordTape}
 use Rattle.message.specs.Fused.{toneBefore, vowelCodes, consonantCode, letterCodes, fusedFrom}
-use Rattle.laws.proofs.Classes.{among-same, vowel-quiet, vowel-single}
-use Rattle.message.proofs.{Elided.elide-cases, Elided.soft-elide, Elided.syllable-elide, Elided.phones-free, Elided.names-elide, Computed.everything}
+use Rattle.laws.proofs.Classes.{cond-app, cond-same, yes-or, among-same, vowel-quiet, vowel-single}
+use Rattle.message.proofs.{Elided.elide-cases, Elided.soft-elide, Elided.syllable-elide, Elided.phones-free, Computed.everything}
 
 -- the code of a consonant b after pass 4
 abbrev spoken : Tone → ℕ → ℕ
@@ -21,12 +21,9 @@ tone-kept asWritten b h = among-same (λ x. toneBefore (palatalized (spoken asWr
 -- so a consonant's finished code voices or devoices what its code after pass 4 does
 pub consonant-tone : (b : ℕ) (soft : Bool) (tone : Tone) (c : ℕ) → toneBefore (spoken tone b) ≡ toneBefore (consonantCode b soft tone c)
 unfolding consonantCode isSoft
-consonant-tone b soft tone c = by (isPaired b) refl _
-  where
-    by : (t : Bool) → isPaired b ≡ t → (s : Bool) → toneBefore (spoken tone b) ≡ toneBefore (cond (t && s) (palatalized (spoken tone b)) (spoken tone b))
-    by true h true = sym (tone-kept tone b h)
-    by true h false = refl
-    by false h s = refl
+consonant-tone b soft tone c = ⊎-elim
+    (λ (h : isPaired b ≡ true). rw h (simp (cond-app toneBefore, tone-kept tone b h, cond-same)))
+    (λ (h : isPaired b ≡ false). rw h) (yes-or (isPaired b))
 
 -- passes 4 and 5 make the codes t of the sounds xs, and for an obstruent before them t is as good as the sounds after pass 4
 record Same (next : Bool) (xs : List Phone) (t : List ℕ) : Type 0 where
@@ -66,28 +63,18 @@ letter-sounds hard facts next p l w xs t s =
     (λ v. choose next (glides p (syllableOf facts p l w .cover) (l .byte)) _ _ _ _ xs t (λ _. vowel-sound _ _ _ _ _ v (vowel-sound _ _ _ _ _ v s)) (λ _. vowel-sound _ _ _ _ _ v s))
     (λ _. consonant-sound next (l .byte) (softens (firstByte w)) xs t s))
 
--- the sounds of a letter are the same before the letters that elision leaves
-pub phones-elide : (hard : Bool) (facts : Facts) (p q : ℕ) (l : Letter) (w : List Letter) → phonesOf hard facts p l (elideFrom q w) ≡ phonesOf hard facts p l w
-unfolding phonesOf
-phones-elide hard facts p q l w = rw (syllable-elide facts p q l w, soft-elide q w)
-
 -- and so with the rest of a word after the letter p, elided or not
 rest-fused : (hard : Bool) (facts : Facts) (next : Bool) (p : ℕ) (w : List Letter) → Same next (phonesFrom hard facts p (elideFrom p w)) (fusedFrom hard facts next p w)
-unfolding elideFrom phonesFrom fusedFrom letterCodes voice palatalize toneOf
+unfolding elideFrom phonesFrom phonesOf fusedFrom letterCodes voice palatalize toneOf
 rest-fused hard facts next p [] = record { codes = refl; tone = refl }
 rest-fused hard facts next p (l ∷ w) =
     let t = fusedFrom false facts next (l .byte) w in
     let s = rest-fused false facts next (l .byte) w in
     elide-cases (λ e v. Same next (phonesFrom hard facts p v) (cond e [] (keptCodes hard facts p l w (toneOf next t) (firstCode t)) ++ t)) p l w
     (λ g n. rw (phones-free hard false facts p (l .byte) (elideFrom (l .byte) w) n) s)
-    (rw (phones-elide hard facts p (l .byte) l w) (letter-sounds hard facts next p l w _ t s))
+    (rw (syllable-elide facts p (l .byte) l w, soft-elide (l .byte) w) (letter-sounds hard facts next p l w _ t s))
 
 -- the five passes of a word are the one recursion
 pub word-fused : (hard next : Bool) (w : List Letter) → wordTape hard next w ≡ fusedFrom hard (factsOf w) next 0 w
 unfolding wordTape elide
 word-fused hard next w = rest-fused hard (factsOf w) next 0 w .codes
-
--- elision changes no syllable: only consonants go, and each leaves a consonant before it
-pub names-fused : (w : List Letter) → wordNames w ≡ namesFrom (factsOf w) 0 w
-unfolding wordNames elide
-names-fused w = names-elide (factsOf w) 0 w

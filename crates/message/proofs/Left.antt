@@ -1,7 +1,8 @@
 -- The left context of a place is the letters of the word before it, carried from the left; a letter, a mark and a break each change it in one way, as they change what is read from the place on.
 -- All places of an accepted message are steady: a mark stands right after a vowel.
-use Rattle.laws.proofs.Kit.{ℕ, zero, suc, _<_, _≡_, refl, sym, ap, _∙_, Bool, true, false, cond, _&&_, _||_, not, List, [], _∷_, leb, length, getD, drop, List·getD-eq-default, drop-cons, drop-length, eqb-true, leb-true, leb-false, arith}
+use Rattle.laws.proofs.Kit.{ℕ, zero, suc, _<_, _≡_, refl, sym, ap, _∙_, ⊎-elim, Bool, true, false, true≢false, false≢true, cond, _&&_, _||_, not, List, [], _∷_, length, getD, drop, List·getD-eq-default, drop-cons, drop-length, eqb-true}
 use Rattle.spec.specs.{Alphabet.mark, Letters.Letter, Letters.Message, Letters.last, Letters.more, Letters.putLetter, Letters.read, Letters.firstWord, Letters.small, Letters.isMark, Letters.isBreak, Letters.isGap, Letters.beginsWithMark, Syllables.hasMark, Vowels.hardEnd, Refusals.vowelByte}
+use Rattle.laws.proofs.Classes.{refuted, below-or}
 use Rattle.message.specs.Places.{Left, stepLeft, leftAt, markFrom, letterOf, Steady}
 
 -- a mark is no break
@@ -82,9 +83,5 @@ read-end m = rw (drop-length m)
 -- no mark stands after a byte that is no vowel
 pub unmarked-after : (m : List ℕ) → Steady m → (i : ℕ) → vowelByte (getD m i 0) ≡ false → isMark (getD m (suc i) 0) ≡ false
 unfolding isMark
-unmarked-after m steady i v = by (leb (suc (suc i)) (length m)) refl (isMark (getD m (suc i) 0)) refl
-  where
-    by : (t : Bool) → leb (suc (suc i)) (length m) ≡ t → (k : Bool) → isMark (getD m (suc i) 0) ≡ k → k ≡ false
-    by true d true e = sym (steady .marks i (leb-true _ _ d) e) ∙ v
-    by true d false e = refl
-    by false d k e = let o = leb-false (suc (suc i)) (length m) d in sym e ∙ ap isMark (List·getD-eq-default m 0 (omega arith))
+unmarked-after m steady i v = refuted _ (λ k. ⊎-elim
+    (λ h. true≢false (sym (steady .marks i h k) ∙ v)) (λ o. false≢true (sym (ap isMark (List·getD-eq-default m 0 o)) ∙ k)) (below-or (suc i) (length m)))

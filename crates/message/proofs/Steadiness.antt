@@ -1,7 +1,7 @@
 -- An accepted message is steady: each of its bytes has a class, and a mark stands right after a vowel.
-use Rattle.laws.proofs.Kit.{ℕ, suc, _<_, _≡_, refl, sym, _∙_, Bool, true, false, _&&_, not, false≢true, List, [], getD, drop}
+use Rattle.laws.proofs.Kit.{ℕ, suc, _<_, _≡_, sym, _∙_, ⊎-elim, true, false, true≢false, false≢true, List, [], getD, drop}
 use Rattle.spec.specs.{Letters.isMark, Refusals.vowelByte, Refusals.first, Refusals.row3, Refusals.row5, Refusals.rows, Refusals.fitsIn, Refusals.beforeAt, Refusals.checkOf, declared.Counts.Counts, declared.Checked.the-variants.Accepted}
-use Rattle.laws.proofs.Accepted.{Clear, accepted-passes}
+use Rattle.laws.proofs.{Accepted.Clear, Accepted.accepted-passes, Classes.yes-or, Classes.refuted}
 use Rattle.message.specs.{Classes.classOf, Places.Steady}
 use Rattle.message.proofs.Bytes.{ByClass, by-class}
 
@@ -13,11 +13,7 @@ clear-named before b after k c e = false≢true (sym (c 3) ∙ rw (k .letter, k 
 -- a clear mark stands right after a vowel
 clear-mark : (before : List ℕ) (b : ℕ) (after : List ℕ) → Clear before b after → isMark b ≡ true → first vowelByte before ≡ true
 unfolding fitsIn rows row5
-clear-mark before b after c e = by (first vowelByte before) (rw e at (c 5))
-  where
-    by : (t : Bool) → (true && not t) ≡ false → t ≡ true
-    by true h = refl
-    by false h = sym h
+clear-mark before b after c e = ⊎-elim (λ v. v) (λ (v : first vowelByte before ≡ false). absurd (true≢false (rw (e, v) at (c 5)))) (yes-or (first vowelByte before))
 
 -- an accepted message is steady
 pub accepted-steady : (m : List ℕ) (counts : Counts) → checkOf m ≡ Accepted counts → ((i : ℕ) → getD m i 0 < 256) → Steady m
@@ -28,9 +24,5 @@ accepted-steady m counts e bytes =
       bytes = bytes;
       named = λ i h. clear-named (beforeAt m i) (getD m i 0) (drop (suc i) m) (by-class (getD m i 0) (bytes i)) (p .rows i h);
       marks = λ i h. clear-mark (beforeAt m (suc i)) (getD m (suc i) 0) (drop (suc (suc i)) m) (p .rows (suc i) h);
-      first = by (isMark (getD m 0 0)) (clear-mark [] (getD m 0 0) (drop 1 m) (p .rows 0 (p .some)));
+      first = refuted _ (λ k. false≢true (clear-mark [] (getD m 0 0) (drop 1 m) (p .rows 0 (p .some)) k));
     }
-  where
-    by : (t : Bool) → (t ≡ true → false ≡ true) → t ≡ false
-    by true h = sym (h refl)
-    by false h = refl

@@ -1,9 +1,9 @@
 -- The check's tables by their rules: each entry is what specs/Steps.antt says, by one computation over all of them.
-use Rattle.laws.proofs.Kit.{ℕ, zero, suc, _+_, _-_, _*_, _/_, _%_, _<_, _≤_, _≡_, refl, sym, ap, _∙_, Bool, true, false, cond, _&&_, _||_, not, and-false, false≢true, List, [], _∷_, map, arith, eqb, leb, getD, eqb-true, eqb-false, leb-true, ne-eqb}
-use Rattle.spec.specs.{Alphabet.«д», Alphabet.«з», Alphabet.«н», Alphabet.«р», Alphabet.«с», Alphabet.«т», Tables.among, Letters.small, Elision.elidesT, Elision.elidesD, Elision.elidesAmong}
-use Rattle.message.specs.{Classes.classOf, Classes.classAt, Classes.tabulate, Classes.classes, Classes.letterAt, Classes.letterBefore, Classes.elidedAt, Classes.silentAt, Steps.nextKind, Steps.faultIn, Steps.widthIn, Steps.namesIn, Steps.askIn, Steps.stopIn, Steps.packed, Steps.pairs, Steps.kindAt, Steps.widthAt, Steps.nameUnit, Steps.askUnit, Steps.stopUnit}
-use Rattle.message.proofs.{Bytes.below, Bytes.pairs-same, Bytes.by-class, Bytes.not-both, Computed.everything}
-use Rattle.laws.proofs.Classes.{among-none}
+use Rattle.laws.proofs.Kit.{ℕ, zero, suc, _+_, _-_, _*_, _/_, _%_, _<_, _≤_, _≡_, refl, ap, _∙_, ⊎-elim, true, false, cond, not, and-false, List, [], _∷_, map, arith, eqb, leb, getD, eqb-true, eqb-false, leb-true, ne-eqb}
+use Rattle.spec.specs.{Alphabet.«з», Alphabet.«н», Alphabet.«р», Alphabet.«с», Tables.among, Letters.small, Elision.elidesT, Elision.elidesD, Elision.elidesAmong}
+use Rattle.message.specs.{Classes.classOf, Classes.classAt, Classes.isBreakClass, Classes.isConsonantClass, Classes.isSignClass, Classes.tabulate, Classes.classes, Classes.letterAt, Classes.letterBefore, Classes.elidedAt, Classes.silentAt, Steps.isSignKind, Steps.nextKind, Steps.faultIn, Steps.widthIn, Steps.namesIn, Steps.askIn, Steps.stopIn, Steps.packed, Steps.pairs, Steps.kindAt, Steps.widthAt, Steps.nameUnit, Steps.askUnit, Steps.stopUnit}
+use Rattle.message.proofs.{Bytes.below, Bytes.pairs-same, Bytes.by-class, Bytes.not-both, Elided.other-stays, Elided.only-where, Computed.everything}
+use Rattle.laws.proofs.Classes.{among-none, yes-or}
 
 -- past the start, the letter before place i is the one at i - 1
 pub before-at : (m : List ℕ) (i : ℕ) → (i ≡ 0 → ⊥) → letterAt m (i - 1) ≡ letterBefore m i
@@ -12,14 +12,8 @@ before-at m i h = let e : suc (i - 1) ≡ i = omega arith in ap (letterBefore m)
 
 -- a byte of another class than т and д is not elided
 pub class-spoken : (m : List ℕ) (i : ℕ) → getD m i 0 < 256 → (classOf (getD m i 0) ≡ 8 → ⊥) → elidedAt m i ≡ false
-unfolding elidedAt elidesAmong letterAt
-class-spoken m i h n =
-    by (eqb (small (getD m i 0)) «т») (eqb (small (getD m i 0)) «д») _ _ (by-class (getD m i 0) h .silent ∙ ne-eqb (classOf (getD m i 0)) 8 n)
-  where
-    by : (t d x y : Bool) → (t || d) ≡ false → (t && x || d && y) ≡ false
-    by true d x y e = absurd (false≢true (sym e))
-    by false true x y e = absurd (false≢true (sym e))
-    by false false x y e = refl
+unfolding elidedAt letterAt
+class-spoken m i h n = other-stays _ (small (getD m i 0)) _ _ (by-class (getD m i 0) h .silent ∙ ne-eqb (classOf (getD m i 0)) 8 n)
 
 -- the letters after which т and д are elided
 abbrev beforeSilent : List ℕ
@@ -58,15 +52,6 @@ class-read t b e h =
     let z : 0 + b ≡ b = omega arith in
     rw (e, tabulate-at classOf 0 256 b h, z)
 
--- the table of pairs has a row of 16 classes for each kind
-pub pairs-read : (t : List ℕ) (k c : ℕ) → t ≡ pairs → k < 16 → c < 16 → getD t (16 * k + c) 0 ≡ packed k c
-unfolding pairs
-pairs-read t k c e h l =
-    let f : ℕ → ℕ = λ j. packed (j / 16) (j % 16) in
-    let q : (0 + (16 * k + c)) / 16 ≡ k = omega arith in
-    let r : (0 + (16 * k + c)) % 16 ≡ c = omega arith in
-    rw (e, tabulate-at f 0 256 (16 * k + c) (omega arith), q, r)
-
 -- How large the parts of an entry are. A stop is 1 and the fault, and where there is none the class is the next kind.
 pub record Entry (k c : ℕ) : Type 0 where
   pub width : widthIn k c ≤ 2
@@ -76,6 +61,9 @@ pub record Entry (k c : ℕ) : Type 0 where
   pub next : nextKind k c < 16
   pub fault : faultIn k c ≡ stopIn k c - 1
   pub plain : stopIn k c ≡ 0 → nextKind k c ≡ c
+  pub break : isBreakClass (nextKind k c) ≡ isBreakClass c
+  pub consonant : isConsonantClass (nextKind k c) ≡ isConsonantClass c
+  pub sign : isSignKind (nextKind k c) ≡ isSignClass c
 
 -- every entry that is read is so, by one computation each
 pub entry-holds : (k c : ℕ) → k < 16 → c < 13 → Entry k c
@@ -88,6 +76,9 @@ entry-holds k c h l = record {
   next = omega (arith, most nextKind 15 refl);
   fault = pairs-same faultIn (λ x y. stopIn x y - 1) 16 13 k c refl h l;
   plain = λ e. rw e at (pairs-same (λ x y. cond (eqb (stopIn x y) 0) (nextKind x y) y) (λ x y. y) 16 13 k c refl h l);
+  break = pairs-same (λ x y. isBreakClass (nextKind x y)) (λ x y. isBreakClass y) 16 13 k c refl h l;
+  consonant = pairs-same (λ x y. isConsonantClass (nextKind x y)) (λ x y. isConsonantClass y) 16 13 k c refl h l;
+  sign = pairs-same (λ x y. isSignKind (nextKind x y)) (λ x y. isSignClass y) 16 13 k c refl h l;
 }
   where
     most : (f : ℕ → ℕ → ℕ) (n : ℕ) → map (λ x. map (λ y. leb (f x y) n) (below 13)) (below 16) ≡ map (λ x. map (λ y. true) (below 13)) (below 16) → f k c ≤ n
@@ -110,15 +101,22 @@ unpacks k c e = record {
   small = omega (arith, e .width, e .names, e .ask, e .stop);
 }
 
+-- the table of pairs has a row of 16 classes for each kind, and its entries are small
+pub pairs-read : (t : List ℕ) (k c : ℕ) → t ≡ pairs → k < 16 → c < 13 → (16 * k + c < 256) × (getD t (16 * k + c) 0 ≡ packed k c) × (packed k c < 32 * stopUnit)
+unfolding pairs
+pairs-read t k c e h l =
+    let f : ℕ → ℕ = λ j. packed (j / 16) (j % 16) in
+    let q : (0 + (16 * k + c)) / 16 ≡ k = omega arith in
+    let r : (0 + (16 * k + c)) % 16 ≡ c = omega arith in
+    (omega arith, rw (e, tabulate-at f 0 256 (16 * k + c) (omega arith), q, r), unpacks k c (entry-holds k c h l) .small)
+
 -- Only a letter that may be elided is, and it makes one code: so a byte asks where it loses a code, and the codes it makes and the one it loses are those of its class.
 pub silent-asks : (m : List ℕ) (i : ℕ) → ((j : ℕ) → getD m j 0 < 256)
     → (silentAt m i ≤ askIn (kindAt m i) (classAt m i)) × (widthAt m i (kindAt m i) + silentAt m i ≡ widthIn (kindAt m i) (classAt m i))
 unfolding askIn widthIn widthAt kindAt nextKind
-silent-asks m i bytes = by (elidedAt m i) refl (eqb (kindAt m i) 7) refl (eqb (classAt m i) 8) refl
-  where
-    by : (e : Bool) → elidedAt m i ≡ e → (t : Bool) → eqb (kindAt m i) 7 ≡ t → (u : Bool) → eqb (classAt m i) 8 ≡ u
-        → (cond e 1 0 ≤ askIn (kindAt m i) (classAt m i)) × (cond e 0 (widthIn (kindAt m i) (classAt m i)) + cond e 1 0 ≡ widthIn (kindAt m i) (classAt m i))
-    by true e true d true q = rw (eqb-true (kindAt m i) 7 d, eqb-true (classAt m i) 8 q) (omega arith, omega arith)
-    by true e true d false q = absurd (false≢true (sym (class-spoken m i (bytes i) (eqb-false (classAt m i) 8 q)) ∙ e))
-    by true e false d u z = absurd (false≢true (sym (before-spoken m i bytes (λ j q k. eqb-false (kindAt m i) 7 d (rw (q, k)))) ∙ e))
-    by false e t d u q = (omega arith, omega arith)
+silent-asks m i bytes = ⊎-elim
+    (λ (e : elidedAt m i ≡ true).
+    let c = eqb-true (classAt m i) 8 (only-where _ _ (λ q. class-spoken m i (bytes i) (eqb-false (classAt m i) 8 q)) e) in
+    let k = eqb-true (kindAt m i) 7 (only-where _ _ (λ q. before-spoken m i bytes (λ j z y. eqb-false (kindAt m i) 7 q (rw (z, y)))) e) in
+    rw (e, k, c) (omega arith, omega arith))
+    (λ (e : elidedAt m i ≡ false). rw e (omega arith, omega arith)) (yes-or (elidedAt m i))

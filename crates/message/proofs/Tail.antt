@@ -1,21 +1,25 @@
 -- The tape and the names from a place on: what the byte there puts before what comes after it. A place's tape is what the walk from the right has written when it stands there.
-use Rattle.laws.proofs.Kit.{ℕ, suc, _<_, _≡_, refl, sym, ap, Bool, true, false, cond, _&&_, or-assoc, or-comm, or-false, List, [], _∷_, _++_, append-assoc, append-nil, length, getD, drop, drop-cons, drop-length}
-use Rattle.spec.specs.{Letters.Letter, Letters.Message, Letters.last, Letters.more, Letters.putLetter, Letters.read, Letters.firstWord, Letters.isMark, Letters.isBreak, Letters.isGap, Letters.isVowel, Codes.markOf, Codes.isVoicing, Syllables.Facts, Syllables.factsOf, Syllables.hasMark, Syllables.namesFrom, Syllables.incomplete, Syllables.nameOf, Syllables.syllableOf, Vowels.endsHardFrom, Vowels.endsHard, Vowels.hardEnd, Voicing.voiced, Voicing.voiceless, Voicing.voices, Voicing.toneOf, Palatalization.firstCode, Tape.segment, Tape.tape, Tape.namesOf, Tape.names, Refusals.vowelByte}
-use Rattle.message.proofs.{Bytes.vowel-break, Bytes.vowel-mark, Fused.word-fused, Fused.names-fused, Left.mark-within, Left.word-put, Left.afterLetter, Left.begins-at, Left.mark-first, Left.read-letter, Left.read-mark, Left.read-break, Left.read-end, Left.left-letter, Left.left-mark, Left.left-break, Left.unmarked-after}
-use Rattle.laws.proofs.{Classes.break-vowel, Stretch.voices-over, Stretch.voices-first}
+use Rattle.laws.proofs.Kit.{ℕ, suc, _<_, _≡_, refl, sym, ap, ⊎-elim, Bool, true, false, cond, _&&_, or-assoc, or-comm, or-false, List, [], _∷_, _++_, append-assoc, append-nil, length, getD, drop, drop-cons, drop-length}
+use Rattle.spec.specs.{Elision.elide, Letters.Letter, Letters.Message, Letters.last, Letters.more, Letters.putLetter, Letters.read, Letters.firstWord, Letters.isMark, Letters.isBreak, Letters.isGap, Letters.isVowel, Codes.markOf, Codes.isVoicing, Syllables.Facts, Syllables.factsOf, Syllables.hasMark, Syllables.namesFrom, Syllables.incomplete, Syllables.nameOf, Syllables.syllableOf, Vowels.endsHardFrom, Vowels.endsHard, Voicing.voiced, Voicing.voiceless, Voicing.voices, Voicing.toneOf, Palatalization.firstCode, Tape.segment, Tape.tape, Tape.namesOf, Tape.names, Tape.wordNames, Refusals.vowelByte}
+use Rattle.message.proofs.{Bytes.vowel-break, Bytes.vowel-mark, Fused.word-fused, Elided.names-elide, Left.mark-within, Left.word-put, Left.afterLetter, Left.begins-at, Left.mark-first, Left.read-letter, Left.read-mark, Left.read-break, Left.read-end, Left.left-letter, Left.left-mark, Left.left-break, Left.unmarked-after}
+use Rattle.laws.proofs.{Classes.cond-app, Classes.yes-or, Classes.break-vowel, Stretch.voices-over, Stretch.voices-first}
 use Rattle.message.specs.{Fused.toneBefore, Fused.letterCodes, Fused.fusedFrom, Places.Left, Places.leftAt, Places.markBefore, Places.markFrom, Places.markedAt, Places.factsAt, Places.tailTape, Places.tailNext, Places.tailWord, Places.tapeAt, Places.wordAt, Places.toneAt, Places.soundAt, Places.letterOf, Places.codesAt, Places.toneAfter, Places.soundAfter, Places.tailNamesOf, Places.namesAt, Places.Steady}
 
--- at the start of a word its stretch is the tape of what follows
-pub start-tape : (hard : Bool) (r : Message) → segment hard false r ≡ tailTape (record { p = 0; q = 0; hard = hard }) (factsOf (firstWord r)) r
+-- the left context at the start of a word
+abbrev start : Bool → Left
+start hard = record { p = 0; q = 0; hard = hard }
+
+-- there its stretch is the tape of what follows
+start-tape : (hard : Bool) (r : Message) → segment hard false r ≡ tailTape (start hard) (factsOf (firstWord r)) r
 unfolding segment tailTape firstWord endsHard
 start-tape hard (last w) = word-fused hard false w
 start-tape hard (more w x r) = rw (word-fused hard _ w)
 
 -- and so with its names
-pub start-names : (hard : Bool) (r : Message) → namesOf r ≡ tailNamesOf (record { p = 0; q = 0; hard = hard }) (factsOf (firstWord r)) r
-unfolding namesOf tailNamesOf firstWord
-start-names hard (last w) = names-fused w
-start-names hard (more w x r) = rw (names-fused w)
+start-names : (hard : Bool) (r : Message) → namesOf r ≡ tailNamesOf (start hard) (factsOf (firstWord r)) r
+unfolding namesOf wordNames elide tailNamesOf firstWord
+start-names hard (last w) = names-elide (factsOf w) 0 w
+start-names hard (more w x r) = rw (names-elide (factsOf w) 0 w)
 
 -- what stands after the rest of a word
 unfoldable pub tailRest : Left → Message → List ℕ
@@ -33,11 +37,6 @@ pub codes-append : (next : Bool) (cs t : List ℕ) → (toneOf next (cs ++ t) �
 unfolding toneOf voices toneBefore firstCode
 codes-append next [] t = (refl, refl)
 codes-append next (c ∷ cs) t = (refl, refl)
-
--- a choice of lists before another
-pub cond-append : (t : Bool) (x y z : List ℕ) → cond t x y ++ z ≡ cond t (x ++ z) (y ++ z)
-cond-append true x y z = refl
-cond-append false x y z = refl
 
 module _ (l : Left) (facts : Facts) (x : Letter) where
   -- the left context after the letter x
@@ -59,13 +58,10 @@ module _ (l : Left) (facts : Facts) (x : Letter) where
   unfolding tailWord fusedFrom
   put-word r = rw (word-put x r, put-after r .0)
 
-  -- so they tell its tone
-  pub put-tone : (r : Message) → toneOf (tailNext l (putLetter x r)) (tailWord l facts (putLetter x r)) ≡ toneAfter (putCodes r) (toneOf (tailNext after r) (tailWord after facts r))
-  put-tone r = rw (put-after r .0, put-word r) (codes-append (tailNext after r) (putCodes r) (tailWord after facts r) .0)
-
-  -- and its first sound
-  pub put-sound : (r : Message) → firstCode (tailWord l facts (putLetter x r)) ≡ soundAfter (putCodes r) (firstCode (tailWord after facts r))
-  put-sound r = rw (put-word r) (codes-append (tailNext after r) (putCodes r) (tailWord after facts r) .1)
+  -- so they tell its tone and its first sound
+  pub put-heard : (r : Message) → let t = tailWord after facts r in
+      (toneOf (tailNext l (putLetter x r)) (tailWord l facts (putLetter x r)) ≡ toneAfter (putCodes r) (toneOf (tailNext after r) t)) × (firstCode (tailWord l facts (putLetter x r)) ≡ soundAfter (putCodes r) (firstCode t))
+  put-heard r = rw (put-after r .0, put-word r) (codes-append (tailNext after r) (putCodes r) (tailWord after facts r))
 
   -- and stand before the rest's tape
   pub put-tape : (r : Message) → tailTape l facts (putLetter x r) ≡ putCodes r ++ tailTape after facts r
@@ -76,7 +72,7 @@ module _ (l : Left) (facts : Facts) (x : Letter) where
       → tailNamesOf l facts (putLetter x r) ≡ cond (isVowel (x .byte)) (nameOf (syllableOf facts (l .p) x (firstWord r)) ∷ tailNamesOf after facts r) (tailNamesOf after facts r)
   unfolding tailNamesOf namesFrom putLetter firstWord
   put-names (last w) = refl
-  put-names (more w y r) = cond-append (isVowel (x .byte)) _ (namesFrom facts (x .byte) w) (namesOf r)
+  put-names (more w y r) = cond-app (λ t. t ++ namesOf r) (isVowel (x .byte)) _ (namesFrom facts (x .byte) w)
 
 -- what stands after a word voices nothing in it, being a mark or nothing
 voices-word : (l : Left) (cs : List ℕ) (r : Message) → voices (cs ++ tailRest l r) ≡ voices cs
@@ -84,14 +80,11 @@ unfolding tailRest
 voices-word l cs (last w) = rw append-nil
 voices-word l cs (more w x r) = voices-over cs (segment (isGap x && endsHardFrom (l .q) (l .p) w) false r) x
 
--- the tone before a break is told by the first sound of the word after it
-pub break-tone : (l : Left) (facts : Facts) (x : ℕ) (r : Message)
-    → toneOf (tailNext l (more [] x r)) (tailWord l facts (more [] x r))
-    ≡ cond (isGap x && isVoicing (firstCode (tailWord (record { p = 0; q = 0; hard = isGap x && hardEnd (l .q) (l .p) }) (factsOf (firstWord r)) r))) voiced voiceless
-unfolding toneOf tailNext tailWord fusedFrom firstWord endsHardFrom
-break-tone l facts x r =
-    let s : Left = record { p = 0; q = 0; hard = isGap x && hardEnd (l .q) (l .p) } in
-    rw (start-tape (s .hard) r, word-rest s (factsOf (firstWord r)) r, voices-word s (tailWord s (factsOf (firstWord r)) r) r, voices-first (tailWord s (factsOf (firstWord r)) r))
+-- so a stretch voices as the first sound of its first word does
+voices-start : (hard : Bool) (r : Message) → voices (segment hard false r) ≡ isVoicing (firstCode (tailWord (start hard) (factsOf (firstWord r)) r))
+voices-start hard r =
+    let w = tailWord (start hard) (factsOf (firstWord r)) r in
+    rw (start-tape hard r, word-rest (start hard) (factsOf (firstWord r)) r, voices-word (start hard) w r) (voices-first w)
 
 module _ (m : List ℕ) (steady : Steady m) where
   -- a letter is the first one of the word from its place on
@@ -168,13 +161,13 @@ module _ (m : List ℕ) (steady : Steady m) where
   pub tone-letter : (i : ℕ) → i < length m → isBreak (getD m i 0) ≡ false → isMark (getD m i 0) ≡ false
       → toneAt m i ≡ toneAfter (codesAt m i) (toneAt m (suc i))
   unfolding toneAt soundAt codesAt wordAt
-  tone-letter i h b k = rw (← marked-within i h b, left-letter m i h b k, read-letter m i h b k) (put-tone (leftAt m i) (factsAt m i) (letterOf m i) (read (drop (suc i) m)))
+  tone-letter i h b k = rw (← marked-within i h b, left-letter m i h b k, read-letter m i h b k) (put-heard (leftAt m i) (factsAt m i) (letterOf m i) (read (drop (suc i) m)) .0)
 
   -- the first sound then
   pub sound-letter : (i : ℕ) → i < length m → isBreak (getD m i 0) ≡ false → isMark (getD m i 0) ≡ false
       → soundAt m i ≡ soundAfter (codesAt m i) (soundAt m (suc i))
   unfolding toneAt soundAt codesAt wordAt
-  sound-letter i h b k = rw (← marked-within i h b, left-letter m i h b k, read-letter m i h b k) (put-sound (leftAt m i) (factsAt m i) (letterOf m i) (read (drop (suc i) m)))
+  sound-letter i h b k = rw (← marked-within i h b, left-letter m i h b k, read-letter m i h b k) (put-heard (leftAt m i) (factsAt m i) (letterOf m i) (read (drop (suc i) m)) .1)
 
   -- a mark changes no tone
   pub tone-mark : (i : ℕ) → i < length m → isMark (getD m i 0) ≡ true → toneAt m i ≡ toneAt m (suc i)
@@ -188,8 +181,8 @@ module _ (m : List ℕ) (steady : Steady m) where
 
   -- before a break the tone is told by the first sound after it
   pub tone-break : (i : ℕ) → i < length m → isBreak (getD m i 0) ≡ true → toneAt m i ≡ cond (isGap (getD m i 0) && isVoicing (soundAt m (suc i))) voiced voiceless
-  unfolding toneAt soundAt wordAt
-  tone-break i h b = rw (read-break m i h b, left-break m i h b, marked-after i b) (break-tone (leftAt m i) (factsAt m i) (getD m i 0) (read (drop (suc i) m)))
+  unfolding toneAt soundAt wordAt toneOf tailNext tailWord fusedFrom firstWord endsHardFrom
+  tone-break i h b = rw (read-break m i h b, left-break m i h b, marked-after i b, voices-start)
 
   -- and the word has no sound left
   pub sound-break : (i : ℕ) → i < length m → isBreak (getD m i 0) ≡ true → soundAt m i ≡ 0
@@ -230,11 +223,8 @@ module _ (m : List ℕ) (steady : Steady m) where
   -- a byte that is neither a vowel nor a break names nothing
   pub names-other : (i : ℕ) → i < length m → isBreak (getD m i 0) ≡ false → vowelByte (getD m i 0) ≡ false → namesAt m i ≡ namesAt m (suc i)
   unfolding namesAt
-  names-other i h b v = by (isMark (getD m i 0)) refl
-    where
-      by : (k : Bool) → isMark (getD m i 0) ≡ k → namesAt m i ≡ namesAt m (suc i)
-      by true k = rw (← marked-within i h b, left-mark m i h k, read-mark m i h k)
-      by false k = rw v at (names-letter i h b k)
+  names-other i h b v =
+      ⊎-elim (λ k. rw (← marked-within i h b, left-mark m i h k, read-mark m i h k)) (λ k. rw v at (names-letter i h b k)) (yes-or (isMark (getD m i 0)))
 
   -- at a break an incomplete syllable is named
   pub names-break : (i : ℕ) → i < length m → isBreak (getD m i 0) ≡ true → namesAt m i ≡ incomplete (leftAt m i .p) ++ namesAt m (suc i)

@@ -69,7 +69,7 @@ elidedAt m i = elidesAmong (letterBefore m i) (letterAt m i) (letterAt m (i + 1)
 
 -- the letters before which one may be elided
 abbrev pub followsElided : ℕ → Bool
-followsElided c = eqb c «н» || (eqb c «с» || (eqb c «ц» || (eqb c «ч» || eqb c «ш»)))
+followsElided c = eqb c «с» || (eqb c «н» || (eqb c «ч» || (eqb c «ц» || eqb c «ш»)))
 
 -- the bytes of т and д
 abbrev pub isTOrD : ℕ → Bool

@@ -115,10 +115,11 @@ faultHere m i =
     let f = faultIn (kindAt m i) c in
     cond (eqb f 0) (cond (isLetterClass c && eqb (lettersAt m i) 64) 10 0) f
 
--- What the check has seen is true: the message is of bytes, no byte before its place has a fault, its kind is the one there, and its sum has the codes and the names of the bytes before. Its limit is as many places
+-- What the check has seen is true: the message is of bytes, and not too many, no byte before its place has a fault, its kind is the one there, and its sum has the codes and the names of the bytes before. Its limit is as many places
 -- after `from` as the word lacks letters there to have 64, so before it no letter is a 65th.
 pub record Sees (m : List ℕ) (s : Seen) : Type 0 where
   pub bytes : (j : ℕ) → getD m j 0 < 256
+  pub short : length m ≤ 4096
   pub within : s .at ≤ length m
   pub clear : (j : ℕ) → j < s .at → faultHere m j ≡ 0
   pub kind : s .kind ≡ kindAt m (s .at)
@@ -152,13 +153,12 @@ pub record Weighs (m : List ℕ) (i x : ℕ) : Type 0 where
 
 -- four bytes from any place before r are among the first n
 abbrev pub FoursTo : ℕ → ℕ → Type 0
-FoursTo r n = (i : ℕ) → i < r → i + 4 ≤ n
+FoursTo r n = r ≤ n - 3
 
 -- The check may go on from what it has seen, by fours that begin before place `to`.
 pub record Goes (m t s : List ℕ) (seen : Seen) (to : ℕ) : Type 0 where
   pub tables : Tables t s
   pub sees : Sees m seen
-  pub short : length m ≤ 4096
   pub bytes : FoursTo to (length m)
   pub room : FoursTo to (seen .limit)
 
@@ -166,7 +166,7 @@ pub record Goes (m t s : List ℕ) (seen : Seen) (to : ℕ) : Type 0 where
 pub record Counted (m : List ℕ) (i : ℕ) (s : Seen) : Type 0 where
   pub sees : Sees m s
   pub place : s .at ≡ i
-  pub full : s .limit ≤ i → lettersAt m i ≡ 64
+  pub full : s .limit ≤ s .at → lettersAt m (s .at) ≡ 64
 
 -- The check begins: there is a byte, and not too many.
 pub record Begins (m t s : List ℕ) : Type 0 where
@@ -178,7 +178,6 @@ pub record Begins (m t s : List ℕ) : Type 0 where
 pub record Stands (m t s : List ℕ) (seen : Seen) : Type 0 where
   pub tables : Tables t s
   pub sees : Sees m seen
-  pub short : length m ≤ 4096
   pub byte : seen .at < length m
 
 -- What a step gives is true: its byte's fault, or what is seen further on.

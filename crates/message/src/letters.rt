@@ -3,7 +3,7 @@ ghost use mathlib.Core.Path.{_≡_};
 ghost use Prim.Native.Nat.{_<_};
 ghost use lib.ListN.{length};
 ghost use Rattle.spec.specs.Letters.{small};
-ghost use Rattle.spec.specs.Elision.{elidesT, elidesD, elidesAmong};
+ghost use Rattle.spec.specs.Elision.{elidesAmong};
 ghost use Rattle.message.specs.Classes.{letterAt, elidedAt, followsElided, foldOf, isTOrD};
 use crate::alphabet::CAPITAL_DE;
 use crate::alphabet::CAPITAL_IO;
@@ -42,37 +42,25 @@ pub fn letter_at(m: &[u8], i: usize) -> u8
     if i < m.len() { small_letter(m[i]) } else { 0 }
 }
 
-// т after p and before c and d: after с before ск or н; after н before ск.
-fn elides_t(p: u8, c: u8, d: u8) -> bool
-    ensures { λ r. ⌜ r ≡ elidesT p c d ⌝ }
-{
-    (p == ES) & ((c == ES) & (d == KA) | (c == EN)) | (p == EN) & ((c == ES) & (d == KA))
-}
-
-// д after p and before c and d: after р before ч or ц; after з before н or ц; after н before ц, с or шт.
-fn elides_d(p: u8, c: u8, d: u8) -> bool
-    ensures { λ r. ⌜ r ≡ elidesD p c d ⌝ }
-{
-    (p == ER) & ((c == CHE) | (c == TSE))
-        | ((p == ZE) & ((c == EN) | (c == TSE))
-            | (p == EN) & ((c == TSE) | ((c == ES) | (c == SHA) & (d == TE))))
-}
-
-// Is the letter b silent between these letters, 0 for none?
+// Is the letter b silent between these letters, 0 for none? т after с before ск or н, and after н before ск; д after р before ч or ц, after з before н or ц, and after н before ц, с or шт.
 fn elides(p: u8, b: u8, c: u8, d: u8) -> bool
     ensures { λ r. ⌜ r ≡ elidesAmong p b c d ⌝ }
 {
     if b == TE {
-        return elides_t(p, c, d);
+        return (p == ES) & ((c == ES) & (d == KA) | (c == EN))
+            | (p == EN) & ((c == ES) & (d == KA));
     }
-    (b == DE) & elides_d(p, c, d)
+    (b == DE)
+        & ((p == ER) & ((c == CHE) | (c == TSE))
+            | ((p == ZE) & ((c == EN) | (c == TSE))
+                | (p == EN) & ((c == TSE) | ((c == ES) | (c == SHA) & (d == TE)))))
 }
 
 // May a silent letter stand before this one? Before most it may not, and then nothing else is asked.
 fn follows_elided(c: u8) -> bool
     ensures { λ r. ⌜ r ≡ followsElided c ⌝ }
 {
-    (c == EN) | ((c == ES) | ((c == TSE) | ((c == CHE) | (c == SHA))))
+    (c == ES) | ((c == EN) | ((c == CHE) | ((c == TSE) | (c == SHA))))
 }
 
 // The letter of a byte as the rules of silent letters need it: what is no letter from а to я, small or capital, is 0.

@@ -37,29 +37,15 @@ abbrev μ-loop : tie.MeasureT-loop
 here : (k : tie.After-class-of Inv-loop μ-loop) → let l = k .before .before .before in Over (l .before .before .args .m .now) (l .loop .j) (k .class-of .result)
 here k = over _ _ _ (k .class-of .ensures) (omega (arith, k .before .before .loop-test .taken))
 
-returns-2 : tie.Need-returns-2 Inv-loop μ-loop
-returns-2 c = let l = c .before .before in
-    let s = l .before .before in
-    let e : l .loop .j ≡ s .args .seen .from = omega (arith, c .before .loop-test .left, l .loop .inv .above) in
-    omega (arith, l .loop .inv .same, ap (lettersAt (s .args .m .now)) e, s .pre .1 .limit)
-
 pub letters-at-spec : {M : Type 1} → statement M
 letters-at-spec =
     tie.close
     (tie.spec
-    Inv-loop
-    μ-loop
-    (λ c. search needs)
-    (λ c. search needs)
-    (λ c. search needs)
-    (λ c κs. search needs)
-    (λ c. search needs)
-    (λ c. search needs)
+    Inv-loop μ-loop (search needs) (search needs) (search needs) (λ c κs. search needs) (search needs) (search needs)
     (λ c. let e = here (c .before) .letter (c .if1 .taken) in search needs)
     (λ c. let e = here (c .before .before) .break (c .if2 .taken) (c .before .if1 .left) in search needs)
-    (λ c. search needs)
+    (search needs)
     (λ c. let e = here (c .before .before) .other (c .if2 .left) in search needs)
-    (λ c. search needs)
-    (λ c. search needs)
-    (λ c. search needs)
-    returns-2)
+    (search needs) (search needs) (search needs)
+    (λ c. let l = c .before .before in let e : l .loop .j ≡ l .before .before .args .seen .from = omega (arith, c .before .loop-test .left, l .loop .inv .above) in
+    let q = rw e at (l .loop .inv .same) in search needs))

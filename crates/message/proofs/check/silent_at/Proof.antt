@@ -1,27 +1,15 @@
 -- No other byte is elided, and of т and д the test tells.
-use Rattle.laws.proofs.Kit.{ℕ, _<_, _≡_, refl, sym, _∙_, arith, eqb, getD, eqb-false, needs}
-use Rattle.message.specs.Classes.{classOf, isTOrD}
-use Rattle.message.proofs.{Bytes.below-same, Computed.everything, StepTable.class-spoken}
+use Rattle.laws.proofs.Kit.{_<_, sym, _∙_, arith, getD, eqb-false, needs}
+use Rattle.message.proofs.{Bytes.by-class, StepTable.class-spoken}
 use Rattle.message.proofs.check.silent_at.Statement.{statement}
 use Rattle.message.proofs.check.silent_at.Tie as tie
-
--- the bytes of т and д are those of their class
-t-or-d : (b : ℕ) → b < 256 → isTOrD b ≡ eqb (classOf b) 8
-unfolding everything
-t-or-d b h = below-same isTOrD (λ x. eqb (classOf x) 8) 256 b refl h
-
-returns-3 : tie.Need-returns-3
-returns-3 c = let s = c .before .before .before .before in
-    let h : getD (s .args .m .now) (s .args .i) 0 < 256 = omega (arith, c .before .before .before .shared-slice-known .given (s .args .i)) in
-    (rw (class-spoken (s .args .m .now) (s .args .i) h (eqb-false _ _ (sym (t-or-d _ h) ∙ sym (c .before .is-t-or-d .ensures) ∙ c .if1 .left))), omega arith)
 
 pub silent-at-spec : {M : Type 1} → statement M
 silent-at-spec =
     tie.close
     (tie.spec
-    (λ c. search needs)
-    (λ c κs. search needs)
-    (λ c κs. search needs)
+    (search needs) (search needs) (search needs)
     (λ c. (rw (← c .before .is-elided .ensures, c .if2 .taken), omega arith))
     (λ c. (rw (← c .before .is-elided .ensures, c .if2 .left), omega arith))
-    returns-3)
+    (λ c. let s = c .before .before .before .before in let h : getD (s .args .m .now) (s .args .i) 0 < 256 = omega (arith, c .before .before .before .shared-slice-known .given (s .args .i)) in
+    (rw (class-spoken (s .args .m .now) (s .args .i) h (eqb-false _ _ (sym (by-class _ h .tOrD) ∙ sym (c .before .is-t-or-d .ensures) ∙ c .if1 .left))), search needs)))

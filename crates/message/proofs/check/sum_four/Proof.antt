@@ -6,36 +6,18 @@ use Rattle.message.proofs.check.sum_four.Statement.{statement}
 use Rattle.message.proofs.check.sum_four.Tie as tie
 
 -- the class of each byte is a kind
-kinds : (c : tie.After-class-of3) → (c .before .before .before .before .class-of .result < 16) × (c .before .before .class-of2 .result < 16) × (c .class-of3 .result < 16)
-kinds c =
-    let k = c .before .before .before .before in
-    let a = k .before .before .before .args in
-    let small : (j : ℕ) → classAt (a .m .now) j < 13 = λ j. by-class (getD (a .m .now) j 0) (omega (arith, k .before .before .shared-slice-known .given j)) .class in
-    (omega (arith, k .class-of .ensures, small (a .i)), omega (arith, c .before .before .class-of2 .ensures, small (a .i + 1)), omega (arith, c .class-of3 .ensures, small (a .i + 2)))
-
-returns : tie.Need-returns
-returns c = let a = c .before .before .before in let k = a .before in rw (a .entry-at .ensures .0, c .before .before .entry-at2 .ensures .0, c .before .entry-at3 .ensures .0, c .entry-at4 .ensures .0, k .before .before .before .before .class-of .ensures, k .before .before .class-of2 .ensures, k .class-of3 .ensures)
+small : (c : tie.After-class-of) (j : ℕ) → classAt (c .before .before .before .args .m .now) j < 13
+small c j = by-class (getD (c .before .before .before .args .m .now) j 0) (omega (arith, c .before .before .shared-slice-known .given j)) .class
 
 pub sum-four-spec : {M : Type 1} → statement M
 sum-four-spec =
     tie.close
     (tie.spec
-    (λ c. search needs)
-    (λ c κs. search needs)
-    (λ c. search needs)
-    (λ c. search needs)
-    (λ c κs. search needs)
-    (λ c. search needs)
-    (λ c. search needs)
-    (λ c κs. search needs)
-    (λ c κs. search needs)
-    (λ c. search needs)
-    (λ c κs. let k = kinds (c .before) in search needs)
-    (λ c. search needs)
-    (λ c. search needs)
-    (λ c κs. let k = kinds (c .before .before) in search needs)
-    (λ c. search needs)
-    (λ c. search needs)
-    (λ c κs. let k = kinds (c .before .before .before) in search needs)
-    (λ c. search needs)
-    returns)
+    (search needs) (λ c κs. search needs) (search needs) (search needs) (λ c κs. search needs) (search needs) (search needs) (λ c κs. search needs)
+    (λ c κs. search needs) (search needs)
+    (λ c κs. let a = c .before .before .before .before .before in let k = small a (a .before .before .before .args .i) in search needs)
+    (search needs) (search needs)
+    (λ c κs. let a = c .before .before .before .before .before .before in let k = small a (a .before .before .before .args .i + 1) in search needs)
+    (search needs) (search needs)
+    (λ c κs. let a = c .before .before .before .before .before .before .before in let k = small a (a .before .before .before .args .i + 2) in search needs)
+    (search needs) (λ c. cc))

@@ -11,46 +11,21 @@ Inv-loop m t s seen₀ seen = Sees m seen
 abbrev μ-loop : tie.MeasureT-loop
 μ-loop m t s seen₀ seen = length m - seen .at
 
-pass-fours-requires : tie.Need-pass-fours-requires Inv-loop μ-loop
-pass-fours-requires c κs = let l = c .before .before .before .before in
-    let s = l .before .before in
-    let n = c .before .lesser .ensures in
-    record { tables = s .pre .tables; sees = l .loop .inv; short = s .pre .short; bytes = λ i h. omega (arith, c .fours-to .ensures i h, n .0); room = λ i h. omega (arith, c .fours-to .ensures i h, n .1) }
-
 returns : tie.Need-returns Inv-loop μ-loop
-returns c = let n = c .before in
-    let t = n .before .before in
-    let p = t .before .before .before in
-    let l = p .before .before .before .before .before in
-    let s = l .before .before in
-    let q = rw (n .number .given .1) at (t .step .ensures) in
-    let w = p .pass-fours .ensures .0 in
-    seen-fault (s .args .m .now) (w .bytes) _ _ (t .before .if2 .taken) (s .pre .short) (w .clear) (q .0) (q .1)
-
-returns-2 : tie.Need-returns-2 Inv-loop μ-loop
-returns-2 c = let e = c .before in
-    let l = e .before .before in
-    let s = l .before .before in
-    let w = l .loop .inv in
-    c .finish .ensures ∙ seen-all (s .args .m .now) (l .loop .seen) (s .pre .some) (s .pre .short) w (omega (arith, w .within, e .if1 .left))
+returns c =
+    let t = c .before .before .before in
+    let q = rw (c .before .number .given .1) at (t .step .ensures) in
+    let w = t .before .before .before .pass-fours .ensures .0 in
+    seen-fault _ (w .bytes) _ _ (t .before .if2 .taken) (w .short) (w .clear) (q .0) (q .1)
 
 pub walk-spec : {M : Type 1} → statement M
 walk-spec =
     tie.close
     (tie.spec
-    Inv-loop
-    μ-loop
-    (λ c. sees-none _ (λ j. omega (arith, c .shared-slice-known .given j)))
-    (λ c κs. search needs)
-    (λ c κs. search needs)
-    pass-fours-requires
-    (λ c κs. search needs)
-    (λ c. search needs)
-    returns
-    (λ c. search needs)
+    Inv-loop μ-loop
+    (λ c. sees-none _ (λ j. omega (arith, c .shared-slice-known .given j)) (c .before .pre .short))
+    (search needs) (search needs) (λ c κs. search needs) (λ c κs. search needs) (search needs) returns (search needs)
     (λ c. let q = rw (c .before .next .given .1) at (c .before .before .before .step .ensures) in search needs)
     (λ c. let q = rw (c .before .next .given .1) at (c .before .before .before .step .ensures) in search needs)
-    (λ c. search needs)
-    (λ c. search needs)
-    (λ c κs. search needs)
-    returns-2)
+    (search needs) (λ c. search needs) (search needs)
+    (λ c. let l = c .before .before .before in c .finish .ensures ∙ seen-all _ (l .loop .seen) (l .before .before .pre .some) (l .loop .inv) (omega (arith, l .loop .inv .within, c .before .if1 .left))))

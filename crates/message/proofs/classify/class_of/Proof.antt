@@ -1,17 +1,13 @@
--- The table's first half is the class of each byte.
+-- The table has the class of each byte.
 use Rattle.laws.proofs.Kit.{_<_, arith, needs}
 use Rattle.message.proofs.{Bytes.by-class, StepTable.class-read}
 use Rattle.message.proofs.classify.class_of.Statement.{statement}
 use Rattle.message.proofs.classify.class_of.Tie as tie
 
-cast-result : tie.Need-cast-result
-cast-result c =
-    let s = c .before in
-    let h : s .args .b < 256 = omega (arith, s .fits .b) in
-    rw (class-read (s .args .t .now) (s .args .b) (s .pre) h) (omega (arith, by-class (s .args .b) h .class))
-
-returns : tie.Need-returns
-returns c = let s = c .before in class-read (s .args .t .now) (s .args .b) (s .pre) (omega (arith, s .fits .b))
-
 pub class-of-spec : {M : Type 1} → statement M
-class-of-spec = tie.close (tie.spec (λ c. search needs) cast-result returns)
+class-of-spec =
+    tie.close
+    (tie.spec
+    (search needs)
+    (λ c. let s = c .before in let h : s .args .b < 256 = omega (arith, s .fits .b) in rw (class-read _ _ (s .pre) h) (omega (arith, by-class (s .args .b) h .class)))
+    (λ c. let s = c .before in class-read _ _ (s .pre) (omega (arith, s .fits .b))))

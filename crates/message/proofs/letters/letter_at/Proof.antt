@@ -1,4 +1,4 @@
--- `message::letters::letter_at` meets its contract: past the end the byte is 0 by definition, and 0 is its own small letter.
+-- Past the end the byte is 0 by definition, and 0 is its own small letter.
 use Rattle.laws.proofs.Kit.{ℕ, needs, List·getD-eq-default}
 use Rattle.spec.specs.Letters.{small}
 use Rattle.message.specs.Classes.{letterAt}
@@ -7,10 +7,4 @@ use Rattle.message.proofs.letters.letter_at.Tie as tie
 
 pub letter-at-spec : {M : Type 1} → statement M
 unfolding letterAt small
-letter-at-spec =
-    tie.close
-    (tie.spec
-    (λ c. search needs)
-    (λ c κs. search needs)
-    (λ c. c .small-letter .ensures)
-    (λ c. rw (List·getD-eq-default {A = ℕ} _ 0 (c .if1 .left))))
+letter-at-spec = tie.close (tie.spec (search needs) (search needs) (search needs) (λ c. rw (List·getD-eq-default {A = ℕ} _ 0 (c .if1 .left))))
