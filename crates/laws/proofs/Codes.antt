@@ -77,7 +77,7 @@ soft-both f x n c h = by (isPaired (x .letter)) _ (and-eq-true-iff (f c) _ .0 h)
     by false t e = e .0
 
 -- pass 3: a vowel has a sound, whatever stands around it
-vowel-sound : (hard : Bool) (p : ℕ) (s : Syllable) (b : ℕ) → isVowel b ≡ true → isSound (vowelSound hard p s b) ≡ true
+pub vowel-sound : (hard : Bool) (p : ℕ) (s : Syllable) (b : ℕ) → isVowel b ≡ true → isSound (vowelSound hard p s b) ≡ true
 unfolding everything isSound
 vowel-sound hard p s b h = alike (s .level) ∙ among-same (λ x. isSound (vowelSound false 0 marked x)) (λ _. true) (plainVowels ++ softeningVowels) b refl h
   where

@@ -1,57 +1,33 @@
--- The walk that writes the tape from its end: each step puts its byte's piece before the codes of the bytes passed, and all of them make the tape.
-use Rattle.laws.proofs.Kit.{ℕ, suc, _+_, _<_, _≤_, arith, _≡_, refl, sym, ap, _∙_, List, [], _++_, append-nil, append-assoc, length, length-append}
-use Rattle.spec.specs.Tape.{tape}
-use Rattle.message.specs.Places.{Steady, markBefore, tapeAt}
-use Rattle.message.proofs.{Lengths.codes-from, Tail.tape-start, Tail.tape-end, Tail.word-end, Tail.tone-end, Tail.sound-end}
-use Rattle.transcriber.specs.{Levels.wordEnd, Sounds.toneNo, Walk.Stands, Walk.Put, Walk.pieceAt, Walk.Ready, Walk.Stepped, Walk.Walked, declared.Right.Right}
-use Rattle.transcriber.proofs.{Levelling.levels-end, Putting.put-none, Putting.put-over, Putting.put-length, Walking.none-softens, Walking.piece-step}
+-- The walks that write from the end: what a byte puts stands before what the bytes after it have put. `rest i` is what the bytes from place i on put, for the tape and for the names, and `Right i` what is known at place i.
+use Rattle.laws.proofs.Kit.{ℕ, suc, _-_, _<_, _≤_, arith, _≡_, ap, _∙_, List, _++_, length, length-append}
+use Rattle.transcriber.specs.Walk.{Put}
+use Rattle.transcriber.proofs.Putting.{put-over, put-length}
 
--- what stands right of the message's end
-pub stands-end : (m : List ℕ) → Steady m → (n : ℕ)
-    → Stands m (length m) (record { at = n; tone = 64; sound = 0; levels = wordEnd (markBefore m (length m)) })
-unfolding toneNo
-stands-end m steady n =
-    record {
-      tone = rw (tone-end m steady);
-      sound = rw (sound-end m steady, word-end m steady, none-softens);
-      levels = levels-end m steady;
-    }
+-- the walk stands at place i: what the bytes from there on put stands right before place `end`, and there is room for all
+pub record Writing (Right : ℕ → Type 0) (m : List ℕ) (rest : ℕ → List ℕ) (all : ℕ) (out₀ out : List ℕ) (end i at : ℕ) : Type 0 where
+  pub stands : Right i
+  pub within : i ≤ length m
+  pub room : all ≤ end
+  pub place : end ≤ length out₀
+  pub put : Put (rest i) out₀ out end at
 
--- a walk that has not begun
-pub walked-none : (m out : List ℕ) (i : ℕ) (r : Right) → Stands m i r → Walked m out out i i r r
-walked-none m out i r s = record { stands = s; codes = []; split = refl; put = put-none out (r .at) }
-
-module _ (m : List ℕ) (steady : Steady m) (out₀ : List ℕ) (start : ℕ) (r₀ : Right) (place : r₀ .at ≤ length out₀) where
+module _ {Right : ℕ → Type 0} {m : List ℕ} {rest : ℕ → List ℕ} {all : ℕ} {out₀ out : List ℕ} {end i at : ℕ} where
   -- the output is as long as it was
-  pub walked-length : (out : List ℕ) (i : ℕ) (r : Right) → Walked m out₀ out start i r₀ r → length out ≡ length out₀
-  walked-length out i r w = put-length (w .codes) out₀ out (r₀ .at) (r .at) place (w .put)
+  pub writing-length : Writing Right m rest all out₀ out end i at → length out ≡ length out₀
+  writing-length w = put-length _ _ _ _ _ (w .place) (w .put)
 
-  -- a step may be taken, since the rest of a tape is no longer than the whole
-  pub walked-ready : (out : List ℕ) (i : ℕ) (r : Right) → i < length m → length (tape m) ≤ r₀ .at + length (tapeAt m start)
-      → Walked m out₀ out start (suc i) r₀ r → Ready m out i r
-  walked-ready out i r h e w =
-      let s = ap length (piece-step m steady i h) ∙ length-append (pieceAt m i) (tapeAt m (suc i)) in
-      let l = ap length (w .split) ∙ length-append (w .codes) (tapeAt m start) in
-      record {
-        within = h;
-        steady = steady;
-        stands = w .stands;
-        room = omega (arith, s, l, codes-from m steady i (omega arith), w .put .place);
-        place = omega (arith, w .put .place, walked-length out (suc i) r w);
-      }
+  -- a place that is not the first has one before it
+  pub writing-back : 0 < i → Writing Right m rest all out₀ out end i at → Writing Right m rest all out₀ out end (suc (i - 1)) at
+  writing-back z w = let e : suc (i - 1) ≡ i = omega arith in rw e w
 
-  -- and its piece then stands before the codes of the walk
-  pub walked-more : (out out′ : List ℕ) (i : ℕ) (r q : Right) → i < length m → Walked m out₀ out start (suc i) r₀ r → Stepped m out out′ i r q
-      → Walked m out₀ out′ start i r₀ q
-  walked-more out out′ i r q h w s = record {
-    stands = s .stands;
-    codes = pieceAt m i ++ w .codes;
-    split = piece-step m steady i h ∙ rw (w .split, append-assoc);
-    put = put-over (w .codes) (pieceAt m i) out₀ out out′ (r₀ .at) (r .at) (q .at) place (w .put) (s .put);
-  }
+  module _ (w : Writing Right m rest all out₀ out end (suc i) at) (piece : List ℕ) (e : rest i ≡ piece ++ rest (suc i)) where
+    -- what the next byte puts finds room, since the rest is no longer than the whole
+    pub writing-room : length (rest i) ≤ all → (length piece ≤ at) × (at ≤ length out)
+    writing-room l =
+        let s = ap length e ∙ length-append piece (rest (suc i)) in
+        let n = put-length _ _ _ _ _ (w .place) (w .put) in
+        (omega (arith, s, l, w .put .place, w .room), omega (arith, n, w .put .place, w .place))
 
--- a walk over the whole message puts its tape
-pub walked-all : (m : List ℕ) → Steady m → (out out′ : List ℕ) (r q : Right) → Walked m out out′ (length m) 0 r q → Put (tape m) out out′ (r .at) (q .at)
-walked-all m steady out out′ r q w =
-    let e : tape m ≡ w .codes = sym (tape-start m steady) ∙ w .split ∙ rw (tape-end m steady, append-nil) in
-    rw e (w .put)
+    -- and the walk then stands at its place
+    pub writing-more : {Then : ℕ → Type 0} {out′ : List ℕ} {at′ : ℕ} → Then i → Put piece out out′ at at′ → Writing Then m rest all out₀ out′ end i at′
+    writing-more s q = record { stands = s; within = omega (arith, w .within); room = w .room; place = w .place; put = rw e (put-over _ _ _ _ _ _ _ _ (w .place) (w .put) q) }

@@ -9,14 +9,14 @@ use Rattle.spec.specs.Letters.{small, firstByte, isBreak, isMark}
 use Rattle.spec.specs.Codes.{J, markOf}
 use Rattle.spec.specs.Syllables.{incomplete, nameOf, syllableOf}
 use Rattle.spec.specs.Vowels.{vowelSound, glides, softens}
-use Rattle.spec.specs.Tape.{tape}
+use Rattle.spec.specs.Tape.{tape, names}
 use Rattle.spec.specs.Refusals.{vowelByte}
-use Rattle.message.specs.Places.{Steady, tapeAt, leftAt, letterOf, wordAt, toneAt, soundAt, factsAt, codesAt}
+use Rattle.message.specs.Places.{Steady, leftAt, letterOf, wordAt, toneAt, soundAt, factsAt, codesAt}
 use Rattle.message.specs.Classes.{classes, classOf, isVowelClass}
 use Rattle.spec.specs.declared.Level.{Level}
 use Rattle.spec.specs.declared.Syllable.{Syllable}
 use Rattle.transcriber.specs.Levels.{nearLevel, LevelsAt}
-use Rattle.transcriber.specs.Sounds.{soundTable, toneNo}
+use Rattle.transcriber.specs.Sounds.{soundTable, Tells}
 use Rattle.transcriber.specs.declared.Right.{Right}
 use Rattle.transcriber.specs.declared.Vowel.{Vowel}
 use Rattle.transcriber.specs.declared.NameState.{NameState}
@@ -34,9 +34,8 @@ pub record ClassAt (m : List ℕ) (i c : ℕ) : Type 0 where
 
 -- r says what stands right of place i
 pub record Stands (m : List ℕ) (i : ℕ) (r : Right) : Type 0 where
-  pub tone : r .tone ≡ toneNo (toneAt m i)
-  pub sound : r .sound ≡ soundAt m i + cond (softens (firstByte (wordAt m i))) 64 0
-  pub levels : LevelsAt m i (r .levels)
+  pub sound : Tells (r .sound) (softens (firstByte (wordAt m i))) (toneAt m i) (soundAt m i)
+  pub levels : LevelsAt m i (r .near) (r .far)
 
 -- these codes were put right before place at, and the rest of the output is as it was
 pub record Put (codes out out′ : List ℕ) (at r : ℕ) : Type 0 where
@@ -86,21 +85,12 @@ pub record Stepped (m out out′ : List ℕ) (i : ℕ) (r q : Right) : Type 0 wh
   pub stands : Stands m i q
   pub put : Put (pieceAt m i) out out′ (r .at) (q .at)
 
--- From place `start` back to place `to` the walk was taken: q stands there, and the codes of the bytes between are on the tape
-pub record Walked (m out out′ : List ℕ) (start to : ℕ) (r q : Right) : Type 0 where
-  pub stands : Stands m to q
-  pub codes : List ℕ
-  pub split : tapeAt m to ≡ codes ++ tapeAt m start
-  pub put : Put codes out out′ (r .at) (q .at)
-
--- such a walk may be taken: r stands at its start, and there is room for the whole message's tape
-pub record MayWalk (m out : List ℕ) (start to : ℕ) (r : Right) : Type 0 where
+-- the tape of m may be written right before place `end` of the output
+pub record MayWrite (t s m out : List ℕ) (end : ℕ) : Type 0 where
+  pub lent : Lent t s
   pub steady : Steady m
-  pub order : to ≤ start
-  pub within : start ≤ length m
-  pub stands : Stands m start r
-  pub room : length (tape m) ≤ r .at + length (tapeAt m start)
-  pub place : r .at ≤ length out
+  pub room : length (tape m) ≤ end
+  pub place : end ≤ length out
 
 -- The same for the naming, which needs to know less. The names that the byte at place i settles: a vowel's, and at a break the incomplete one's of the word before
 unfoldable pub namePiece : List ℕ → ℕ → List ℕ
@@ -111,7 +101,7 @@ namePiece m i =
 pub record NameReady (m out : List ℕ) (i : ℕ) (v : NameState) : Type 0 where
   pub within : i < length m
   pub steady : Steady m
-  pub levels : LevelsAt m (suc i) (v .levels)
+  pub levels : LevelsAt m (suc i) (v .near) (v .far)
   pub room : length (namePiece m i) ≤ v .at
   pub place : v .at ≤ length out
 
@@ -129,5 +119,11 @@ pub record WordEnd (m out : List ℕ) (i at : ℕ) : Type 0 where
 
 -- its names were put
 pub record Named (m out out′ : List ℕ) (i : ℕ) (v q : NameState) : Type 0 where
-  pub levels : LevelsAt m i (q .levels)
+  pub levels : LevelsAt m i (q .near) (q .far)
   pub put : Put (namePiece m i) out out′ (v .at) (q .at)
+
+-- all n names of m may be written at the start of the output
+pub record NamesDue (m out : List ℕ) (n : ℕ) : Type 0 where
+  pub steady : Steady m
+  pub total : n ≡ length (names m)
+  pub room : n ≤ length out

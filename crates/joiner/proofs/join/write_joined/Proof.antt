@@ -43,7 +43,7 @@ final c =
 
 write-tape-requires : tie.Need-write-tape-requires Inv-loop μ-loop
 write-tape-requires c κs = let k = c .before .before .before in
-    (k .before .pre .0, k .before .pre .1, steady k, omega (arith, k .before .pre .2 .fits), omega arith)
+    record { lent = record { byte = k .before .pre .0; sound = k .before .pre .1 }; steady = steady k; room = omega (arith, k .before .pre .2 .fits); place = omega arith }
 
 loop-holds : tie.Need-loop-holds Inv-loop μ-loop
 loop-holds c = laid-none _ _ _ _ _ (c .before .before .before .before .before .before .before .pre .2 .fits) (c .before .before .write-tape .ensures)

@@ -1,48 +1,46 @@
 -- Each class of byte is handled by its own function, and a byte of an accepted message has one.
-use Rattle.laws.proofs.Kit.{ℕ, _≤_, _≡_, sym, _∙_, arith, getD, needs, eq-eqb}
-use Rattle.message.specs.Classes.{classOf}
-use Rattle.message.proofs.Bytes.{ByClass, by-class}
-use Rattle.transcriber.proofs.Walking.{ready-for, sign-steps, mark-steps}
+use Rattle.laws.proofs.Kit.{ℕ, _≤_, _≡_, sym, _∙_, arith, getD, needs}
+use Rattle.spec.specs.Letters.{between}
+use Rattle.message.proofs.Bytes.{by-class}
+use Rattle.transcriber.specs.Walk.{ReadyFor}
+use Rattle.transcriber.proofs.Walking.{above, ready-for, sign-steps, mark-steps}
 use Rattle.transcriber.proofs.tape.step.Statement.{statement}
 use Rattle.transcriber.proofs.tape.step.Tie as tie
 
--- what the byte's class says of it
-class : (s : tie.Start) → ByClass (getD (s .args .m .now) (s .args .i) 0)
-class s = by-class (getD (s .args .m .now) (s .args .i) 0) (s .pre .1 .steady .bytes (s .args .i))
-
--- a class that is neither 0 nor 1
-above : (c : ℕ) → (c ≡ 0 → ⊥) → (c ≡ 1 → ⊥) → 2 ≤ c
-above c z o = omega arith
+-- a step may be taken at a byte of these classes
+classed : (k : tie.After-class-of) (lo hi : ℕ) → lo ≤ k .class-of .result → k .class-of .result ≤ hi
+    → let s = k .before .before .before .before in
+    ReadyFor (between lo hi) (s .args .m .now) (s .args .out .now) (s .args .i) (k .class-of .result) (s .args .r)
+classed k lo hi = ready-for lo hi (k .before .before .before .before .pre .1) (k .class-of .ensures)
 
 put-vowel-requires : tie.Need-put-vowel-requires
-put-vowel-requires c κs = let k = c .before .before in
+put-vowel-requires c κs =
+    let k = c .before .before in
     let s = k .before .before .before .before in
-    (s .pre .0 .byte, ready-for 10 12 (s .pre .1) (k .class-of .ensures) (c .before .if1 .taken) (omega (arith, k .class-of .ensures, class s .class)))
+    (s .pre .0 .byte, classed k 10 12 (c .before .if1 .taken) (omega (arith, k .class-of .ensures, by-class (getD (s .args .m .now) (s .args .i) 0) (s .pre .1 .steady .bytes (s .args .i)) .class)))
 
 put-consonant-requires : tie.Need-put-consonant-requires
-put-consonant-requires c κs = let k = c .before .before .before in
-    let s = k .before .before .before .before in
-    (s .pre .0, ready-for 6 9 (s .pre .1) (k .class-of .ensures) (c .before .if2 .taken) (omega (arith, c .before .before .if1 .left)))
+put-consonant-requires c κs =
+    let e = c .before .before in
+    (e .before .before .before .before .before .pre .0, classed (e .before) 6 9 (c .before .if2 .taken) (omega (arith, e .if1 .left)))
 
 returns-3 : tie.Need-returns-3
-returns-3 c = let t = c .before .before in
-    let k = t .before .before .before .before in
-    let s = k .before .before .before .before in
-    rw (c .pass-over .ensures) (sign-steps (ready-for 4 5 (s .pre .1) (k .class-of .ensures) (t .if3 .taken) (omega (arith, t .before .before .if2 .left))) (c .before .seen-over .ensures))
+returns-3 c =
+    let t = c .before .before in
+    rw (c .pass-over .ensures) (sign-steps (classed (t .before .before .before) 4 5 (t .if3 .taken) (omega (arith, t .before .if2 .left))) (c .before .seen-over .ensures))
 
 returns-4 : tie.Need-returns-4
-returns-4 c = let t = c .before .before in
-    let k = t .before .before .before .before .before in
-    let s = k .before .before .before .before in
-    rw (c .pass-over2 .ensures, c .before .over-mark .ensures)
-    (mark-steps _ _ _ _ (s .pre .1) (class s .mark ∙ eq-eqb (classOf (getD (s .args .m .now) (s .args .i) 0)) 1 (sym (k .class-of .ensures) ∙ t .if4 .taken)))
+returns-4 c =
+    let k = c .before .before .before .before .before in
+    rw (c .pass-over2 .ensures) (mark-steps (k .before .before .before .before .pre .1) (sym (k .class-of .ensures) ∙ c .before .if4 .taken))
 
 put-break-requires : tie.Need-put-break-requires
-put-break-requires c κs = let e = c .before in
-    let k = e .before .before .before .before .before in
+put-break-requires c κs =
+    let e = c .before in
+    let k = e .before .before .before .before in
     let s = k .before .before .before .before in
     let n = s .pre .1 .steady .named (s .args .i) (s .pre .1 .within) in
-    (s .pre .0 .sound, ready-for 2 3 (s .pre .1) (k .class-of .ensures) (above (k .class-of .result) (λ z. n (sym (k .class-of .ensures) ∙ z)) (e .if4 .left)) (omega (arith, e .before .if3 .left)))
+    (s .pre .0 .sound, classed k 2 3 (above (k .class-of .result) (λ z. n (sym (k .class-of .ensures) ∙ z)) (e .if4 .left)) (omega (arith, e .before .if3 .left)))
 
 pub step-spec : {M : Type 1} → statement M
 step-spec =
@@ -54,8 +52,7 @@ step-spec =
     put-consonant-requires
     (search needs) (λ c. search needs) (search needs) (search needs)
     returns-3
-    (search needs) (search needs)
+    (search needs)
     returns-4
     put-break-requires
-    (search needs)
-    (λ c. search needs))
+    (search needs) (λ c. search needs))

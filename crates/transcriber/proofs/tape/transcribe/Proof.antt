@@ -21,13 +21,12 @@ write-tape-requires c κs =
     let e = a .before .before in
     let k = e .before .before in
     let s = k .before .before .before .before .before in
-    let n = counted k in (
-      a .before .class-table .ensures,
-      a .sound-table .ensures,
-      accepted-steady (s .args .m .now) (k .checked .given .0 .0) (accepted k) (λ j. omega (arith, k .before .before .before .before .shared-slice-known .given j)),
-      omega (arith, n),
-      e .if1 .left,
-    )
+    record {
+      lent = record { byte = a .before .class-table .ensures; sound = a .sound-table .ensures };
+      steady = accepted-steady (s .args .m .now) (k .checked .given .0 .0) (accepted k) (λ j. omega (arith, k .before .before .before .before .shared-slice-known .given j));
+      room = omega (arith, counted k);
+      place = e .if1 .left;
+    }
 
 returns-3 : tie.Need-returns-3
 unfolding tapeAnswer

@@ -1,30 +1,62 @@
--- The walk over the whole message, from its end to its start, puts its tape.
-use Rattle.transcriber.proofs.Filling.{walked-all}
-use Rattle.laws.proofs.Kit.{arith, needs}
+-- The walk so far is carried by one record, to which each step adds the piece of its byte; over the whole message it puts the tape. The measure is the place.
+use Rattle.laws.proofs.Kit.{_-_, _<_, _≡_, arith, length, needs}
+use Rattle.spec.specs.Tape.{tape}
+use Rattle.message.specs.Places.{tapeAt}
+use Rattle.message.proofs.{Lengths.codes-from, Tail.tape-start, Tail.tape-end}
+use Rattle.transcriber.specs.Walk.{Stands, pieceAt}
+use Rattle.transcriber.proofs.{Putting.put-none, Filling.Writing, Filling.writing-length, Filling.writing-back, Filling.writing-room, Filling.writing-more, Walking.piece-step, Walking.stands-end}
 use Rattle.transcriber.proofs.tape.write_tape.Statement.{statement}
 use Rattle.transcriber.proofs.tape.write_tape.Tie as tie
 
-walk-back-requires : tie.Need-walk-back-requires
-walk-back-requires c κs = let n = c .before in
-    let s = n .before .before .before in
-    let e = n .start .ensures in (
-      s .pre .0,
-      s .pre .1,
-      record {
-        steady = s .pre .2;
-        order = omega arith;
-        within = omega arith;
-        stands = e .1;
-        room = omega (arith, e .0, s .pre .3);
-        place = omega (arith, e .0, s .pre .4);
-      },
-    )
+abbrev Inv-loop : tie.InvT-loop
+Inv-loop m out₀ end t s i₀ r₀ out i r = Writing (λ j. Stands m j r) m (tapeAt m) (length (tape m)) out₀ out end i (r .at)
 
-returns : tie.Need-returns
-returns c = let w = c .before .before in
-    let n = w .before .before in
-    let s = n .before .before .before in
-    rw (← n .start .ensures .0) (walked-all _ (s .pre .2) _ _ _ _ (w .walk-back .ensures))
+abbrev μ-loop : tie.MeasureT-loop
+μ-loop m out₀ end t s i₀ r₀ out i r = i
+
+loop-holds : tie.Need-loop-holds Inv-loop μ-loop
+loop-holds c =
+    let s = c .before .before .before in
+    let a = s .pre in
+    record { stands = stands-end (a .steady) (c .at-word-end .ensures); within = omega arith; room = a .room; place = a .place; put = rw (tape-end (s .args .m .now) (a .steady)) (put-none _ _) }
+
+step-requires : tie.Need-step-requires Inv-loop μ-loop
+step-requires c κs =
+    let l = c .before .before in
+    let s = l .before .before .before .before in
+    let i = l .loop .i - 1 in
+    let m = s .args .m .now in
+    let w = writing-back (c .before .loop-test .taken) (l .loop .inv) in
+    let h : i < length m = omega (arith, w .within) in
+    let x = writing-room w (pieceAt m i) (piece-step m (s .pre .steady) i h) (omega (arith, codes-from m (s .pre .steady) i (omega arith))) in
+    (s .pre .lent, record { within = h; steady = s .pre .steady; stands = w .stands; room = x .0; place = x .1 })
+
+loop-again : tie.Need-loop-again Inv-loop μ-loop
+loop-again c =
+    let n = c .before .before in
+    let l = n .before .before .before in
+    let s = l .before .before .before .before in
+    let w = writing-back (n .before .before .loop-test .taken) (l .loop .inv) in
+    writing-more w _ (piece-step (s .args .m .now) (s .pre .steady) (l .loop .i - 1) (omega (arith, w .within))) (n .step .ensures .stands) (n .step .ensures .put)
+
+returns : tie.Need-returns Inv-loop μ-loop
+returns c =
+    let l = c .before in
+    let s = l .before .before .before .before in
+    let e : l .loop .i ≡ 0 = omega (arith, c .loop-test .left) in
+    rw (e, tape-start (s .args .m .now) (s .pre .steady)) at (l .loop .inv .put)
 
 pub write-tape-spec : {M : Type 1} → statement M
-write-tape-spec = tie.close (tie.spec (λ c κs. search needs) walk-back-requires (search needs) returns)
+write-tape-spec =
+    tie.close
+    (tie.spec
+    Inv-loop
+    μ-loop
+    (λ c κs. (c .before .before .pre .steady, omega arith))
+    loop-holds
+    (λ c. omega arith)
+    step-requires
+    (λ c. omega arith)
+    loop-again
+    (λ c. writing-length (c .before .loop .inv))
+    returns)
