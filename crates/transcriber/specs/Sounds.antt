@@ -1,6 +1,6 @@
 -- How the code finds a letter's codes: by the class of the byte before it and one table. These are not the paper's words: `proofs/` shows that they agree with them.
 -- Assumes nothing: these are definitions.
-use Prim.Native.Nat.{ℕ, zero, suc, _+_, _-_, _%_, _<_, _≤_}
+use Prim.Native.Nat.{ℕ, zero, suc, _+_, _-_, _*_, _%_, _<_, _≤_}
 use mathlib.Core.Path.{_≡_}
 use mathlib.Core.Bool.{Bool, true, false, cond, _&&_, _||_}
 use mathlib.Core.List.{List, [], _∷_, _++_}
@@ -108,14 +108,14 @@ pub record Before (b s : ℕ) : Type 0 where
   pub letter : consonantByte b ≡ true
   pub sound : s < 128
 
--- The sounds that act alike on every letter before them, a row of the table for each list: the first six voice, of the others the second end and the next six devoice.
+-- The sounds that act alike on every letter before them, a row of the table for each list: the first six voice, and those of the eighth to the fourteenth devoice.
 unfoldable pub alike : List (List ℕ)
 alike =
     (Б ∷ Г ∷ Х1 ∷ Д ∷ Ж ∷ З ∷ Ц1 ∷ []) ∷ (Д' ∷ З' ∷ []) ∷ (Ч1 ∷ Ж' ∷ []) ∷ (Б' ∷ []) ∷ (Г' ∷ []) ∷ (Х1' ∷ [])
     ∷ (57 ∷ []) ∷ (0 ∷ К ∷ П ∷ С ∷ Т ∷ Ф ∷ Х ∷ Ц ∷ Ш ∷ []) ∷ (Т' ∷ С' ∷ []) ∷ (Ч ∷ Щ ∷ []) ∷ (П' ∷ []) ∷ (Ф' ∷ []) ∷ (К' ∷ []) ∷ (Х' ∷ [])
     ∷ (Н' ∷ []) ∷ (В' ∷ []) ∷ (Л' ∷ []) ∷ (М' ∷ []) ∷ (Р' ∷ []) ∷ []
 
--- the row of a sound: its list's, or the one after them all
+-- which of the lists has the sound, or how many they are
 unfoldable pub rowIn : List (List ℕ) → ℕ → ℕ
 rowIn [] s = 0
 rowIn (x ∷ xs) s = cond (among x s) 0 (suc (rowIn xs s))
@@ -126,12 +126,13 @@ softRow voiced = 20
 softRow voiceless = 21
 softRow asWritten = 22
 
+-- Where the row of a sound begins, in fours: a row has 28 codes
 unfoldable pub soundRow : ℕ → ℕ
-soundRow s = cond (leb 64 s) (softRow (toneBy (s % 64))) (rowIn alike s)
+soundRow s = 7 * cond (leb 64 s) (softRow (toneBy (s % 64))) (rowIn alike s)
 
--- the codes of the letters а to щ before the sound s
+-- the codes of the letters а to ы before the sound s
 unfoldable pub codeRow : ℕ → List ℕ
-codeRow s = tabulate (λ j. codeBefore (224 + j) s) 0 26
+codeRow s = tabulate (λ j. codeBefore (224 + j) s) 0 28
 
 -- before each row's first sound
 unfoldable pub firstRows : List (List ℕ) → List ℕ

@@ -22,7 +22,7 @@ pub fn consonant_code(b: u8, sound: usize, s: &SoundTable) -> u8
     ensures { λ r. ⌜ r ≡ codeBefore (small b) sound ⌝ }
 {
     let row = s[tables::ROWS + sound] as usize;
-    s[row * tables::ROW + (b % 32) as usize]
+    s[row * tables::UNIT + (b % 32) as usize]
 }
 
 // What stands right of a word's last letter, where a gap and a word that begins with this sound follow. No letter palatalizes across the gap.
@@ -30,7 +30,7 @@ pub fn sound_over_gap(sound: usize, s: &SoundTable) -> usize
     requires { ⌜ now s ≡ soundTable ⌝ }
     ensures { λ r. ⌜ r ≡ cond (isVoicing (codeBy (sound % 64))) 57 0 ⌝ }
 {
-    if s[tables::ROWS + sound % PALATALIZING] < tables::VOICING_ROWS {
+    if s[tables::ROWS + sound % PALATALIZING] < tables::VOICELESS_ROWS {
         return VOICED_END;
     }
     VOICELESS_END

@@ -2,19 +2,19 @@
 ghost use mathlib.Core.Path.{_≡_};
 ghost use Rattle.transcriber.specs.Sounds.{soundTable};
 
-// A row has the codes of the letters а to щ.
-pub const ROW: usize = 26;
+// The rows begin at places that are multiples of this, so that a row's number fits a byte.
+pub const UNIT: usize = 4;
 
-// The first rows are those before a sound that voices.
-pub const VOICING_ROWS: u8 = 6;
+// The rows before a sound that voices are the first; here begin the others.
+pub const VOICELESS_ROWS: u8 = 42;
 
 // Where the sounds' rows begin, after the rows themselves.
-pub const ROWS: usize = 598;
+pub const ROWS: usize = 644;
 
-pub type SoundTable = [u8; 726];
+pub type SoundTable = [u8; 772];
 
-// The codes of the letters before each kind of sound, a row each, which are laid out at each copy and so take no more than they must; then the row of each sound, which is 64 more where
-// its letter palatalizes.
+// The codes of the letters а to ы before each kind of sound, a row each; then for each sound, which is 64 more where its letter palatalizes, where its row begins, in units. A copy is laid out
+// byte by byte, so the table is no longer than it must be.
 const SOUNDS: SoundTable = [
     0, // а before Б
     16, // б before Б
@@ -42,6 +42,8 @@ const SOUNDS: SoundTable = [
     54, // ч before Б
     26, // ш before Б
     27, // щ before Б
+    0, // ъ before Б
+    0, // ы before Б
     0, // а before Д'
     16, // б before Д'
     18, // в before Д'
@@ -68,6 +70,8 @@ const SOUNDS: SoundTable = [
     54, // ч before Д'
     26, // ш before Д'
     27, // щ before Д'
+    0, // ъ before Д'
+    0, // ы before Д'
     0, // а before Ч1
     16, // б before Ч1
     18, // в before Ч1
@@ -94,6 +98,8 @@ const SOUNDS: SoundTable = [
     54, // ч before Ч1
     26, // ш before Ч1
     27, // щ before Ч1
+    0, // ъ before Ч1
+    0, // ы before Ч1
     0, // а before Б'
     17, // б before Б'
     18, // в before Б'
@@ -120,6 +126,8 @@ const SOUNDS: SoundTable = [
     54, // ч before Б'
     26, // ш before Б'
     27, // щ before Б'
+    0, // ъ before Б'
+    0, // ы before Б'
     0, // а before Г'
     16, // б before Г'
     18, // в before Г'
@@ -146,6 +154,8 @@ const SOUNDS: SoundTable = [
     54, // ч before Г'
     26, // ш before Г'
     27, // щ before Г'
+    0, // ъ before Г'
+    0, // ы before Г'
     0, // а before Х1'
     16, // б before Х1'
     18, // в before Х1'
@@ -172,6 +182,8 @@ const SOUNDS: SoundTable = [
     54, // ч before Х1'
     26, // ш before Х1'
     27, // щ before Х1'
+    0, // ъ before Х1'
+    0, // ы before Х1'
     0, // а before no sound, voiced
     16, // б before no sound, voiced
     18, // в before no sound, voiced
@@ -198,6 +210,8 @@ const SOUNDS: SoundTable = [
     54, // ч before no sound, voiced
     26, // ш before no sound, voiced
     27, // щ before no sound, voiced
+    0, // ъ before no sound, voiced
+    0, // ы before no sound, voiced
     0, // а before no sound
     39, // б before no sound
     47, // в before no sound
@@ -224,6 +238,8 @@ const SOUNDS: SoundTable = [
     53, // ч before no sound
     55, // ш before no sound
     56, // щ before no sound
+    0, // ъ before no sound
+    0, // ы before no sound
     0, // а before Т'
     39, // б before Т'
     47, // в before Т'
@@ -250,6 +266,8 @@ const SOUNDS: SoundTable = [
     53, // ч before Т'
     55, // ш before Т'
     56, // щ before Т'
+    0, // ъ before Т'
+    0, // ы before Т'
     0, // а before Ч
     39, // б before Ч
     47, // в before Ч
@@ -276,6 +294,8 @@ const SOUNDS: SoundTable = [
     53, // ч before Ч
     55, // ш before Ч
     56, // щ before Ч
+    0, // ъ before Ч
+    0, // ы before Ч
     0, // а before П'
     40, // б before П'
     47, // в before П'
@@ -302,6 +322,8 @@ const SOUNDS: SoundTable = [
     53, // ч before П'
     55, // ш before П'
     56, // щ before П'
+    0, // ъ before П'
+    0, // ы before П'
     0, // а before Ф'
     39, // б before Ф'
     48, // в before Ф'
@@ -328,6 +350,8 @@ const SOUNDS: SoundTable = [
     53, // ч before Ф'
     55, // ш before Ф'
     56, // щ before Ф'
+    0, // ъ before Ф'
+    0, // ы before Ф'
     0, // а before К'
     39, // б before К'
     47, // в before К'
@@ -354,6 +378,8 @@ const SOUNDS: SoundTable = [
     53, // ч before К'
     55, // ш before К'
     56, // щ before К'
+    0, // ъ before К'
+    0, // ы before К'
     0, // а before Х'
     39, // б before Х'
     47, // в before Х'
@@ -380,6 +406,8 @@ const SOUNDS: SoundTable = [
     53, // ч before Х'
     55, // ш before Х'
     56, // щ before Х'
+    0, // ъ before Х'
+    0, // ы before Х'
     0, // а before Н'
     16, // б before Н'
     18, // в before Н'
@@ -406,6 +434,8 @@ const SOUNDS: SoundTable = [
     53, // ч before Н'
     55, // ш before Н'
     56, // щ before Н'
+    0, // ъ before Н'
+    0, // ы before Н'
     0, // а before В'
     16, // б before В'
     19, // в before В'
@@ -432,6 +462,8 @@ const SOUNDS: SoundTable = [
     53, // ч before В'
     55, // ш before В'
     56, // щ before В'
+    0, // ъ before В'
+    0, // ы before В'
     0, // а before Л'
     16, // б before Л'
     18, // в before Л'
@@ -458,6 +490,8 @@ const SOUNDS: SoundTable = [
     53, // ч before Л'
     55, // ш before Л'
     56, // щ before Л'
+    0, // ъ before Л'
+    0, // ы before Л'
     0, // а before М'
     16, // б before М'
     18, // в before М'
@@ -484,6 +518,8 @@ const SOUNDS: SoundTable = [
     53, // ч before М'
     55, // ш before М'
     56, // щ before М'
+    0, // ъ before М'
+    0, // ы before М'
     0, // а before Р'
     16, // б before Р'
     18, // в before Р'
@@ -510,6 +546,8 @@ const SOUNDS: SoundTable = [
     53, // ч before Р'
     55, // ш before Р'
     56, // щ before Р'
+    0, // ъ before Р'
+    0, // ы before Р'
     0, // а before А*
     16, // б before А*
     18, // в before А*
@@ -536,6 +574,8 @@ const SOUNDS: SoundTable = [
     53, // ч before А*
     55, // ш before А*
     56, // щ before А*
+    0, // ъ before А*
+    0, // ы before А*
     0, // а before palatalizing Б
     17, // б before palatalizing Б
     19, // в before palatalizing Б
@@ -562,6 +602,8 @@ const SOUNDS: SoundTable = [
     54, // ч before palatalizing Б
     26, // ш before palatalizing Б
     27, // щ before palatalizing Б
+    0, // ъ before palatalizing Б
+    0, // ы before palatalizing Б
     0, // а before palatalizing no sound
     40, // б before palatalizing no sound
     48, // в before palatalizing no sound
@@ -588,6 +630,8 @@ const SOUNDS: SoundTable = [
     53, // ч before palatalizing no sound
     55, // ш before palatalizing no sound
     56, // щ before palatalizing no sound
+    0, // ъ before palatalizing no sound
+    0, // ы before palatalizing no sound
     0, // а before palatalizing А*
     17, // б before palatalizing А*
     19, // в before palatalizing А*
@@ -614,134 +658,136 @@ const SOUNDS: SoundTable = [
     53, // ч before palatalizing А*
     55, // ш before palatalizing А*
     56, // щ before palatalizing А*
-    7, // no sound
-    19, // А*
-    19, // О*
-    19, // Э*
-    19, // Ы*
-    19, // И*
-    19, // У*
-    19, // А1
-    19, // Э1
-    19, // Ы1
-    19, // И1
-    19, // У1
-    19, // А2
-    19, // Э2
-    19, // О
-    19, // Е
+    0, // ъ before palatalizing А*
+    0, // ы before palatalizing А*
+    49, // no sound
+    133, // А*
+    133, // О*
+    133, // Э*
+    133, // Ы*
+    133, // И*
+    133, // У*
+    133, // А1
+    133, // Э1
+    133, // Ы1
+    133, // И1
+    133, // У1
+    133, // А2
+    133, // Э2
+    133, // О
+    133, // Е
     0, // Б
-    3, // Б'
-    19, // В
-    15, // В'
+    21, // Б'
+    133, // В
+    105, // В'
     0, // Г
-    4, // Г'
+    28, // Г'
     0, // Х1
-    5, // Х1'
+    35, // Х1'
     0, // Д
-    1, // Д'
+    7, // Д'
     0, // Ж
-    2, // Ж'
-    19, // J
+    14, // Ж'
+    133, // J
     0, // З
-    1, // З'
-    7, // К
-    12, // К'
-    19, // Л
-    16, // Л'
-    19, // М
-    17, // М'
-    19, // Н
-    14, // Н'
-    7, // П
-    10, // П'
-    19, // Р
-    18, // Р'
-    7, // С
-    8, // С'
-    7, // Т
-    8, // Т'
-    7, // Ф
-    11, // Ф'
-    7, // Х
-    13, // Х'
-    7, // Ц
+    7, // З'
+    49, // К
+    84, // К'
+    133, // Л
+    112, // Л'
+    133, // М
+    119, // М'
+    133, // Н
+    98, // Н'
+    49, // П
+    70, // П'
+    133, // Р
+    126, // Р'
+    49, // С
+    56, // С'
+    49, // Т
+    56, // Т'
+    49, // Ф
+    77, // Ф'
+    49, // Х
+    91, // Х'
+    49, // Ц
     0, // Ц1
-    9, // Ч
-    2, // Ч1
-    7, // Ш
-    9, // Щ
-    6, // no sound, voiced
-    19, // unused 58
-    19, // unused 59
-    19, // unused 60
-    19, // unused 61
-    19, // unused 62
-    19, // unused 63
-    21, // palatalizing no sound
-    22, // palatalizing А*
-    22, // palatalizing О*
-    22, // palatalizing Э*
-    22, // palatalizing Ы*
-    22, // palatalizing И*
-    22, // palatalizing У*
-    22, // palatalizing А1
-    22, // palatalizing Э1
-    22, // palatalizing Ы1
-    22, // palatalizing И1
-    22, // palatalizing У1
-    22, // palatalizing А2
-    22, // palatalizing Э2
-    22, // palatalizing О
-    22, // palatalizing Е
-    20, // palatalizing Б
-    20, // palatalizing Б'
-    22, // palatalizing В
-    22, // palatalizing В'
-    20, // palatalizing Г
-    20, // palatalizing Г'
-    20, // palatalizing Х1
-    20, // palatalizing Х1'
-    20, // palatalizing Д
-    20, // palatalizing Д'
-    20, // palatalizing Ж
-    20, // palatalizing Ж'
-    22, // palatalizing J
-    20, // palatalizing З
-    20, // palatalizing З'
-    21, // palatalizing К
-    21, // palatalizing К'
-    22, // palatalizing Л
-    22, // palatalizing Л'
-    22, // palatalizing М
-    22, // palatalizing М'
-    22, // palatalizing Н
-    22, // palatalizing Н'
-    21, // palatalizing П
-    21, // palatalizing П'
-    22, // palatalizing Р
-    22, // palatalizing Р'
-    21, // palatalizing С
-    21, // palatalizing С'
-    21, // palatalizing Т
-    21, // palatalizing Т'
-    21, // palatalizing Ф
-    21, // palatalizing Ф'
-    21, // palatalizing Х
-    21, // palatalizing Х'
-    21, // palatalizing Ц
-    20, // palatalizing Ц1
-    21, // palatalizing Ч
-    20, // palatalizing Ч1
-    21, // palatalizing Ш
-    21, // palatalizing Щ
-    20, // palatalizing no sound, voiced
-    22, // palatalizing unused 58
-    22, // palatalizing unused 59
-    22, // palatalizing unused 60
-    22, // palatalizing unused 61
-    22, // palatalizing unused 62
-    22, // palatalizing unused 63
+    63, // Ч
+    14, // Ч1
+    49, // Ш
+    63, // Щ
+    42, // no sound, voiced
+    133, // unused 58
+    133, // unused 59
+    133, // unused 60
+    133, // unused 61
+    133, // unused 62
+    133, // unused 63
+    147, // palatalizing no sound
+    154, // palatalizing А*
+    154, // palatalizing О*
+    154, // palatalizing Э*
+    154, // palatalizing Ы*
+    154, // palatalizing И*
+    154, // palatalizing У*
+    154, // palatalizing А1
+    154, // palatalizing Э1
+    154, // palatalizing Ы1
+    154, // palatalizing И1
+    154, // palatalizing У1
+    154, // palatalizing А2
+    154, // palatalizing Э2
+    154, // palatalizing О
+    154, // palatalizing Е
+    140, // palatalizing Б
+    140, // palatalizing Б'
+    154, // palatalizing В
+    154, // palatalizing В'
+    140, // palatalizing Г
+    140, // palatalizing Г'
+    140, // palatalizing Х1
+    140, // palatalizing Х1'
+    140, // palatalizing Д
+    140, // palatalizing Д'
+    140, // palatalizing Ж
+    140, // palatalizing Ж'
+    154, // palatalizing J
+    140, // palatalizing З
+    140, // palatalizing З'
+    147, // palatalizing К
+    147, // palatalizing К'
+    154, // palatalizing Л
+    154, // palatalizing Л'
+    154, // palatalizing М
+    154, // palatalizing М'
+    154, // palatalizing Н
+    154, // palatalizing Н'
+    147, // palatalizing П
+    147, // palatalizing П'
+    154, // palatalizing Р
+    154, // palatalizing Р'
+    147, // palatalizing С
+    147, // palatalizing С'
+    147, // palatalizing Т
+    147, // palatalizing Т'
+    147, // palatalizing Ф
+    147, // palatalizing Ф'
+    147, // palatalizing Х
+    147, // palatalizing Х'
+    147, // palatalizing Ц
+    140, // palatalizing Ц1
+    147, // palatalizing Ч
+    140, // palatalizing Ч1
+    147, // palatalizing Ш
+    147, // palatalizing Щ
+    140, // palatalizing no sound, voiced
+    154, // palatalizing unused 58
+    154, // palatalizing unused 59
+    154, // palatalizing unused 60
+    154, // palatalizing unused 61
+    154, // palatalizing unused 62
+    154, // palatalizing unused 63
 ];
 
 pub fn sound_table() -> SoundTable

@@ -9,5 +9,5 @@ sound-over-gap-spec =
     tie.close
     (tie.spec
     (search needs) (search needs)
-    (λ c. let s = c .before .before in rw (row-voices (s .args .sound % 64) (omega arith), ← s .pre, le-leb (getD (s .args .s .now) (598 + s .args .sound % 64) 0) 5 (omega (arith, c .if1 .taken))))
-    (λ c. let s = c .before .before in rw (row-voices (s .args .sound % 64) (omega arith), ← s .pre, lt-leb (getD (s .args .s .now) (598 + s .args .sound % 64) 0) 5 (omega (arith, c .if1 .left)))))
+    (λ c. let s = c .before .before in rw (row-voices (s .args .sound % 64) (omega arith), ← s .pre, le-leb (getD (s .args .s .now) (644 + s .args .sound % 64) 0) 41 (omega (arith, c .if1 .taken))))
+    (λ c. let s = c .before .before in rw (row-voices (s .args .sound % 64) (omega arith), ← s .pre, lt-leb (getD (s .args .s .now) (644 + s .args .sound % 64) 0) 41 (omega (arith, c .if1 .left)))))
