@@ -30,7 +30,7 @@ module _ {m out : List ℕ} {i : ℕ} {v : NameState} (ready : NameReady m out i
     -- it settles its syllable's name
     piece : namePiece m i ≡ nameOf (syllableBy (classBefore m i) (v .near)) ∷ []
     unfolding namePiece
-    piece = rw (vowel-break (getD m i 0) (ready .steady .bytes i) sings, sings, levels-syllable m (ready .steady) i (ready .within) sings (ready .levels .near))
+    piece = rw (vowel-break (getD m i 0) (ready .steady .bytes i) sings, sings, levels-syllable m (ready .steady) i (ready .within) sings (ready .stands .near))
 
     -- which finds room
     pub vowel-room : 0 < v .at
@@ -39,7 +39,7 @@ module _ {m out : List ℕ} {i : ℕ} {v : NameState} (ready : NameReady m out i
     -- it puts it, and the vowel before it looks at its mark
     pub named-vowel : {out′ : List ℕ} {r : ℕ} {n : Level} → n ≡ levelBefore (v .near) (v .far) → Put (nameOf (syllableBy (classBefore m i) (v .near)) ∷ []) out out′ (v .at) r
         → Named m out out′ i v (record { at = r; near = n; far = v .far })
-    named-vowel e p = record { levels = rw e (levels-vowel m (ready .steady) i (ready .within) sings (ready .levels)); put = rw piece p }
+    named-vowel e p = record { stands = rw e (levels-vowel m (ready .steady) i (ready .within) sings (ready .stands)); put = rw piece p }
 
   -- another letter puts none, and the vowel before it looks past it
   pub named-letter : between 4 9 (classOf (getD m i 0)) ≡ true → Named m out out i v v
@@ -48,7 +48,7 @@ module _ {m out : List ℕ} {i : ℕ} {v : NameState} (ready : NameReady m out i
       let e = plain (getD m i 0) (ready .steady .bytes i) c in
       let s : isBreak (getD m i 0) ≡ false = cc in
       let n : vowelByte (getD m i 0) ≡ false = cc in
-      record { levels = levels-letter m (ready .steady) i (ready .within) s (cc) n (ready .levels); put = rw (s, n) (put-none out (v .at)) }
+      record { stands = levels-letter m (ready .steady) i (ready .within) s (cc) n (ready .stands); put = rw (s, n) (put-none out (v .at)) }
 
   -- a mark puts none and is seen by the vowel before it
   pub named-mark : classOf (getD m i 0) ≡ 1 → Named m out out i v (record { at = v .at; near = Stressed; far = v .far })
@@ -57,7 +57,7 @@ module _ {m out : List ℕ} {i : ℕ} {v : NameState} (ready : NameReady m out i
       let t = by-class (getD m i 0) (ready .steady .bytes i) in
       let k : isMark (getD m i 0) ≡ true = t .mark ∙ eq-eqb (classOf (getD m i 0)) 1 c in
       let n : vowelByte (getD m i 0) ≡ false = t .vowel ∙ rw c in
-      record { levels = levels-mark m (ready .steady) i (ready .within) k (ready .levels); put = rw (mark-within (getD m i 0) k, n) (put-none out (v .at)) }
+      record { stands = levels-mark m (ready .steady) i (ready .within) k (ready .stands); put = rw (mark-within (getD m i 0) k, n) (put-none out (v .at)) }
 
   module _ (c : isBreakClass (classOf (getD m i 0)) ≡ true) where
     breaks : isBreak (getD m i 0) ≡ true
@@ -72,7 +72,7 @@ module _ {m out : List ℕ} {i : ℕ} {v : NameState} (ready : NameReady m out i
     pub named-break : {out′ : List ℕ} {r : ℕ} {f : Level} → Put (incomplete (leftAt m i .p)) out out′ (v .at) r → f ≡ farLevel (markBefore m i)
         → Named m out out′ i v (record { at = r; near = f; far = f })
     unfolding namePiece
-    named-break p e = record { levels = levels-break m (ready .steady) i (ready .within) breaks e; put = rw breaks p }
+    named-break p e = record { stands = levels-break m (ready .steady) i (ready .within) breaks e; put = rw breaks p }
 
 module _ {m out : List ℕ} {n : ℕ} (due : NamesDue m out n) where
   -- there is room for an incomplete syllable's name at the end

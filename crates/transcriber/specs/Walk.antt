@@ -66,24 +66,31 @@ sungCodes v = cond (v .glide) (J ∷ v .sound ∷ []) (v .sound ∷ [])
 unfoldable pub pieceAt : List ℕ → ℕ → List ℕ
 pieceAt m i = cond (isBreak (getD m i 0)) (markOf (getD m i 0) ∷ []) (cond (isMark (getD m i 0)) [] (codesAt m i))
 
--- a step of the walk may be taken at place i: r stands right of it, and there is room for what it puts
-pub record Ready (m out : List ℕ) (i : ℕ) (r : Right) : Type 0 where
+-- A walk may step to place i: `Right` says what is known at the place after it, and there is room for what its byte puts
+pub record MayStep (Right : ℕ → Type 0) (piece m out : List ℕ) (i at : ℕ) : Type 0 where
   pub within : i < length m
   pub steady : Steady m
-  pub stands : Stands m (suc i) r
-  pub room : length (pieceAt m i) ≤ r .at
-  pub place : r .at ≤ length out
+  pub stands : Right (suc i)
+  pub room : length piece ≤ at
+  pub place : at ≤ length out
+
+-- and it did: that is known at the place, and the piece is in the output
+pub record DidStep (Right : ℕ → Type 0) (piece out out′ : List ℕ) (i at at′ : ℕ) : Type 0 where
+  pub stands : Right i
+  pub put : Put piece out out′ at at′
+
+-- the walk that writes the tape
+abbrev pub Ready : List ℕ → List ℕ → ℕ → Right → Type 0
+Ready m out i r = MayStep (λ j. Stands m j r) (pieceAt m i) m out i (r .at)
+
+abbrev pub Stepped : List ℕ → List ℕ → List ℕ → ℕ → Right → Right → Type 0
+Stepped m out out′ i r q = DidStep (λ j. Stands m j q) (pieceAt m i) out out′ i (r .at) (q .at)
 
 -- so that its byte is of class c, which passes a test
 pub record ReadyFor (test : ℕ → Bool) (m out : List ℕ) (i c : ℕ) (r : Right) : Type 0 where
   pub ready : Ready m out i r
   pub class : c ≡ classOf (getD m i 0)
   pub kind : test c ≡ true
-
--- and it was: q stands there, and the byte's piece is on the tape
-pub record Stepped (m out out′ : List ℕ) (i : ℕ) (r q : Right) : Type 0 where
-  pub stands : Stands m i q
-  pub put : Put (pieceAt m i) out out′ (r .at) (q .at)
 
 -- the tape of m may be written right before place `end` of the output
 pub record MayWrite (t s m out : List ℕ) (end : ℕ) : Type 0 where
@@ -98,12 +105,11 @@ namePiece m i =
     cond (isBreak (getD m i 0)) (incomplete (leftAt m i .p))
     (cond (vowelByte (getD m i 0)) (nameOf (syllableAt m i) ∷ []) [])
 
-pub record NameReady (m out : List ℕ) (i : ℕ) (v : NameState) : Type 0 where
-  pub within : i < length m
-  pub steady : Steady m
-  pub levels : LevelsAt m (suc i) (v .near) (v .far)
-  pub room : length (namePiece m i) ≤ v .at
-  pub place : v .at ≤ length out
+abbrev pub NameReady : List ℕ → List ℕ → ℕ → NameState → Type 0
+NameReady m out i v = MayStep (λ j. LevelsAt m j (v .near) (v .far)) (namePiece m i) m out i (v .at)
+
+abbrev pub Named : List ℕ → List ℕ → List ℕ → ℕ → NameState → NameState → Type 0
+Named m out out′ i v q = DidStep (λ j. LevelsAt m j (q .near) (q .far)) (namePiece m i) out out′ i (v .at) (q .at)
 
 -- at a vowel
 pub record VowelNamed (m out : List ℕ) (i : ℕ) (v : NameState) : Type 0 where
@@ -116,11 +122,6 @@ pub record WordEnd (m out : List ℕ) (i at : ℕ) : Type 0 where
   pub steady : Steady m
   pub room : length (incomplete (leftAt m i .p)) ≤ at
   pub place : at ≤ length out
-
--- its names were put
-pub record Named (m out out′ : List ℕ) (i : ℕ) (v q : NameState) : Type 0 where
-  pub levels : LevelsAt m i (q .near) (q .far)
-  pub put : Put (namePiece m i) out out′ (v .at) (q .at)
 
 -- all n names of m may be written at the start of the output
 pub record NamesDue (m out : List ℕ) (n : ℕ) : Type 0 where

@@ -1,11 +1,15 @@
 -- The invariant says that the names from the place on are in the output; each turn puts those of one byte before them. The measure is the place.
-use Rattle.laws.proofs.Kit.{_-_, _<_, _≡_, _∙_, arith, length}
+use Rattle.laws.proofs.Kit.{ℕ, _≡_, _∙_, List, arith}
 use Rattle.message.specs.Places.{namesAt}
 use Rattle.message.proofs.{Lengths.names-from, Tail.names-start}
-use Rattle.transcriber.specs.{Levels.LevelsAt, Walk.namePiece}
-use Rattle.transcriber.proofs.{Putting.put-length, Putting.put-rest, Putting.put-first, Filling.Writing, Filling.writing-length, Filling.writing-back, Filling.writing-room, Filling.writing-more, Namings.name-step, Namings.end-ends, Namings.naming-none}
+use Rattle.transcriber.specs.{Levels.LevelsAt, Walk.namePiece, Walk.NamesDue}
+use Rattle.transcriber.proofs.{Putting.put-length, Putting.put-rest, Putting.put-first, Filling.Pieces, Filling.Writing, Filling.writing-length, Filling.writing-ready, Filling.writing-more, Namings.name-step, Namings.end-ends, Namings.naming-none}
 use Rattle.transcriber.proofs.naming.fill_names.Statement.{statement}
 use Rattle.transcriber.proofs.naming.fill_names.Tie as tie
+
+-- the names from a place on, piece by piece
+pieces : {m out : List ℕ} {n : ℕ} → NamesDue m out n → Pieces m (namesAt m) (namePiece m) n
+pieces {m} d = record { steady = d .steady; step = name-step m (d .steady); part = λ i h. omega (arith, names-from m (d .steady) i (omega arith), d .total) }
 
 abbrev Inv-loop : tie.InvT-loop
 Inv-loop m out₀ n t i₀ at v₀ out i v = Writing (λ j. LevelsAt m j (v .near) (v .far)) m (namesAt m) n out₀ out n i (v .at)
@@ -23,21 +27,14 @@ step-requires : tie.Need-step-requires Inv-loop μ-loop
 step-requires c κs =
     let l = c .before .before .before in
     let t = l .before .before .before .before .before .before .before in
-    let s = t .before .before .before in
-    let m = s .args .m .now in
-    let i = l .loop .i - 1 in
-    let w = writing-back (c .before .before .loop-test .taken) (l .loop .inv) in
-    let h : i < length m = omega (arith, w .within) in
-    let x = writing-room w (namePiece m i) (name-step m (s .pre .steady) i h) (omega (arith, names-from m (s .pre .steady) i (omega arith), s .pre .total)) in
-    (t .class-table .ensures, record { within = h; steady = s .pre .steady; levels = w .stands; room = x .0; place = x .1 })
+    (t .class-table .ensures, writing-ready (l .loop .inv) (pieces (t .before .before .before .pre)) (c .before .before .loop-test .taken))
 
 loop-again : tie.Need-loop-again Inv-loop μ-loop
 loop-again c =
     let n = c .before .before in
     let l = n .before .before .before .before in
     let s = l .before .before .before .before .before .before .before .before .before .before in
-    let w = writing-back (n .before .before .before .loop-test .taken) (l .loop .inv) in
-    writing-more w _ (name-step (s .args .m .now) (s .pre .steady) (l .loop .i - 1) (omega (arith, w .within))) (n .step .ensures .levels) (n .step .ensures .put)
+    writing-more (l .loop .inv) (pieces (s .pre)) (n .before .before .before .loop-test .taken) (n .step .ensures)
 
 same-length : tie.Need-same-length Inv-loop μ-loop
 same-length c =

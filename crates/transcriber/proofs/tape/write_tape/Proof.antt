@@ -1,12 +1,16 @@
 -- The walk so far is carried by one record, to which each step adds the piece of its byte; over the whole message it puts the tape. The measure is the place.
-use Rattle.laws.proofs.Kit.{_-_, _<_, _≡_, arith, length, needs}
+use Rattle.laws.proofs.Kit.{ℕ, _≡_, List, arith, length, needs}
 use Rattle.spec.specs.Tape.{tape}
-use Rattle.message.specs.Places.{tapeAt}
+use Rattle.message.specs.Places.{Steady, tapeAt}
 use Rattle.message.proofs.{Lengths.codes-from, Tail.tape-start, Tail.tape-end}
 use Rattle.transcriber.specs.Walk.{Stands, pieceAt}
-use Rattle.transcriber.proofs.{Putting.put-none, Filling.Writing, Filling.writing-length, Filling.writing-back, Filling.writing-room, Filling.writing-more, Walking.piece-step, Walking.stands-end}
+use Rattle.transcriber.proofs.{Putting.put-none, Filling.Pieces, Filling.Writing, Filling.writing-length, Filling.writing-ready, Filling.writing-more, Walking.piece-step, Walking.stands-end}
 use Rattle.transcriber.proofs.tape.write_tape.Statement.{statement}
 use Rattle.transcriber.proofs.tape.write_tape.Tie as tie
+
+-- the tape from a place on, piece by piece
+pieces : (m : List ℕ) → Steady m → Pieces m (tapeAt m) (pieceAt m) (length (tape m))
+pieces m s = record { steady = s; step = piece-step m s; part = λ i h. omega (arith, codes-from m s i (omega arith)) }
 
 abbrev Inv-loop : tie.InvT-loop
 Inv-loop m out₀ end t s i₀ r₀ out i r = Writing (λ j. Stands m j r) m (tapeAt m) (length (tape m)) out₀ out end i (r .at)
@@ -23,21 +27,14 @@ loop-holds c =
 step-requires : tie.Need-step-requires Inv-loop μ-loop
 step-requires c κs =
     let l = c .before .before in
-    let s = l .before .before .before .before in
-    let i = l .loop .i - 1 in
-    let m = s .args .m .now in
-    let w = writing-back (c .before .loop-test .taken) (l .loop .inv) in
-    let h : i < length m = omega (arith, w .within) in
-    let x = writing-room w (pieceAt m i) (piece-step m (s .pre .steady) i h) (omega (arith, codes-from m (s .pre .steady) i (omega arith))) in
-    (s .pre .lent, record { within = h; steady = s .pre .steady; stands = w .stands; room = x .0; place = x .1 })
+    let a = l .before .before .before .before .pre in
+    (a .lent, writing-ready (l .loop .inv) (pieces _ (a .steady)) (c .before .loop-test .taken))
 
 loop-again : tie.Need-loop-again Inv-loop μ-loop
 loop-again c =
     let n = c .before .before in
     let l = n .before .before .before in
-    let s = l .before .before .before .before in
-    let w = writing-back (n .before .before .loop-test .taken) (l .loop .inv) in
-    writing-more w _ (piece-step (s .args .m .now) (s .pre .steady) (l .loop .i - 1) (omega (arith, w .within))) (n .step .ensures .stands) (n .step .ensures .put)
+    writing-more (l .loop .inv) (pieces _ (l .before .before .before .before .pre .steady)) (n .before .before .loop-test .taken) (n .step .ensures)
 
 returns : tie.Need-returns Inv-loop μ-loop
 returns c =
