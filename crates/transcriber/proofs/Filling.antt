@@ -11,42 +11,44 @@ pub record Pieces (m : List ℕ) (rest piece : ℕ → List ℕ) (all : ℕ) : T
   pub part : (i : ℕ) → i < length m → length (rest i) ≤ all
 
 -- the walk stands at place i: `rest i` stands right before place `end`, and there is room for all
-pub record Writing (Right : ℕ → Type 0) (m : List ℕ) (rest : ℕ → List ℕ) (all : ℕ) (out₀ out : List ℕ) (end i at : ℕ) : Type 0 where
+pub record Writing (Right : ℕ → Type 0) (m : List ℕ) (rest piece : ℕ → List ℕ) (all : ℕ) (out₀ out : List ℕ) (end i at : ℕ) : Type 0 where
+  pub pieces : Pieces m rest piece all
   pub stands : Right i
   pub within : i ≤ length m
   pub room : all ≤ end
   pub place : end ≤ length out₀
   pub put : Put (rest i) out₀ out end at
 
-module _ {Right : ℕ → Type 0} {m : List ℕ} {rest : ℕ → List ℕ} {all : ℕ} {out₀ out : List ℕ} {end i at : ℕ} (w : Writing Right m rest all out₀ out end i at) where
+module _ {Right : ℕ → Type 0} {m : List ℕ} {rest piece : ℕ → List ℕ} {all : ℕ} {out₀ out : List ℕ} {end i at : ℕ} (w : Writing Right m rest piece all out₀ out end i at) where
   -- the output is as long as it was
   pub writing-length : length out ≡ length out₀
   writing-length = put-length _ _ _ _ _ (w .place) (w .put)
 
-  module _ {piece : ℕ → List ℕ} (p : Pieces m rest piece all) (z : 0 < i) where
-    -- from a place that is not the first the walk can step on
-    pub writing-ready : MayStep Right (piece (i - 1)) m out (i - 1) at
-    writing-ready =
-        let e : suc (i - 1) ≡ i = omega arith in
-        let h : i - 1 < length m = omega (arith, w .within) in
-        let s = rw e at (ap length (p .step (i - 1) h) ∙ length-append (piece (i - 1)) (rest (suc (i - 1)))) in
-        record {
-          within = h;
-          steady = p .steady;
-          stands = rw e (w .stands);
-          room = omega (arith, s, p .part (i - 1) h, w .put .place, w .room);
-          place = omega (arith, writing-length, w .put .place, w .place);
-        }
+  -- what the byte before place i puts stands before the rest
+  writing-step : 0 < i → rest (i - 1) ≡ piece (i - 1) ++ rest i
+  writing-step z = let e : suc (i - 1) ≡ i = omega arith in rw e at (w .pieces .step (i - 1) (omega (arith, w .within)))
 
-    -- and then stands there
-    pub writing-more : {Then : ℕ → Type 0} {out′ : List ℕ} {at′ : ℕ} → DidStep Then (piece (i - 1)) out out′ (i - 1) at at′ → Writing Then m rest all out₀ out′ end (i - 1) at′
-    writing-more s =
-        let e : suc (i - 1) ≡ i = omega arith in
-        let h : i - 1 < length m = omega (arith, w .within) in
-        record {
-          stands = s .stands;
-          within = omega arith;
-          room = w .room;
-          place = w .place;
-          put = rw (p .step (i - 1) h, e) (put-over _ _ _ _ _ _ _ _ (w .place) (w .put) (s .put));
-        }
+  -- from a place that is not the first the walk can step on
+  pub writing-ready : 0 < i → MayStep Right (piece (i - 1)) m out (i - 1) at
+  writing-ready z =
+      let e : suc (i - 1) ≡ i = omega arith in
+      let h : i - 1 < length m = omega (arith, w .within) in
+      let s = ap length (writing-step z) ∙ length-append (piece (i - 1)) (rest i) in
+      record {
+        within = h;
+        steady = w .pieces .steady;
+        stands = rw e (w .stands);
+        room = omega (arith, s, w .pieces .part (i - 1) h, w .put .place, w .room);
+        place = omega (arith, writing-length, w .put .place, w .place);
+      }
+
+  -- and then stands there
+  pub writing-more : 0 < i → {Then : ℕ → Type 0} {out′ : List ℕ} {at′ : ℕ} → DidStep Then (piece (i - 1)) out out′ (i - 1) at at′ → Writing Then m rest piece all out₀ out′ end (i - 1) at′
+  writing-more z s = record {
+    pieces = w .pieces;
+    stands = s .stands;
+    within = omega (arith, w .within);
+    room = w .room;
+    place = w .place;
+    put = rw (writing-step z) (put-over _ _ _ _ _ _ _ _ (w .place) (w .put) (s .put));
+  }

@@ -12,7 +12,7 @@ unfolding everything
 plain b = where-same (λ x. between 4 9 (classOf x)) (λ x. isBreak x ∷ isMark x ∷ vowelByte x ∷ []) (λ _. false ∷ false ∷ false ∷ []) [] b refl
 
 -- the names from a place on are those that its byte settles and the rest's
-pub name-step : (m : List ℕ) → Steady m → (i : ℕ) → i < length m → namesAt m i ≡ namePiece m i ++ namesAt m (suc i)
+name-step : (m : List ℕ) → Steady m → (i : ℕ) → i < length m → namesAt m i ≡ namePiece m i ++ namesAt m (suc i)
 unfolding namePiece
 name-step m steady i h = by (isBreak (getD m i 0)) refl (vowelByte (getD m i 0)) refl
   where
@@ -86,11 +86,14 @@ module _ {m out : List ℕ} {n : ℕ} (due : NamesDue m out n) where
 
   -- where the walk begins
   pub naming-none : {out′ : List ℕ} {at : ℕ} {f : Level} → f ≡ farLevel (markBefore m (length m)) → Put (incomplete (leftAt m (length m) .p)) out out′ n at
-      → Writing (λ j. LevelsAt m j f f) m (namesAt m) n out′ out′ n (length m) at
-  naming-none e p = record {
-    stands = levels-end m (due .steady) e;
-    within = omega arith;
-    room = omega arith;
-    place = omega (arith, put-length _ _ _ _ _ (due .room) p, due .room);
-    put = rw (names-end m (due .steady)) (put-again _ _ _ _ _ (due .room) p);
-  }
+      → Writing (λ j. LevelsAt m j f f) m (namesAt m) (namePiece m) n out′ out′ n (length m) at
+  naming-none e p =
+      let y = due .steady in
+      record {
+        pieces = record { steady = y; step = name-step m y; part = λ i h. omega (arith, names-from m y i (omega arith), due .total) };
+        stands = levels-end m y e;
+        within = omega arith;
+        room = omega arith;
+        place = omega (arith, put-length _ _ _ _ _ (due .room) p, due .room);
+        put = rw (names-end m y) (put-again _ _ _ _ _ (due .room) p);
+      }
