@@ -28,27 +28,6 @@ put-name-requires c κs =
     let t = by-class (getD (s .args .m .now) (s .args .i) 0) (s .pre .1 .steady .bytes (s .args .i)) in
     (s .pre .0, record { ready = s .pre .1; vowel = classed k 10 12 (c .before .if1 .taken) (omega (arith, k .class-of .ensures, t .class)) })
 
-returns-2 : tie.Need-returns-2
-returns-2 c =
-    let k = c .before .before in
-    named-letter (k .before .before .before .before .pre .1) (classed k 4 9 (c .if2 .taken) (omega (arith, c .before .if1 .left)))
-
-returns-3 : tie.Need-returns-3
-returns-3 c =
-    let k = c .before .before .before in
-    named-mark (k .before .before .before .before .pre .1) (sym (k .class-of .ensures) ∙ c .if3 .taken)
-
-put-end-requires : tie.Need-put-end-requires
-put-end-requires c κs =
-    let s = c .before .before .before .before .before .before .before .before in
-    (s .pre .0, word-ends (s .pre .1) (breaks (c .before)))
-
-returns-4 : tie.Need-returns-4
-returns-4 c =
-    let e = c .before .before .before in
-    let l = e .before .before in
-    named-break (l .before .before .before .before .before .before .before .pre .1) (breaks l) (e .put-end .ensures) (c .at-word-end .ensures)
-
 pub step-spec : {M : Type 1} → statement M
 step-spec =
     tie.close
@@ -56,8 +35,8 @@ step-spec =
     (search needs) (λ c κs. search needs)
     put-name-requires
     (search needs) (λ c. search needs)
-    returns-2
-    returns-3
-    put-end-requires
+    (λ c. let k = c .before .before in named-letter (k .before .before .before .before .pre .1) (classed k 4 9 (c .if2 .taken) (omega (arith, c .before .if1 .left))))
+    (λ c. let k = c .before .before .before in named-mark (k .before .before .before .before .pre .1) (sym (k .class-of .ensures) ∙ c .if3 .taken))
+    (λ c κs. let s = c .before .before .before .before .before .before .before .before in (s .pre .0, word-ends (s .pre .1) (breaks (c .before))))
     (λ c κs. search needs) (search needs)
-    returns-4)
+    (λ c. let e = c .before .before .before in let l = e .before .before in named-break (l .before .before .before .before .before .before .before .pre .1) (breaks l) (e .put-end .ensures) (c .at-word-end .ensures)))

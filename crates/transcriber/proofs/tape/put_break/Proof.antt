@@ -4,21 +4,6 @@ use Rattle.transcriber.proofs.Walking.{break-room, break-steps}
 use Rattle.transcriber.proofs.tape.put_break.Statement.{statement}
 use Rattle.transcriber.proofs.tape.put_break.Tie as tie
 
-returns : tie.Need-returns
-returns c =
-    let p = c .before .before in
-    let k = p .before .before in
-    let w = k .before in
-    break-steps (w .before .before .before .pre .1) true (eq-eqb _ 3 (k .if1 .taken)) refl (w .at-word-end .ensures) (p .put .ensures)
-
-returns-2 : tie.Need-returns-2
-returns-2 c =
-    let p = c .before .before in
-    let g = p .before .before in
-    let k = g .before in
-    let w = k .before in
-    break-steps (w .before .before .before .pre .1) false (ne-eqb _ 3 (k .if1 .left)) (g .sound-over-gap .ensures) (w .at-word-end .ensures) (p .put2 .ensures)
-
 pub put-break-spec : {M : Type 1} → statement M
 put-break-spec =
     tie.close
@@ -26,8 +11,8 @@ put-break-spec =
     (λ c κs. search needs)
     (λ c κs. let a = c .before .before .before .before .before .pre .1 in (break-room a, a .ready .place))
     (search needs)
-    returns
+    (λ c. let p = c .before .before in let w = p .before .before .before in break-steps (w .before .before .before .pre .1) true (eq-eqb _ 3 (p .before .before .if1 .taken)) refl (w .at-word-end .ensures) (p .put .ensures))
     (λ c κs. search needs)
     (λ c κs. let a = c .before .before .before .before .before .before .pre .1 in (break-room a, a .ready .place))
     (search needs)
-    returns-2)
+    (λ c. let g = c .before .before .before .before in let w = g .before .before in break-steps (w .before .before .before .pre .1) false (ne-eqb _ 3 (g .before .if1 .left)) (g .sound-over-gap .ensures) (w .at-word-end .ensures) (c .before .before .put2 .ensures)))

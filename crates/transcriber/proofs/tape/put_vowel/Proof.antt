@@ -4,14 +4,6 @@ use Rattle.transcriber.proofs.Walking.{vowel-ready, vowel-room, vowel-s
 use Rattle.transcriber.proofs.tape.put_vowel.Statement.{statement}
 use Rattle.transcriber.proofs.tape.put_vowel.Tie as tie
 
-returns : tie.Need-returns
-returns c =
-    let w = c .before in
-    let f = w .before in
-    let p = f .before .before .before in
-    let v = p .before .before in
-    vowel-steps (v .before .before .before .pre .1) (v .vowel-at .ensures) (f .first-code .ensures) (w .sound-of .ensures) (c .level-before .ensures) (p .put-sung .ensures)
-
 pub put-vowel-spec : {M : Type 1} → statement M
 put-vowel-spec =
     tie.close
@@ -19,4 +11,4 @@ put-vowel-spec =
     (λ c κs. let s = c .before .before in (s .pre .0, vowel-ready (s .pre .1)))
     (λ c κs. let v = c .before in let a = v .before .before .before .pre .1 in (vowel-room a (v .vowel-at .ensures), a .ready .place))
     (search needs) (search needs) (search needs) (search needs)
-    returns)
+    (λ c. let f = c .before .before in let v = f .before .before .before .before .before in vowel-steps (v .before .before .before .pre .1) (v .vowel-at .ensures) (f .first-code .ensures) (c .before .sound-of .ensures) (c .level-before .ensures) (f .before .before .before .put-sung .ensures)))

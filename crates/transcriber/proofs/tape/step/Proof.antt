@@ -19,21 +19,6 @@ put-vowel-requires c κs =
     let s = k .before .before .before .before in
     (s .pre .0 .byte, classed k 10 12 (c .before .if1 .taken) (omega (arith, k .class-of .ensures, by-class (getD (s .args .m .now) (s .args .i) 0) (s .pre .1 .steady .bytes (s .args .i)) .class)))
 
-put-consonant-requires : tie.Need-put-consonant-requires
-put-consonant-requires c κs =
-    let e = c .before .before in
-    (e .before .before .before .before .before .pre .0, classed (e .before) 6 9 (c .before .if2 .taken) (omega (arith, e .if1 .left)))
-
-returns-3 : tie.Need-returns-3
-returns-3 c =
-    let t = c .before .before in
-    rw (c .pass-over .ensures) (sign-steps (classed (t .before .before .before) 4 5 (t .if3 .taken) (omega (arith, t .before .if2 .left))) (c .before .seen-over .ensures))
-
-returns-4 : tie.Need-returns-4
-returns-4 c =
-    let k = c .before .before .before .before .before in
-    rw (c .pass-over2 .ensures) (mark-steps (k .before .before .before .before .pre .1) (sym (k .class-of .ensures) ∙ c .before .if4 .taken))
-
 put-break-requires : tie.Need-put-break-requires
 put-break-requires c κs =
     let e = c .before in
@@ -49,10 +34,10 @@ step-spec =
     (search needs) (λ c κs. search needs)
     put-vowel-requires
     (search needs) (λ c. search needs)
-    put-consonant-requires
+    (λ c κs. let e = c .before .before in (e .before .before .before .before .before .pre .0, classed (e .before) 6 9 (c .before .if2 .taken) (omega (arith, e .if1 .left))))
     (search needs) (λ c. search needs) (search needs) (search needs)
-    returns-3
+    (λ c. let t = c .before .before in rw (c .pass-over .ensures) (sign-steps (classed (t .before .before .before) 4 5 (t .if3 .taken) (omega (arith, t .before .if2 .left))) (c .before .seen-over .ensures)))
     (search needs)
-    returns-4
+    (λ c. let k = c .before .before .before .before .before in rw (c .pass-over2 .ensures) (mark-steps (k .before .before .before .before .pre .1) (sym (k .class-of .ensures) ∙ c .before .if4 .taken)))
     put-break-requires
     (search needs) (λ c. search needs))

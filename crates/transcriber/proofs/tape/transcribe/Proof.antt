@@ -28,14 +28,6 @@ write-tape-requires c κs =
       place = e .if1 .left;
     }
 
-returns-3 : tie.Need-returns-3
-unfolding tapeAnswer
-returns-3 c =
-    let f = c .before .before in
-    let e = f .before .before .before .before .before .before in
-    let k = e .before .before in
-    answered-written (accepted k) (counted k) (e .if1 .left) (put-first _ _ _ _ _ (counted k) (f .write-tape .ensures))
-
 pub transcribe-spec : {M : Type 1} → statement M
 unfolding tapeAnswer
 transcribe-spec =
@@ -47,4 +39,5 @@ transcribe-spec =
     (search needs) (search needs)
     write-tape-requires
     (search needs)
-    returns-3)
+    (λ c. let f = c .before .before in let e = f .before .before .before .before .before .before in let k = e .before .before in
+    answered-written (accepted k) (counted k) (e .if1 .left) (put-first _ _ _ _ _ (counted k) (f .write-tape .ensures))))
