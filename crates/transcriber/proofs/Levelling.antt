@@ -2,7 +2,8 @@
 use Rattle.laws.proofs.Kit.{ℕ, suc, _<_, _≡_, refl, sym, ap, _∙_, Bool, true, false, List, length, getD, drop, drop-length}
 use Rattle.spec.specs.{Letters.isBreak, Letters.isMark, Letters.beginsWithMark, Refusals.vowelByte, Syllables.nextStressed, declared.Level.Level, declared.Level.the-variants.Stressed}
 use Rattle.message.specs.Places.{Steady, letterOf, wordAt, markBefore, markedAt}
-use Rattle.message.proofs.{Bytes.not-both, Bytes.vowel-break, Bytes.vowel-mark, Computed.everything, Left.begins-at, Left.mark-within, Left.unmarked-after, Tail.word-letter, Tail.word-break, Tail.word-end, Tail.marked-within, Tail.marked-break, Tail.marked-end}
+use Rattle.message.proofs.{Bytes.vowel-break, Bytes.vowel-mark, Left.begins-at, Left.mark-within, Left.unmarked-after, Tail.word-letter, Tail.word-break, Tail.word-end, Tail.marked-within, Tail.marked-break, Tail.marked-end}
+use Rattle.laws.proofs.Classes.{break-mark}
 use Rattle.transcriber.specs.{Levels.levelBy, Levels.farLevel, Levels.levelBefore, Levels.nearLevel, Levels.LevelsAt, Sounds.classBefore, Sounds.syllableBy, Walk.syllableAt}
 use Rattle.transcriber.proofs.Raw.{syllable-raw}
 
@@ -20,11 +21,6 @@ level-far : (marked : Bool) → farLevel marked ≡ levelBy false false marked
 unfolding levelBy
 level-far true = refl
 level-far false = refl
-
--- a break is no mark
-break-mark : (b : ℕ) → b < 256 → isBreak b ≡ true → isMark b ≡ false
-unfolding everything
-break-mark b = not-both isBreak isMark b refl
 
 module _ (m : List ℕ) (steady : Steady m) (i : ℕ) (h : i < length m) where
   -- the syllable of a vowel
@@ -65,7 +61,7 @@ module _ (m : List ℕ) (steady : Steady m) (i : ℕ) (h : i < length m) where
   levels-break s e =
       let w = marked-break m steady i h s in
       record {
-        near = rw (e, begins-at m i, break-mark (getD m i 0) (steady .bytes i) s, word-break m steady i h s, w) (level-far (markBefore m i));
+        near = rw (e, begins-at m i, break-mark (getD m i 0) s, word-break m steady i h s, w) (level-far (markBefore m i));
         far = rw w e;
       }
 

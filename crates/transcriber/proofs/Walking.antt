@@ -3,9 +3,9 @@ use Rattle.laws.proofs.Kit.{ℕ, suc, _+_, _%_, _<_, _≤_, arith, _≡_, refl,
 use Rattle.spec.specs.{Letters.between, Letters.small, Letters.firstByte, Letters.isBreak, Letters.isGap, Letters.isMark, Codes.J, Codes.markOf, Codes.isSound, Codes.isVoicing, Vowels.softens, Voicing.Tone, Voicing.voiced, Voicing.voiceless, Refusals.vowelByte, Refusals.signByte, Refusals.consonantByte, declared.Level.Level, declared.Level.the-variants.Stressed, declared.Syllable.Syllable}
 use Rattle.message.specs.{Classes.classOf, Classes.isBreakClass, Classes.isSignClass, Classes.isConsonantClass, Classes.isVowelClass, Classes.elidedAt, Fused.toneBefore, Fused.vowelCodes, Fused.consonantCode, Fused.letterCodes, Places.Steady, Places.leftAt, Places.letterOf, Places.markBefore, Places.tapeAt, Places.wordAt, Places.toneAt, Places.soundAt, Places.codesAt, Places.toneAfter, Places.soundAfter}
 use Rattle.message.proofs.{Bytes.below, Bytes.by-class, Computed.everything, Left.mark-within, StepTable.class-spoken, Silent.elided-at, Tail.tape-letter, Tail.tape-mark, Tail.tape-break, Tail.word-letter, Tail.word-mark, Tail.word-break, Tail.word-end, Tail.tone-letter, Tail.sound-letter, Tail.tone-mark, Tail.sound-mark, Tail.tone-break, Tail.sound-break, Tail.tone-end, Tail.sound-end}
-use Rattle.laws.proofs.{Codes.vowel-sound, MarkIndex.sound-range}
+use Rattle.laws.proofs.{Classes.cond-same, Codes.vowel-sound, MarkIndex.sound-range}
 use Rattle.transcriber.specs.{Sounds.byteBefore, Sounds.AtBoundary, Sounds.rowOf, Sounds.syllableBy, Sounds.glideBy, Sounds.hardBefore, Sounds.toneBy, Sounds.codeBy, Sounds.Tells, Sounds.codeBefore, Sounds.Before, Sounds.soundTable, Walk.VowelAt, Walk.syllableAt, Walk.Stands, Walk.Sung, Walk.sungCodes, Walk.Put, Walk.pieceAt, Walk.Ready, Walk.ReadyFor, Walk.Stepped, Levels.farLevel, Levels.levelBefore, Levels.LevelsAt, declared.Right.Right, declared.Vowel.Vowel}
-use Rattle.transcriber.proofs.{Putting.put-none, Levelling.levels-syllable, Levelling.levels-letter, Levelling.levels-vowel, Levelling.levels-mark, Levelling.levels-break, Levelling.levels-end, SoundTable.code-read, Raw.where-same, Raw.cond-same, Raw.told-at, Raw.hard-raw, Raw.glide-raw}
+use Rattle.transcriber.proofs.{Putting.put-none, Levelling.levels-syllable, Levelling.levels-letter, Levelling.levels-vowel, Levelling.levels-mark, Levelling.levels-break, Levelling.levels-end, SoundTable.code-read, Raw.where-same, Raw.told-at, Raw.hard-raw, Raw.glide-raw}
 
 -- 64 more can be told from less
 tells : (n : ℕ) (soft : Bool) → n < 64 → Tells (n + cond soft 64 0) soft (toneBy n) (codeBy n)
@@ -32,10 +32,6 @@ tells-end false = tells 0 false (omega arith)
 -- a number between two others
 pub between-true : (lo hi c : ℕ) → lo ≤ c → c ≤ hi → between lo hi c ≡ true
 between-true lo hi c h l = rw (le-leb lo c h, le-leb c hi l)
-
--- a class that is neither 0 nor 1
-pub above : (c : ℕ) → (c ≡ 0 → ⊥) → (c ≡ 1 → ⊥) → 2 ≤ c
-above c z o = omega arith
 
 -- no letter softens nothing
 none-softens : softens (firstByte []) ≡ false
@@ -150,9 +146,14 @@ module _ {m out : List ℕ} {i : ℕ} {r : Right} (a : Ready m out i r) where
         put = rw (mark-within (getD m i 0) k, k) (put-none out (r .at));
       }
 
--- a step may be taken at a byte whose class is within bounds
-pub ready-for : (lo hi : ℕ) {m out : List ℕ} {i c : ℕ} {r : Right} → Ready m out i r → c ≡ classOf (getD m i 0) → lo ≤ c → c ≤ hi → ReadyFor (between lo hi) m out i c r
-ready-for lo hi {c = c} a e l h = record { ready = a; class = e; kind = between-true lo hi c l h }
+module _ {m : List ℕ} {i c : ℕ} (steady : Steady m) (h : i < length m) (e : c ≡ classOf (getD m i 0)) where
+  -- the highest classes are the vowels'
+  pub vowel-class : 10 ≤ c → isVowelClass c ≡ true
+  vowel-class l = between-true 10 12 c l (omega (arith, by-class (getD m i 0) (steady .bytes i) .class))
+
+  -- and the lowest that a byte of an accepted message has, but for the mark's, are the breaks'
+  pub break-class : c < 4 → (c ≡ 1 → ⊥) → isBreakClass c ≡ true
+  break-class l n = let z : c ≡ 0 → ⊥ = λ z. steady .named i h (sym e ∙ z) in between-true 2 3 c (omega arith) (omega arith)
 
 -- the byte's own test, which its class tells
 tested : {test : ℕ → Bool} {m out : List ℕ} {i c : ℕ} {r : Right} → ReadyFor test m out i c r → test (classOf (getD m i 0)) ≡ true
