@@ -121,11 +121,11 @@ fn put_sung(out: &mut [u8], at: usize, v: Vowel) -> usize
     requires { ⌜ (length (sungCodes v) ≤ at) × (at ≤ length (now out)) ⌝ }
     ensures { λ r. ⌜ Put (sungCodes v) (now (out .entry)) (now (out .exit)) at r ⌝ }
 {
+    let place = put(out, at, v.sound);
     if v.glide {
-        let place = put(out, at, v.sound);
         return put(out, place, codes::GLIDE);
     }
-    put(out, at, v.sound)
+    place
 }
 
 // A vowel puts its sound, and a glide before it where it has one. c is its class.
