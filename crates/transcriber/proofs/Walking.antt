@@ -48,7 +48,7 @@ break-gap : (b : ℕ) → b < 256 → isBreak b ≡ true → isGap b ≡ not (eq
 unfolding everything
 break-gap b = where-same isBreak isGap (λ x. not (eqb (classOf x) 3)) true b refl
 
--- what is known of the byte of a letter: it is no break and no mark, but a sign or not, a vowel or not, and softens the letter before it or not
+-- What is known of the byte of a letter: it is no break and no mark, but a sign or not, a vowel or not, and softens the letter before it or not
 pub record Spelt (b : ℕ) (sign vowel soft : Bool) : Type 0 where
   pub break : isBreak b ≡ false
   pub mark : isMark b ≡ false
@@ -56,26 +56,19 @@ pub record Spelt (b : ℕ) (sign vowel soft : Bool) : Type 0 where
   pub sings : vowelByte b ≡ vowel
   pub softening : softens (small b) ≡ soft
 
--- of every byte that passes a test, by one computation
-spelt-by : (test : ℕ → Bool) (s v : Bool) (soft : ℕ → Bool) (b : ℕ)
-    → map (λ x. cond (test x) (isBreak x ∷ isMark x ∷ signByte x ∷ vowelByte x ∷ softens (small x) ∷ []) []) (below 256) ≡ map (λ x. cond (test x) (false ∷ false ∷ s ∷ v ∷ soft x ∷ []) []) (below 256)
-    → b < 256 → test b ≡ true → Spelt b s v (soft b)
-spelt-by test s v soft b t h k =
-    let e = where-same test (λ x. isBreak x ∷ isMark x ∷ signByte x ∷ vowelByte x ∷ softens (small x) ∷ []) (λ x. false ∷ false ∷ s ∷ v ∷ soft x ∷ []) [] b t h k in
-    record { break = cc; mark = cc; sounds = cc; sings = cc; softening = cc }
+module _ {test : ℕ → Bool} {m out : List ℕ} {i c : ℕ} {r : Right} (a : ReadyFor test m out i c r) where
+  -- the byte's own test, which its class tells
+  tested : test (classOf (getD m i 0)) ≡ true
+  tested = ap test (sym (a .class)) ∙ a .kind
 
--- of the signs only ь softens, no consonant does, and of the vowels those of classes 11 and 12
-spelt-sign : (b : ℕ) → b < 256 → signByte b ≡ true → Spelt b true false (eqb (classOf b) 5)
-unfolding everything
-spelt-sign b = spelt-by signByte true false (λ x. eqb (classOf x) 5) b refl
-
-spelt-consonant : (b : ℕ) → b < 256 → consonantByte b ≡ true → Spelt b false false false
-unfolding everything
-spelt-consonant b = spelt-by consonantByte false false (λ _. false) b refl
-
-spelt-vowel : (b : ℕ) → b < 256 → vowelByte b ≡ true → Spelt b false true (not (eqb (classOf b) 10))
-unfolding everything
-spelt-vowel b = spelt-by vowelByte false true (λ x. not (eqb (classOf x) 10)) b refl
+  -- of every byte whose class passes a test, by one computation
+  spelt-by : (s v : Bool) (soft : ℕ → Bool)
+      → map (λ x. cond (test (classOf x)) (isBreak x ∷ isMark x ∷ signByte x ∷ vowelByte x ∷ softens (small x) ∷ []) []) (below 256)
+      ≡ map (λ x. cond (test (classOf x)) (false ∷ false ∷ s ∷ v ∷ soft (classOf x) ∷ []) []) (below 256)
+      → Spelt (getD m i 0) s v (soft c)
+  spelt-by s v soft t =
+      let e = where-same (λ x. test (classOf x)) (λ x. isBreak x ∷ isMark x ∷ signByte x ∷ vowelByte x ∷ softens (small x) ∷ []) (λ x. false ∷ false ∷ s ∷ v ∷ soft (classOf x) ∷ []) [] (getD m i 0) t (a .ready .steady .bytes i) tested in
+      rw (a .class) (record { break = cc; mark = cc; sounds = cc; sings = cc; softening = cc })
 
 module _ (m : List ℕ) (steady : Steady m) (i : ℕ) (h : i < length m) where
   -- each byte's piece stands before the rest's tape
@@ -155,18 +148,15 @@ module _ {m : List ℕ} {i c : ℕ} (steady : Steady m) (h : i < length m) (e : 
   pub break-class : c < 4 → (c ≡ 1 → ⊥) → isBreakClass c ≡ true
   break-class l n = let z : c ≡ 0 → ⊥ = λ z. steady .named i h (sym e ∙ z) in between-true 2 3 c (omega arith) (omega arith)
 
--- the byte's own test, which its class tells
-tested : {test : ℕ → Bool} {m out : List ℕ} {i c : ℕ} {r : Right} → ReadyFor test m out i c r → test (classOf (getD m i 0)) ≡ true
-tested {test} a = ap test (sym (a .class)) ∙ a .kind
+-- of the signs only ь softens
+spelt-sign : {m out : List ℕ} {i c : ℕ} {r : Right} → ReadyFor isSignClass m out i c r → Spelt (getD m i 0) true false (eqb c 5)
+unfolding everything
+spelt-sign a = spelt-by a true false (λ x. eqb x 5) refl
 
--- a sign is not heard
+-- they are not heard
 pub sign-steps : {m out : List ℕ} {i c seen : ℕ} {r : Right} → ReadyFor isSignClass m out i c r → seen ≡ r .sound % 64 + cond (eqb c 5) 64 0
     → Stepped m out out i r (record { at = r .at; sound = seen; near = r .near; far = r .far })
-sign-steps {m} {i = i} a n =
-    let b = getD m i 0 in
-    let t = a .ready .steady .bytes i in
-    let p = spelt-sign b t (by-class b t .sign ∙ tested a) in
-    silent-steps (a .ready) p (codes-sign m (a .ready .steady) i (a .ready .within) p) (rw (a .class) at n)
+sign-steps {m} {i = i} a = silent-steps (a .ready) (spelt-sign a) (codes-sign m (a .ready .steady) i (a .ready .within) (spelt-sign a))
 
 module _ {m out : List ℕ} {i c : ℕ} {r : Right} (a : ReadyFor isBreakClass m out i c r) where
   breaks : isBreak (getD m i 0) ≡ true
@@ -200,8 +190,10 @@ module _ {m out : List ℕ} {i c : ℕ} {r : Right} (a : ReadyFor isConsonantCla
   consonant : consonantByte (getD m i 0) ≡ true
   consonant = by-class (getD m i 0) (a .ready .steady .bytes i) .consonant ∙ tested a
 
+  -- no consonant softens
   spelt : Spelt (getD m i 0) false false false
-  spelt = spelt-consonant (getD m i 0) (a .ready .steady .bytes i) consonant
+  unfolding everything
+  spelt = spelt-by a false false (λ _. false) refl
 
   -- its code can be read
   pub consonant-before : Before (getD m i 0) (r .sound)
@@ -247,11 +239,10 @@ module _ {m out : List ℕ} {i c : ℕ} {r : Right} (a : ReadyFor isVowelClass m
   pub vowel-ready : VowelAt m i c (r .near)
   vowel-ready = record { within = a .ready .within; steady = a .ready .steady; class = a .class; vowel = a .kind; level = a .ready .stands .levels .near }
 
-  sings : vowelByte (getD m i 0) ≡ true
-  sings = vowel-sings m i c (r .near) vowel-ready
-
-  vowel-spelt : Spelt (getD m i 0) false true (not (eqb (classOf (getD m i 0)) 10))
-  vowel-spelt = spelt-vowel (getD m i 0) (a .ready .steady .bytes i) sings
+  -- of the vowels those of classes 11 and 12 soften
+  vowel-spelt : Spelt (getD m i 0) false true (not (eqb c 10))
+  unfolding everything
+  vowel-spelt = spelt-by a false true (λ x. not (eqb x 10)) refl
 
   module _ {v : Vowel} (s : Sung m i v) where
     -- its codes
@@ -259,7 +250,7 @@ module _ {m out : List ℕ} {i c : ℕ} {r : Right} (a : ReadyFor isVowelClass m
     unfolding vowelCodes
     sung-codes =
         let t = a .ready .steady .bytes i in
-        let e = class-spoken m i t (λ e. true≢false (sym sings ∙ by-class (getD m i 0) t .vowel ∙ ap isVowelClass e)) in
+        let e = class-spoken m i t (λ e. true≢false (sym (vowel-spelt .sings) ∙ by-class (getD m i 0) t .vowel ∙ ap isVowelClass e)) in
         codes-heard m (a .ready .steady) i (a .ready .within) vowel-spelt e ∙ rw (← s .sound, ← s .glide)
 
     -- for which there is room
@@ -273,13 +264,13 @@ module _ {m out : List ℕ} {i c : ℕ} {r : Right} (a : ReadyFor isVowelClass m
       where
         by : (g : Bool) → Tells (cond g J (v .sound) + cond soft 64 0) soft (toneAfter (cond g (J ∷ v .sound ∷ []) (v .sound ∷ [])) t) (soundAfter (cond g (J ∷ v .sound ∷ []) (v .sound ∷ [])) k)
         by true = tells-sound J soft refl
-        by false = tells-sound (v .sound) soft (rw (s .sound) (vowel-sound _ _ _ (small (getD m i 0)) sings))
+        by false = tells-sound (v .sound) soft (rw (s .sound) (vowel-sound _ _ _ (small (getD m i 0)) (vowel-spelt .sings)))
 
     pub vowel-steps : {out′ : List ℕ} {at first seen : ℕ} {n : Level} → first ≡ cond (v .glide) J (v .sound) → seen ≡ first + cond (not (eqb c 10)) 64 0 → n ≡ levelBefore (r .near) (r .far)
         → Put (sungCodes v) out out′ (r .at) at → Stepped m out out′ i r (record { at = at; sound = seen; near = n; far = r .far })
     vowel-steps f e l q =
-        letter-steps (a .ready) vowel-spelt sung-codes (rw (e, f, a .class) (first-tells _ _ _))
-        (rw l (levels-vowel m (a .ready .steady) i (a .ready .within) sings (a .ready .stands .levels))) q
+        letter-steps (a .ready) vowel-spelt sung-codes (rw (e, f) (first-tells _ _ _))
+        (rw l (levels-vowel m (a .ready .steady) i (a .ready .within) (vowel-spelt .sings) (a .ready .stands .levels))) q
 
 -- what stands right of the message's end
 pub stands-end : {m : List ℕ} → Steady m → {n : ℕ} {f : Level} → f ≡ farLevel (markBefore m (length m)) → Stands m (length m) (record { at = n; sound = 0; near = f; far = f })
