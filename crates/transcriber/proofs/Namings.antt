@@ -1,6 +1,6 @@
 -- The naming's walk from the right: each byte settles the names that the definition gives it, and what stands right of it is told by what stood right of the next one.
-use Rattle.laws.proofs.Kit.{ℕ, suc, _<_, _≤_, _≡_, refl, ap, _∙_, Bool, true, false, cond, List, [], _∷_, _++_, arith, length, getD, eq-eqb}
-use Rattle.spec.specs.{Letters.between, Letters.isBreak, Letters.isMark, Refusals.vowelByte, Syllables.incomplete, Syllables.nameOf, Tape.names, declared.Level.Level, declared.Level.the-variants.Stressed}
+use Rattle.laws.proofs.Kit.{ℕ, suc, _<_, _≡_, refl, ap, _∙_, Bool, true, false, List, [], _∷_, _++_, arith, length, getD, eq-eqb}
+use Rattle.spec.specs.{Letters.between, Letters.isBreak, Letters.isMark, Refusals.vowelByte, Syllables.incomplete, Syllables.nameOf, declared.Level.Level, declared.Level.the-variants.Stressed}
 use Rattle.message.specs.{Classes.classOf, Classes.isBreakClass, Classes.isVowelClass, Places.Steady, Places.leftAt, Places.markBefore, Places.namesAt}
 use Rattle.message.proofs.{Bytes.by-class, Bytes.vowel-break, Computed.everything, Left.mark-within, Tail.names-end, Tail.names-vowel, Tail.names-other, Tail.names-break, Lengths.names-from}
 use Rattle.transcriber.specs.{declared.NameState.NameState, Levels.farLevel, Levels.levelBefore, Levels.LevelsAt, Sounds.classBefore, Sounds.syllableBy, Walk.Put, Walk.namePiece, Walk.NameReady, Walk.Named, Walk.NamesDue, Walk.WordEnd}

@@ -1,5 +1,5 @@
 -- The walk from the right, one byte at a time: what a break, a mark and a letter put on the tape, and what then stands right of their place.
-use Rattle.laws.proofs.Kit.{ℕ, suc, _+_, _%_, _<_, _≤_, arith, _≡_, refl, sym, ap, _∙_, Bool, true, false, cond, _&&_, not, true≢false, List, [], _∷_, _++_, map, eqb, leb, length, getD, le-leb, lt-leb, eq-eqb, ne-eqb}
+use Rattle.laws.proofs.Kit.{ℕ, suc, _+_, _%_, _<_, _≤_, arith, _≡_, refl, sym, ap, _∙_, Bool, true, false, cond, _&&_, not, true≢false, List, [], _∷_, _++_, map, eqb, length, getD, le-leb, lt-leb, eq-eqb, ne-eqb}
 use Rattle.spec.specs.{Letters.between, Letters.small, Letters.firstByte, Letters.isBreak, Letters.isGap, Letters.isMark, Codes.J, Codes.markOf, Codes.isSound, Codes.isVoicing, Vowels.softens, Voicing.Tone, Voicing.voiced, Voicing.voiceless, Refusals.vowelByte, Refusals.signByte, Refusals.consonantByte, declared.Level.Level, declared.Level.the-variants.Stressed, declared.Syllable.Syllable}
 use Rattle.message.specs.{Classes.classOf, Classes.isBreakClass, Classes.isSignClass, Classes.isConsonantClass, Classes.isVowelClass, Classes.elidedAt, Fused.toneBefore, Fused.vowelCodes, Fused.consonantCode, Fused.letterCodes, Places.Steady, Places.leftAt, Places.letterOf, Places.markBefore, Places.tapeAt, Places.wordAt, Places.toneAt, Places.soundAt, Places.codesAt, Places.toneAfter, Places.soundAfter}
 use Rattle.message.proofs.{Bytes.below, Bytes.by-class, Computed.everything, Left.mark-within, StepTable.class-spoken, Silent.elided-at, Tail.tape-letter, Tail.tape-mark, Tail.tape-break, Tail.word-letter, Tail.word-mark, Tail.word-break, Tail.word-end, Tail.tone-letter, Tail.sound-letter, Tail.tone-mark, Tail.sound-mark, Tail.tone-break, Tail.sound-break, Tail.tone-end, Tail.sound-end}

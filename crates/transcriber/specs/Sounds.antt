@@ -2,7 +2,7 @@
 -- Assumes nothing: these are definitions.
 use Prim.Native.Nat.{ℕ, zero, suc, _+_, _-_, _*_, _%_, _<_, _≤_}
 use mathlib.Core.Path.{_≡_}
-use mathlib.Core.Bool.{Bool, true, false, cond, _&&_, _||_}
+use mathlib.Core.Bool.{Bool, true, cond, _&&_, _||_}
 use mathlib.Core.List.{List, [], _∷_, _++_}
 use lib.Dec.{eqb, leb}
 use lib.ListN.{length, getD}
@@ -108,7 +108,7 @@ pub record Before (b s : ℕ) : Type 0 where
   pub letter : consonantByte b ≡ true
   pub sound : s < 128
 
--- The sounds that act alike on every letter before them, a row of the table for each list: the first six voice, and those of the eighth to the fourteenth devoice.
+-- The sounds that act alike on every letter before them, a row of the table for each list: the first six voice, those of the eighth to the fourteenth devoice, and any other leaves an obstruent as it is written.
 unfoldable pub alike : List (List ℕ)
 alike =
     (Б ∷ Г ∷ Х1 ∷ Д ∷ Ж ∷ З ∷ Ц1 ∷ []) ∷ (Д' ∷ З' ∷ []) ∷ (Ч1 ∷ Ж' ∷ []) ∷ (Б' ∷ []) ∷ (Г' ∷ []) ∷ (Х1' ∷ [])
@@ -126,7 +126,7 @@ softRow voiced = 20
 softRow voiceless = 21
 softRow asWritten = 22
 
--- Where the row of a sound begins, in fours: a row has 28 codes
+-- the number of a sound's row: where it begins, in fours, since a row has 28 codes
 unfoldable pub soundRow : ℕ → ℕ
 soundRow s = 7 * cond (leb 64 s) (softRow (toneBy (s % 64))) (rowIn alike s)
 

@@ -30,7 +30,7 @@ pub fn sound_over_gap(sound: usize, s: &SoundTable) -> usize
     requires { ⌜ now s ≡ soundTable ⌝ }
     ensures { λ r. ⌜ r ≡ cond (isVoicing (codeBy (sound % 64))) 57 0 ⌝ }
 {
-    if s[tables::ROWS + sound % PALATALIZING] < tables::VOICELESS_ROWS {
+    if s[tables::ROWS + sound % PALATALIZING] < tables::NOT_VOICING {
         return VOICED_END;
     }
     VOICELESS_END

@@ -2,19 +2,19 @@
 ghost use mathlib.Core.Path.{_≡_};
 ghost use Rattle.transcriber.specs.Sounds.{soundTable};
 
-// The rows begin at places that are multiples of this, so that a row's number fits a byte.
+// A row begins at so many times the number that its sounds have, which so fits a byte.
 pub const UNIT: usize = 4;
 
 // The rows before a sound that voices are the first; here begin the others.
-pub const VOICELESS_ROWS: u8 = 42;
+pub const NOT_VOICING: u8 = 42;
 
 // Where the sounds' rows begin, after the rows themselves.
 pub const ROWS: usize = 644;
 
 pub type SoundTable = [u8; 772];
 
-// The codes of the letters а to ы before each kind of sound, a row each; then for each sound, which is 64 more where its letter palatalizes, where its row begins, in units. A copy is laid out
-// byte by byte, so the table is no longer than it must be.
+// The codes of the letters а to ы before each kind of sound, a row each; then for each sound, which is 64 more where its letter palatalizes, the number of its row. A row ends
+// with ы: whoever makes a copy lays it out, and a run of zeros to я would cost more than the codes do.
 const SOUNDS: SoundTable = [
     0, // а before Б
     16, // б before Б

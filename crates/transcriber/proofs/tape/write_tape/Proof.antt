@@ -1,5 +1,5 @@
 -- The walk so far is carried by one record, to which each step adds the piece of its byte; over the whole message it puts the tape. The measure is the place.
-use Rattle.laws.proofs.Kit.{_≡_, arith, length, needs}
+use Rattle.laws.proofs.Kit.{_≡_, arith, length}
 use Rattle.spec.specs.Tape.{tape}
 use Rattle.message.specs.Places.{tapeAt}
 use Rattle.message.proofs.{Lengths.codes-from, Tail.tape-start, Tail.tape-end}
