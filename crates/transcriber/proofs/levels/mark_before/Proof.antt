@@ -31,12 +31,9 @@ unfolding markBefore isMark
 mark-before-spec =
     tie.close
     (tie.spec
-    Inv-loop
-    μ-loop
+    Inv-loop μ-loop
     (λ c. (omega arith, refl))
-    (λ c. omega arith)
-    (λ c. let l = c .before .before in omega (arith, l .loop .inv .0, l .before .pre .1, c .before .loop-test .taken))
-    (λ c. let t = c .before .before in let l = t .before .before in omega (arith, l .loop .inv .0, l .before .pre .1, t .before .loop-test .taken))
+    (λ c. omega arith) (λ c. omega arith) (λ c. omega arith)
     (λ c. let t = c .before .before .before in let l = t .before in rw (lt-leb 0x80 _ (c .before .if1 .taken)) at (turn (l .before .pre .0) (l .before .pre .1) (t .loop-test .taken) (l .loop .inv)))
     (λ c. omega arith)
     (λ c. let t = c .before .before in let l = t .before in (omega arith, rw (le-leb 0x80 _ (c .if1 .left)) at (turn (l .before .pre .0) (l .before .pre .1) (t .loop-test .taken) (l .loop .inv))))

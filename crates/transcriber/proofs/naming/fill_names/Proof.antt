@@ -1,5 +1,5 @@
 -- The invariant says that the names from the place on are in the output; each turn puts those of one byte before them. The measure is the place.
-use Rattle.laws.proofs.Kit.{_≡_, _∙_, arith}
+use Rattle.laws.proofs.Kit.{_≡_, _∙_, arith, needs}
 use Rattle.message.specs.Places.{namesAt}
 use Rattle.message.proofs.Tail.{names-start}
 use Rattle.transcriber.specs.{Levels.LevelsAt, Walk.namePiece}
@@ -30,11 +30,9 @@ pub fill-names-spec : {M : Type 1} → statement M
 fill-names-spec =
     tie.close
     (tie.spec
-    Inv-loop
-    μ-loop
-    (λ c κs. tt)
+    Inv-loop μ-loop (search needs)
     (λ c κs. let t = c .before .before in (t .class-table .ensures, end-ends (t .before .before .before .pre)))
-    (λ c κs. (c .before .before .before .before .before .before .before .before .pre .steady, omega arith))
+    (λ c κs. search needs)
     (λ c. let e = c .before .before .before in naming-none (e .before .before .before .before .before .before .pre) (c .at-word-end .ensures) (e .put-end .ensures))
     (λ c. omega arith)
     (λ c κs. let l = c .before .before .before in (l .before .before .before .before .before .before .before .class-table .ensures, writing-ready (l .loop .inv) (c .before .before .loop-test .taken)))

@@ -1,5 +1,5 @@
 -- The walk so far is carried by one record, to which each step adds the piece of its byte; over the whole message it puts the tape. The measure is the place.
-use Rattle.laws.proofs.Kit.{_≡_, arith, length}
+use Rattle.laws.proofs.Kit.{_≡_, arith, length, needs}
 use Rattle.spec.specs.Tape.{tape}
 use Rattle.message.specs.Places.{tapeAt}
 use Rattle.message.proofs.{Lengths.codes-from, Tail.tape-start, Tail.tape-end}
@@ -39,9 +39,7 @@ pub write-tape-spec : {M : Type 1} → statement M
 write-tape-spec =
     tie.close
     (tie.spec
-    Inv-loop
-    μ-loop
-    (λ c κs. (c .before .before .pre .steady, omega arith))
+    Inv-loop μ-loop (λ c κs. search needs)
     loop-holds
     (λ c. omega arith)
     (λ c κs. let l = c .before .before in (l .before .before .before .before .pre .lent, writing-ready (l .loop .inv) (c .before .loop-test .taken)))
