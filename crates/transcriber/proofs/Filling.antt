@@ -1,57 +1,54 @@
--- The walk that writes the tape from its end: each step puts its byte's piece before the codes of the bytes passed, and all of them make the tape.
-use Rattle.laws.proofs.Kit.{ℕ, suc, _+_, _<_, _≤_, arith, _≡_, refl, sym, ap, _∙_, List, [], _++_, append-nil, append-assoc, length, length-append}
-use Rattle.spec.specs.Tape.{tape}
-use Rattle.message.specs.Places.{Steady, markBefore, tapeAt}
-use Rattle.message.proofs.{Lengths.codes-from, Tail.tape-start, Tail.tape-end, Tail.word-end, Tail.tone-end, Tail.sound-end}
-use Rattle.transcriber.specs.{Levels.wordEnd, Sounds.toneNo, Walk.Stands, Walk.Put, Walk.pieceAt, Walk.Ready, Walk.Stepped, Walk.Walked, declared.Right.Right}
-use Rattle.transcriber.proofs.{Levelling.levels-end, Putting.put-none, Putting.put-over, Putting.put-length, Walking.none-softens, Walking.piece-step}
+-- The walks that write from the end: what a byte puts stands before what the bytes after it have put.
+use Rattle.laws.proofs.Kit.{ℕ, suc, _-_, _<_, _≤_, arith, _≡_, ap, _∙_, List, _++_, length, length-append}
+use Rattle.message.specs.Places.{Steady}
+use Rattle.transcriber.specs.Walk.{Put, MayStep, DidStep}
+use Rattle.transcriber.proofs.Putting.{put-over, put-length}
 
--- what stands right of the message's end
-pub stands-end : (m : List ℕ) → Steady m → (n : ℕ)
-    → Stands m (length m) (record { at = n; tone = 64; sound = 0; levels = wordEnd (markBefore m (length m)) })
-unfolding toneNo
-stands-end m steady n =
-    record {
-      tone = rw (tone-end m steady);
-      sound = rw (sound-end m steady, word-end m steady, none-softens);
-      levels = levels-end m steady;
-    }
+-- from place i on the bytes of m put `rest i`, of which the byte there puts a piece
+pub record Pieces (m : List ℕ) (rest piece : ℕ → List ℕ) (all : ℕ) : Type 0 where
+  pub steady : Steady m
+  pub step : (i : ℕ) → i < length m → rest i ≡ piece i ++ rest (suc i)
+  pub part : (i : ℕ) → i < length m → length (rest i) ≤ all
 
--- a walk that has not begun
-pub walked-none : (m out : List ℕ) (i : ℕ) (r : Right) → Stands m i r → Walked m out out i i r r
-walked-none m out i r s = record { stands = s; codes = []; split = refl; put = put-none out (r .at) }
+-- the walk stands at place i: `rest i` stands right before place `end`, and there is room for all
+pub record Writing (Right : ℕ → Type 0) (m : List ℕ) (rest piece : ℕ → List ℕ) (all : ℕ) (out₀ out : List ℕ) (end i at : ℕ) : Type 0 where
+  pub pieces : Pieces m rest piece all
+  pub stands : Right i
+  pub within : i ≤ length m
+  pub room : all ≤ end
+  pub place : end ≤ length out₀
+  pub put : Put (rest i) out₀ out end at
 
-module _ (m : List ℕ) (steady : Steady m) (out₀ : List ℕ) (start : ℕ) (r₀ : Right) (place : r₀ .at ≤ length out₀) where
+module _ {Right : ℕ → Type 0} {m : List ℕ} {rest piece : ℕ → List ℕ} {all : ℕ} {out₀ out : List ℕ} {end i at : ℕ} (w : Writing Right m rest piece all out₀ out end i at) where
   -- the output is as long as it was
-  pub walked-length : (out : List ℕ) (i : ℕ) (r : Right) → Walked m out₀ out start i r₀ r → length out ≡ length out₀
-  walked-length out i r w = put-length (w .codes) out₀ out (r₀ .at) (r .at) place (w .put)
+  pub writing-length : length out ≡ length out₀
+  writing-length = put-length _ _ _ _ _ (w .place) (w .put)
 
-  -- a step may be taken, since the rest of a tape is no longer than the whole
-  pub walked-ready : (out : List ℕ) (i : ℕ) (r : Right) → i < length m → length (tape m) ≤ r₀ .at + length (tapeAt m start)
-      → Walked m out₀ out start (suc i) r₀ r → Ready m out i r
-  walked-ready out i r h e w =
-      let s = ap length (piece-step m steady i h) ∙ length-append (pieceAt m i) (tapeAt m (suc i)) in
-      let l = ap length (w .split) ∙ length-append (w .codes) (tapeAt m start) in
+  -- what the byte before place i puts stands before the rest
+  writing-step : 0 < i → rest (i - 1) ≡ piece (i - 1) ++ rest i
+  writing-step z = let e : suc (i - 1) ≡ i = omega arith in rw e at (w .pieces .step (i - 1) (omega (arith, w .within)))
+
+  -- from a place that is not the first the walk can step on
+  pub writing-ready : 0 < i → MayStep Right (piece (i - 1)) m out (i - 1) at
+  writing-ready z =
+      let e : suc (i - 1) ≡ i = omega arith in
+      let h : i - 1 < length m = omega (arith, w .within) in
+      let s = ap length (writing-step z) ∙ length-append (piece (i - 1)) (rest i) in
       record {
         within = h;
-        steady = steady;
-        stands = w .stands;
-        room = omega (arith, s, l, codes-from m steady i (omega arith), w .put .place);
-        place = omega (arith, w .put .place, walked-length out (suc i) r w);
+        steady = w .pieces .steady;
+        stands = rw e (w .stands);
+        room = omega (arith, s, w .pieces .part (i - 1) h, w .put .place, w .room);
+        place = omega (arith, writing-length, w .put .place, w .place);
       }
 
-  -- and its piece then stands before the codes of the walk
-  pub walked-more : (out out′ : List ℕ) (i : ℕ) (r q : Right) → i < length m → Walked m out₀ out start (suc i) r₀ r → Stepped m out out′ i r q
-      → Walked m out₀ out′ start i r₀ q
-  walked-more out out′ i r q h w s = record {
+  -- and then stands there
+  pub writing-more : 0 < i → {Then : ℕ → Type 0} {out′ : List ℕ} {at′ : ℕ} → DidStep Then (piece (i - 1)) out out′ (i - 1) at at′ → Writing Then m rest piece all out₀ out′ end (i - 1) at′
+  writing-more z s = record {
+    pieces = w .pieces;
     stands = s .stands;
-    codes = pieceAt m i ++ w .codes;
-    split = piece-step m steady i h ∙ rw (w .split, append-assoc);
-    put = put-over (w .codes) (pieceAt m i) out₀ out out′ (r₀ .at) (r .at) (q .at) place (w .put) (s .put);
+    within = omega (arith, w .within);
+    room = w .room;
+    place = w .place;
+    put = rw (writing-step z) (put-over _ _ _ _ _ _ _ _ (w .place) (w .put) (s .put));
   }
-
--- a walk over the whole message puts its tape
-pub walked-all : (m : List ℕ) → Steady m → (out out′ : List ℕ) (r q : Right) → Walked m out out′ (length m) 0 r q → Put (tape m) out out′ (r .at) (q .at)
-walked-all m steady out out′ r q w =
-    let e : tape m ≡ w .codes = sym (tape-start m steady) ∙ w .split ∙ rw (tape-end m steady, append-nil) in
-    rw e (w .put)

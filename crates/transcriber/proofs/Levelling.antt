@@ -1,9 +1,10 @@
 -- The levels of vowels, carried from the right: a mark makes the vowel before it stressed, the vowel before that is of level 1, and those further left are of level 2, or 1 where the word has no mark.
 use Rattle.laws.proofs.Kit.{ℕ, suc, _<_, _≡_, refl, sym, ap, _∙_, Bool, true, false, List, length, getD, drop, drop-length}
-use Rattle.spec.specs.{Letters.isBreak, Letters.isMark, Letters.beginsWithMark, Refusals.vowelByte, Syllables.nextStressed, declared.Level.Level}
+use Rattle.spec.specs.{Letters.isBreak, Letters.isMark, Letters.beginsWithMark, Refusals.vowelByte, Syllables.nextStressed, declared.Level.Level, declared.Level.the-variants.Stressed}
 use Rattle.message.specs.Places.{Steady, letterOf, wordAt, markBefore, markedAt}
-use Rattle.message.proofs.{Bytes.not-both, Bytes.vowel-break, Bytes.vowel-mark, Computed.everything, Left.begins-at, Left.mark-within, Left.unmarked-after, Tail.word-letter, Tail.word-break, Tail.word-end, Tail.marked-within, Tail.marked-break, Tail.marked-end}
-use Rattle.transcriber.specs.{declared.levels.Levels.Levels, Levels.levelBy, Levels.farLevel, Levels.levelBefore, Levels.wordEnd, Levels.overMark, Levels.overVowel, Levels.nearLevel, Levels.LevelsAt, Sounds.classBefore, Sounds.syllableBy, Walk.syllableAt}
+use Rattle.message.proofs.{Bytes.vowel-break, Bytes.vowel-mark, Left.begins-at, Left.mark-within, Left.unmarked-after, Tail.word-letter, Tail.word-break, Tail.word-end, Tail.marked-within, Tail.marked-break, Tail.marked-end}
+use Rattle.laws.proofs.Classes.{break-mark}
+use Rattle.transcriber.specs.{Levels.levelBy, Levels.farLevel, Levels.levelBefore, Levels.nearLevel, Levels.LevelsAt, Sounds.classBefore, Sounds.syllableBy, Walk.syllableAt}
 use Rattle.transcriber.proofs.Raw.{syllable-raw}
 
 -- the level before a vowel that is stressed or not
@@ -21,19 +22,13 @@ unfolding levelBy
 level-far true = refl
 level-far false = refl
 
--- a break is no mark
-pub break-mark : (b : ℕ) → b < 256 → isBreak b ≡ true → isMark b ≡ false
-unfolding everything
-break-mark b = not-both isBreak isMark b refl
-
 module _ (m : List ℕ) (steady : Steady m) (i : ℕ) (h : i < length m) where
   -- the syllable of a vowel
-  pub levels-syllable : {n : Level} → vowelByte (getD m i 0) ≡ true → n ≡ nearLevel m (suc i)
-      → syllableAt m i ≡ syllableBy (classBefore m i) n
+  pub levels-syllable : {n : Level} → vowelByte (getD m i 0) ≡ true → n ≡ nearLevel m (suc i) → syllableAt m i ≡ syllableBy (classBefore m i) n
   levels-syllable v e = rw (syllable-raw m steady i h, marked-within m steady i h (vowel-break (getD m i 0) (steady .bytes i) v), e)
 
   -- over a vowel
-  pub levels-vowel : {l : Levels} → vowelByte (getD m i 0) ≡ true → LevelsAt m (suc i) l → LevelsAt m i (overVowel l)
+  pub levels-vowel : {n f : Level} → vowelByte (getD m i 0) ≡ true → LevelsAt m (suc i) n f → LevelsAt m i (levelBefore n f) f
   unfolding nextStressed letterOf vowelByte
   levels-vowel v l =
       let s = vowel-break (getD m i 0) (steady .bytes i) v in
@@ -45,7 +40,7 @@ module _ (m : List ℕ) (steady : Steady m) (i : ℕ) (h : i < length m) where
       }
 
   -- over another letter
-  pub levels-letter : {l : Levels} → isBreak (getD m i 0) ≡ false → isMark (getD m i 0) ≡ false → vowelByte (getD m i 0) ≡ false → LevelsAt m (suc i) l → LevelsAt m i l
+  pub levels-letter : {n f : Level} → isBreak (getD m i 0) ≡ false → isMark (getD m i 0) ≡ false → vowelByte (getD m i 0) ≡ false → LevelsAt m (suc i) n f → LevelsAt m i n f
   unfolding nextStressed letterOf vowelByte
   levels-letter s k v l =
       let w = marked-within m steady i h s in
@@ -56,23 +51,23 @@ module _ (m : List ℕ) (steady : Steady m) (i : ℕ) (h : i < length m) where
       }
 
   -- over a mark
-  pub levels-mark : {l : Levels} → isMark (getD m i 0) ≡ true → LevelsAt m (suc i) l → LevelsAt m i (overMark l)
+  pub levels-mark : {n f : Level} → isMark (getD m i 0) ≡ true → LevelsAt m (suc i) n f → LevelsAt m i Stressed f
   unfolding levelBy
   levels-mark k l = record { near = rw (begins-at m i, k); far = l .far ∙ ap farLevel (sym (marked-within m steady i h (mark-within (getD m i 0) k))) }
 
   -- over a break, before which another word ends
-  pub levels-break : isBreak (getD m i 0) ≡ true → LevelsAt m i (wordEnd (markBefore m i))
+  pub levels-break : {f : Level} → isBreak (getD m i 0) ≡ true → f ≡ farLevel (markBefore m i) → LevelsAt m i f f
   unfolding nextStressed
-  levels-break s =
+  levels-break s e =
       let w = marked-break m steady i h s in
       record {
-        near = rw (begins-at m i, break-mark (getD m i 0) (steady .bytes i) s, word-break m steady i h s, w) (level-far (markBefore m i));
-        far = rw w;
+        near = rw (e, begins-at m i, break-mark (getD m i 0) s, word-break m steady i h s, w) (level-far (markBefore m i));
+        far = rw w e;
       }
 
 -- at the message's end
-pub levels-end : (m : List ℕ) → Steady m → LevelsAt m (length m) (wordEnd (markBefore m (length m)))
+pub levels-end : (m : List ℕ) → Steady m → {f : Level} → f ≡ farLevel (markBefore m (length m)) → LevelsAt m (length m) f f
 unfolding nextStressed beginsWithMark
-levels-end m steady =
+levels-end m steady e =
     let w = marked-end m steady in
-    record { near = rw (drop-length m, word-end m steady, w) (level-far (markBefore m (length m))); far = rw w }
+    record { near = rw (e, drop-length m, word-end m steady, w) (level-far (markBefore m (length m))); far = rw w e }

@@ -1,54 +1,40 @@
 -- The walk from the right, one byte at a time: what a break, a mark and a letter put on the tape, and what then stands right of their place.
-use Rattle.laws.proofs.Kit.{ℕ, suc, _+_, _%_, _<_, _≤_, arith, _≡_, refl, sym, ap, _∙_, Bool, true, false, cond, _&&_, not, true≢false, List, [], _∷_, _++_, map, eqb, leb, length, getD, le-leb, lt-leb}
-use Rattle.spec.specs.{Letters.between, Letters.small, Letters.firstByte, Letters.isBreak, Letters.isGap, Letters.isMark, Codes.J, Codes.markOf, Codes.isVoicing, Codes.isDevoicing, Syllables.syllableOf, Vowels.softens, Voicing.Tone, Voicing.voiced, Voicing.voiceless, Voicing.asWritten, Refusals.vowelByte, Refusals.signByte, Refusals.consonantByte, declared.Level.Level, declared.Syllable.Syllable}
-use Rattle.message.specs.{Classes.classOf, Classes.isBreakClass, Classes.isSignClass, Classes.isConsonantClass, Classes.isVowelClass, Classes.elidedAt, Fused.toneBefore, Fused.vowelCodes, Fused.consonantCode, Fused.letterCodes, Places.Steady, Places.leftAt, Places.letterOf, Places.markBefore, Places.factsAt, Places.tapeAt, Places.wordAt, Places.toneAt, Places.soundAt, Places.codesAt, Places.toneAfter, Places.soundAfter}
-use Rattle.message.proofs.{Bytes.below, Bytes.by-class, Bytes.not-both, Computed.everything, Left.mark-within, StepTable.class-spoken, Silent.elided-at, Tail.tape-letter, Tail.tape-mark, Tail.tape-break, Tail.word-letter, Tail.word-mark, Tail.word-break, Tail.tone-letter, Tail.sound-letter, Tail.tone-mark, Tail.sound-mark, Tail.tone-break, Tail.sound-break}
-use Rattle.transcriber.specs.{Sounds.byteBefore, Sounds.AtBoundary, Sounds.rowOf, Sounds.syllableBy, Sounds.glideBy, Sounds.hardBefore, Sounds.toneNo, Sounds.toneBy, Sounds.gapTone, Walk.VowelAt, Walk.syllableAt, Walk.Sung, Walk.sungCodes, Walk.Put, Walk.pieceAt, Walk.Ready, Walk.ReadyFor, Walk.Stepped, declared.levels.Levels.Levels, Levels.wordEnd, Levels.overMark, Levels.LevelsAt, declared.Right.Right, declared.Vowel.Vowel}
-use Rattle.transcriber.proofs.{Putting.put-none, Levelling.levels-syllable, Levelling.levels-letter, Levelling.levels-mark, Levelling.levels-break, Raw.where-same, Raw.cond-same, Raw.told-at, Raw.hard-raw, Raw.glide-raw, Raw.vowel-tone, Raw.sound-small}
-
--- a tone is told by its number
-pub tone-by : (t : Tone) → toneBy (toneNo t) ≡ t
-unfolding toneBy toneNo
-tone-by voiced = refl
-tone-by voiceless = refl
-tone-by asWritten = refl
+use Rattle.laws.proofs.Kit.{ℕ, suc, _+_, _%_, _<_, _≤_, arith, _≡_, refl, sym, ap, _∙_, Bool, true, false, cond, _&&_, not, true≢false, List, [], _∷_, _++_, map, eqb, length, getD, le-leb, lt-leb, eq-eqb, ne-eqb}
+use Rattle.spec.specs.{Letters.between, Letters.small, Letters.firstByte, Letters.isBreak, Letters.isGap, Letters.isMark, Codes.J, Codes.markOf, Codes.isSound, Codes.isVoicing, Vowels.softens, Voicing.Tone, Voicing.voiced, Voicing.voiceless, Refusals.vowelByte, Refusals.signByte, Refusals.consonantByte, declared.Level.Level, declared.Level.the-variants.Stressed, declared.Syllable.Syllable}
+use Rattle.message.specs.{Classes.classOf, Classes.isBreakClass, Classes.isSignClass, Classes.isConsonantClass, Classes.isVowelClass, Classes.elidedAt, Fused.toneBefore, Fused.vowelCodes, Fused.consonantCode, Fused.letterCodes, Places.Steady, Places.leftAt, Places.letterOf, Places.markBefore, Places.tapeAt, Places.wordAt, Places.toneAt, Places.soundAt, Places.codesAt, Places.toneAfter, Places.soundAfter}
+use Rattle.message.proofs.{Bytes.below, Bytes.by-class, Computed.everything, Left.mark-within, StepTable.class-spoken, Silent.elided-at, Tail.tape-letter, Tail.tape-mark, Tail.tape-break, Tail.word-letter, Tail.word-mark, Tail.word-break, Tail.word-end, Tail.tone-letter, Tail.sound-letter, Tail.tone-mark, Tail.sound-mark, Tail.tone-break, Tail.sound-break, Tail.tone-end, Tail.sound-end}
+use Rattle.laws.proofs.{Classes.cond-same, Codes.vowel-sound, MarkIndex.sound-range}
+use Rattle.transcriber.specs.{Sounds.byteBefore, Sounds.AtBoundary, Sounds.rowOf, Sounds.syllableBy, Sounds.glideBy, Sounds.hardBefore, Sounds.toneBy, Sounds.codeBy, Sounds.Tells, Sounds.codeBefore, Sounds.Before, Sounds.soundTable, Walk.VowelAt, Walk.syllableAt, Walk.Stands, Walk.Sung, Walk.sungCodes, Walk.Put, Walk.pieceAt, Walk.Ready, Walk.ReadyFor, Walk.Stepped, Levels.farLevel, Levels.levelBefore, Levels.LevelsAt, declared.Right.Right, declared.Vowel.Vowel}
+use Rattle.transcriber.proofs.{Putting.put-none, Levelling.levels-syllable, Levelling.levels-letter, Levelling.levels-vowel, Levelling.levels-mark, Levelling.levels-break, Levelling.levels-end, SoundTable.code-read, Raw.where-same, Raw.told-at, Raw.hard-raw, Raw.glide-raw}
 
 -- 64 more can be told from less
-sound-split : (n : ℕ) (t : Bool) → n < 64 → (leb 64 (n + cond t 64 0) ≡ t) × ((n + cond t 64 0) % 64 ≡ n) × (n + cond t 64 0 < 128)
-sound-split n true h = (le-leb 64 (n + 64) (omega arith), omega arith, omega arith)
-sound-split n false h = (lt-leb 64 (n + 0) (omega arith), omega arith, omega arith)
+tells : (n : ℕ) (soft : Bool) → n < 64 → Tells (n + cond soft 64 0) soft (toneBy n) (codeBy n)
+tells n true h = let e : (n + 64) % 64 ≡ n = omega arith in record { low = omega arith; soft = le-leb 64 (n + 64) (omega arith); tone = rw e; code = rw e }
+tells n false h = let e : (n + 0) % 64 ≡ n = omega arith in record { low = omega arith; soft = lt-leb 64 (n + 0) (omega arith); tone = rw e; code = rw e }
+
+-- what stands right of a letter, seen over it
+tells-over : {s : ℕ} {x : Bool} {t : Tone} {c : ℕ} (soft : Bool) → Tells s x t c → Tells (s % 64 + cond soft 64 0) soft t c
+tells-over {s} soft h = rw (h .tone, h .code) at (tells (s % 64) soft (omega arith))
+
+-- a sound's code
+tells-sound : (c : ℕ) (soft : Bool) → isSound c ≡ true → Tells (c + cond soft 64 0) soft (toneBefore c) c
+unfolding toneBy codeBy
+tells-sound c soft h =
+    let r = sound-range c h in
+    rw (ne-eqb c 57 (λ e. omega arith), ne-eqb c 0 (λ e. omega arith)) at (tells c soft (omega arith))
+
+-- the two ends of a word
+tells-end : (voices : Bool) → Tells (cond voices 57 0) false (cond voices voiced voiceless) 0
+unfolding toneBy codeBy
+tells-end true = tells 57 false (omega arith)
+tells-end false = tells 0 false (omega arith)
 
 -- a number between two others
 pub between-true : (lo hi c : ℕ) → lo ≤ c → c ≤ hi → between lo hi c ≡ true
 between-true lo hi c h l = rw (le-leb lo c h, le-leb c hi l)
 
--- before a gap a word's last obstruent is voiced by a sound of tone 1, and else voiceless
-pub gap-tone : (c : ℕ) → gapTone c ≡ cond (eqb (toneNo (toneBefore c)) 32) 32 64
-unfolding gapTone toneNo toneBefore
-gap-tone c = by (isVoicing c) (isDevoicing c)
-  where
-    by : (v d : Bool) → toneNo (cond v voiced voiceless) ≡ cond (eqb (toneNo (cond v voiced (cond d voiceless asWritten))) 32) 32 64
-    by true d = refl
-    by false true = refl
-    by false false = refl
-
--- a consonant does not soften the letter before it
-pub consonant-softens : (b : ℕ) → b < 256 → consonantByte b ≡ true → softens (small b) ≡ false
-unfolding everything
-consonant-softens b = not-both consonantByte (λ x. softens (small x)) b refl
-
--- of the signs only ь does
-pub sign-softens : (b : ℕ) → b < 256 → signByte b ≡ true → softens (small b) ≡ eqb (classOf b) 5
-unfolding everything
-sign-softens b = where-same signByte (λ x. softens (small x)) (λ x. eqb (classOf x) 5) true b refl
-
--- and of the vowels those of classes 11 and 12
-pub vowel-softens : (b : ℕ) → b < 256 → vowelByte b ≡ true → softens (small b) ≡ not (eqb (classOf b) 10)
-unfolding everything
-vowel-softens b = where-same vowelByte (λ x. softens (small x)) (λ x. not (eqb (classOf x) 10)) true b refl
-
 -- no letter softens nothing
-pub none-softens : softens (firstByte []) ≡ false
+none-softens : softens (firstByte []) ≡ false
 unfolding everything
 none-softens = refl
 
@@ -62,38 +48,27 @@ break-gap : (b : ℕ) → b < 256 → isBreak b ≡ true → isGap b ≡ not (eq
 unfolding everything
 break-gap b = where-same isBreak isGap (λ x. not (eqb (classOf x) 3)) true b refl
 
--- how an obstruent sounds before it
-break-tone : (pause : Bool) (c : ℕ) → toneNo (cond (not pause && isVoicing c) voiced voiceless) ≡ cond pause 64 (gapTone c)
-unfolding toneNo gapTone
-break-tone true c = refl
-break-tone false c = refl
-
--- what is known of the byte of a letter: it is no break and no mark, but a sign or not, a vowel or not
-pub record Spelt (b : ℕ) (sign vowel : Bool) : Type 0 where
+-- What is known of the byte of a letter: it is no break and no mark, but a sign or not, a vowel or not, and softens the letter before it or not
+pub record Spelt (b : ℕ) (sign vowel soft : Bool) : Type 0 where
   pub break : isBreak b ≡ false
   pub mark : isMark b ≡ false
   pub sounds : signByte b ≡ sign
   pub sings : vowelByte b ≡ vowel
+  pub softening : softens (small b) ≡ soft
 
--- of every byte that passes a test, by one computation
-spelt-by : (test : ℕ → Bool) (s v : Bool) (b : ℕ)
-    → map (λ x. cond (test x) (isBreak x ∷ isMark x ∷ signByte x ∷ vowelByte x ∷ []) []) (below 256) ≡ map (λ x. cond (test x) (false ∷ false ∷ s ∷ v ∷ []) []) (below 256)
-    → b < 256 → test b ≡ true → Spelt b s v
-spelt-by test s v b t h k =
-    let e = where-same test (λ x. isBreak x ∷ isMark x ∷ signByte x ∷ vowelByte x ∷ []) (λ _. false ∷ false ∷ s ∷ v ∷ []) [] b t h k in
-    record { break = cc; mark = cc; sounds = cc; sings = cc }
+module _ {test : ℕ → Bool} {m out : List ℕ} {i c : ℕ} {r : Right} (a : ReadyFor test m out i c r) where
+  -- the byte's own test, which its class tells
+  tested : test (classOf (getD m i 0)) ≡ true
+  tested = ap test (sym (a .class)) ∙ a .kind
 
-pub spelt-sign : (b : ℕ) → b < 256 → signByte b ≡ true → Spelt b true false
-unfolding everything
-spelt-sign b = spelt-by signByte true false b refl
-
-pub spelt-consonant : (b : ℕ) → b < 256 → consonantByte b ≡ true → Spelt b false false
-unfolding everything
-spelt-consonant b = spelt-by consonantByte false false b refl
-
-pub spelt-vowel : (b : ℕ) → b < 256 → vowelByte b ≡ true → Spelt b false true
-unfolding everything
-spelt-vowel b = spelt-by vowelByte false true b refl
+  -- of every byte whose class passes a test, by one computation
+  spelt-by : (s v : Bool) (soft : ℕ → Bool)
+      → map (λ x. cond (test (classOf x)) (isBreak x ∷ isMark x ∷ signByte x ∷ vowelByte x ∷ softens (small x) ∷ []) []) (below 256)
+      ≡ map (λ x. cond (test (classOf x)) (false ∷ false ∷ s ∷ v ∷ soft (classOf x) ∷ []) []) (below 256)
+      → Spelt (getD m i 0) s v (soft c)
+  spelt-by s v soft t =
+      let e = where-same (λ x. test (classOf x)) (λ x. isBreak x ∷ isMark x ∷ signByte x ∷ vowelByte x ∷ softens (small x) ∷ []) (λ x. false ∷ false ∷ s ∷ v ∷ soft (classOf x) ∷ []) [] (getD m i 0) t (a .ready .steady .bytes i) tested in
+      rw (a .class) (record { break = cc; mark = cc; sounds = cc; sings = cc; softening = cc })
 
 module _ (m : List ℕ) (steady : Steady m) (i : ℕ) (h : i < length m) where
   -- each byte's piece stands before the rest's tape
@@ -107,174 +82,142 @@ module _ (m : List ℕ) (steady : Steady m) (i : ℕ) (h : i < length m) where
       by false s false e = tape-letter m steady i h s e
 
   -- a silent letter puts nothing
-  pub codes-silent : {s v : Bool} → Spelt (getD m i 0) s v → elidedAt m i ≡ true → codesAt m i ≡ []
+  codes-silent : {s v x : Bool} → Spelt (getD m i 0) s v x → elidedAt m i ≡ true → codesAt m i ≡ []
   unfolding codesAt letterCodes letterOf
   codes-silent p e = rw (elided-at m steady i h (p .break) (p .mark), e)
 
   -- nor does a sign
-  pub codes-sign : {v : Bool} → Spelt (getD m i 0) true v → codesAt m i ≡ []
+  codes-sign : {v x : Bool} → Spelt (getD m i 0) true v x → codesAt m i ≡ []
   unfolding codesAt letterCodes letterOf signByte
   codes-sign p = rw (p .sounds, cond-same)
 
-  -- a consonant that is heard puts its code
-  pub codes-consonant : Spelt (getD m i 0) false false → elidedAt m i ≡ false
-      → codesAt m i ≡ consonantCode (small (getD m i 0)) (softens (firstByte (wordAt m (suc i)))) (toneAt m (suc i)) (soundAt m (suc i)) ∷ []
+  -- of those that are heard a vowel puts its sound, and the glide before it where it has one, and a consonant its code
+  codes-heard : {v x : Bool} → Spelt (getD m i 0) false v x → elidedAt m i ≡ false
+      → codesAt m i
+      ≡ cond v (vowelCodes (leftAt m i .hard) (leftAt m i .p) (small (getD m i 0)) (syllableAt m i))
+      (consonantCode (small (getD m i 0)) (softens (firstByte (wordAt m (suc i)))) (toneAt m (suc i)) (soundAt m (suc i)) ∷ [])
   unfolding codesAt letterCodes letterOf signByte vowelByte
-  codes-consonant p e = rw (elided-at m steady i h (p .break) (p .mark), e, p .sounds, p .sings)
+  codes-heard p e = rw (elided-at m steady i h (p .break) (p .mark), e, p .sounds, p .sings)
 
-  -- a vowel its sound, and the glide before it where it has one
-  pub codes-vowel : Spelt (getD m i 0) false true → elidedAt m i ≡ false
-      → codesAt m i ≡ vowelCodes (leftAt m i .hard) (leftAt m i .p) (small (getD m i 0)) (syllableOf (factsAt m i) (leftAt m i .p) (letterOf m i) (wordAt m (suc i)))
-  unfolding codesAt letterCodes letterOf signByte vowelByte
-  codes-vowel p e = rw (elided-at m steady i h (p .break) (p .mark), e, p .sounds, p .sings)
-
-module _ (m out : List ℕ) (i : ℕ) (r : Right) (a : Ready m out i r) where
+module _ {m out : List ℕ} {i : ℕ} {r : Right} (a : Ready m out i r) where
   -- there is room for a letter's codes
-  pub letter-room : {s v : Bool} (codes : List ℕ) → Spelt (getD m i 0) s v → codesAt m i ≡ codes → length codes ≤ r .at
+  letter-room : {s v x : Bool} {codes : List ℕ} → Spelt (getD m i 0) s v x → codesAt m i ≡ codes → length codes ≤ r .at
   unfolding pieceAt
-  letter-room codes p e = rw (p .break, p .mark, e) at (a .room)
-
-  -- and for a break's mark
-  pub break-room : isBreak (getD m i 0) ≡ true → 0 < r .at
-  unfolding pieceAt
-  break-room b = rw b at (a .room)
-
-  -- the sound right of it, and whether its letter palatalizes
-  pub right-sound : (leb 64 (r .sound) ≡ softens (firstByte (wordAt m (suc i)))) × (r .sound % 64 ≡ soundAt m (suc i)) × (r .sound < 128)
-  right-sound = rw (a .stands .sound) (sound-split (soundAt m (suc i)) (softens (firstByte (wordAt m (suc i)))) (sound-small m (suc i)))
+  letter-room p e = rw (p .break, p .mark, e) at (a .room)
 
   -- a letter that is no vowel leaves the levels as they are
-  pub plain-levels : {s : Bool} → Spelt (getD m i 0) s false → LevelsAt m i (r .levels)
+  plain-levels : {s x : Bool} → Spelt (getD m i 0) s false x → LevelsAt m i (r .near) (r .far)
   plain-levels p = levels-letter m (a .steady) i (a .within) (p .break) (p .mark) (p .sings) (a .stands .levels)
 
   -- a letter has put its codes, and left of it stands the same word with these sounds and this letter first
-  pub letter-steps : {s v : Bool} {l : Levels} (out′ codes : List ℕ) (at tone sound seen : ℕ) (soft : Bool) → Spelt (getD m i 0) s v → codesAt m i ≡ codes
-      → tone ≡ toneNo (toneAfter codes (toneAt m (suc i))) → sound ≡ soundAfter codes (soundAt m (suc i)) → soft ≡ softens (small (getD m i 0))
-      → seen ≡ sound + cond soft 64 0 → LevelsAt m i l → Put codes out out′ (r .at) at
-      → Stepped m out out′ i r (record { at = at; tone = tone; sound = seen; levels = l })
+  letter-steps : {s v x : Bool} {out′ codes : List ℕ} {at sound : ℕ} {n f : Level} → Spelt (getD m i 0) s v x → codesAt m i ≡ codes
+      → Tells sound x (toneAfter codes (toneAt m (suc i))) (soundAfter codes (soundAt m (suc i))) → LevelsAt m i n f → Put codes out out′ (r .at) at
+      → Stepped m out out′ i r (record { at = at; sound = sound; near = n; far = f })
   unfolding pieceAt firstByte letterOf
-  letter-steps out′ codes at tone sound seen soft p e t c s n x q =
+  letter-steps p e t l q =
       let y = a .steady in
       let h = a .within in
-      let w = word-letter m y i h (p .break) (p .mark) in
       record {
-        stands = record {
-          tone = rw (tone-letter m y i h (p .break) (p .mark), e) t;
-          sound = n ∙ rw (sound-letter m y i h (p .break) (p .mark), e, w, c, s);
-          levels = x;
-        };
+        stands = record { sound = rw (tone-letter m y i h (p .break) (p .mark), sound-letter m y i h (p .break) (p .mark), e, word-letter m y i h (p .break) (p .mark), p .softening) t; levels = l };
         put = rw (p .break, p .mark, e) q;
       }
 
   -- a letter that is not heard puts nothing
-  pub silent-steps : {s : Bool} {seen : ℕ} (soft : Bool) → Spelt (getD m i 0) s false → codesAt m i ≡ [] → soft ≡ softens (small (getD m i 0)) → seen ≡ r .sound % 64 + cond soft 64 0
-      → Stepped m out out i r (record { at = r .at; tone = r .tone; sound = seen; levels = r .levels })
-  silent-steps soft p e s n = letter-steps out [] (r .at) (r .tone) (r .sound % 64) _ soft p e (a .stands .tone) (right-sound .1) s n (plain-levels p) (put-none out (r .at))
+  silent-steps : {s x : Bool} {seen : ℕ} → Spelt (getD m i 0) s false x → codesAt m i ≡ [] → seen ≡ r .sound % 64 + cond x 64 0
+      → Stepped m out out i r (record { at = r .at; sound = seen; near = r .near; far = r .far })
+  silent-steps {x = x} p e n = rw n (letter-steps p e (tells-over x (a .stands .sound)) (plain-levels p) (put-none out (r .at)))
 
   -- nor does a mark, which is seen by the letter before it
-  pub mark-steps : isMark (getD m i 0) ≡ true
-      → Stepped m out out i r (record { at = r .at; tone = r .tone; sound = r .sound; levels = overMark (r .levels) })
+  pub mark-steps : classOf (getD m i 0) ≡ 1 → Stepped m out out i r (record { at = r .at; sound = r .sound; near = Stressed; far = r .far })
   unfolding pieceAt
-  mark-steps k =
+  mark-steps c =
       let y = a .steady in
       let h = a .within in
-      let b = mark-within (getD m i 0) k in
-      let w = word-mark m y i h k in
+      let k : isMark (getD m i 0) ≡ true = by-class (getD m i 0) (y .bytes i) .mark ∙ eq-eqb (classOf (getD m i 0)) 1 c in
       record {
-        stands = record {
-          tone = rw (tone-mark m y i h k) (a .stands .tone);
-          sound = rw (sound-mark m y i h k, w) (a .stands .sound);
-          levels = levels-mark m y i h k (a .stands .levels);
-        };
-        put = rw (b, k) (put-none out (r .at));
+        stands = record { sound = rw (tone-mark m y i h k, sound-mark m y i h k, word-mark m y i h k) (a .stands .sound); levels = levels-mark m y i h k (a .stands .levels) };
+        put = rw (mark-within (getD m i 0) k, k) (put-none out (r .at));
       }
 
-  -- a break has put its mark, and left of it stands another word
-  pub break-steps : (out′ : List ℕ) (at tone : ℕ) (l : Levels) (pause : Bool) → isBreak (getD m i 0) ≡ true → eqb (classOf (getD m i 0)) 3 ≡ pause
-      → tone ≡ cond pause 64 (gapTone (r .sound % 64)) → l ≡ wordEnd (markBefore m i) → Put (cond pause 63 0 ∷ []) out out′ (r .at) at
-      → Stepped m out out′ i r (record { at = at; tone = tone; sound = 0; levels = l })
-  unfolding pieceAt
-  break-steps out′ at tone l pause b k t e q =
-      let y = a .steady in
-      let h = a .within in
-      let w = word-break m y i h b in
-      record {
-        stands = record {
-          tone = rw (tone-break m y i h b, break-gap (getD m i 0) (y .bytes i) b, k, break-tone pause (soundAt m (suc i)), ← right-sound .1) t;
-          sound = rw (sound-break m y i h b, w, none-softens);
-          levels = rw e (levels-break m y i h b);
-        };
-        put = rw (b, break-code (getD m i 0) (y .bytes i) b, k) q;
-      }
+module _ {m : List ℕ} {i c : ℕ} (steady : Steady m) (h : i < length m) (e : c ≡ classOf (getD m i 0)) where
+  -- the highest classes are the vowels'
+  pub vowel-class : 10 ≤ c → isVowelClass c ≡ true
+  vowel-class l = between-true 10 12 c l (omega (arith, by-class (getD m i 0) (steady .bytes i) .class))
 
-  -- a consonant that is heard has the code that was found
-  pub consonant-codes : (code : ℕ) → consonantByte (getD m i 0) ≡ true → elidedAt m i ≡ false
-      → code ≡ consonantCode (small (getD m i 0)) (leb 64 (r .sound)) (toneBy (r .tone)) (r .sound % 64) → codesAt m i ≡ code ∷ []
-  consonant-codes code k e c =
-      codes-consonant m (a .steady) i (a .within) (spelt-consonant (getD m i 0) (a .steady .bytes i) k) e
-      ∙ rw (c, right-sound .0, right-sound .1, a .stands .tone, tone-by (toneAt m (suc i)))
+  -- and the lowest that a byte of an accepted message has, but for the mark's, are the breaks'
+  pub break-class : c < 4 → (c ≡ 1 → ⊥) → isBreakClass c ≡ true
+  break-class l n = let z : c ≡ 0 → ⊥ = λ z. steady .named i h (sym e ∙ z) in between-true 2 3 c (omega arith) (omega arith)
 
--- a step may be taken at a byte whose class is within bounds
-pub ready-for : (lo hi : ℕ) {m out : List ℕ} {i c : ℕ} {r : Right} → Ready m out i r → c ≡ classOf (getD m i 0) → lo ≤ c → c ≤ hi → ReadyFor (between lo hi) m out i c r
-ready-for lo hi {c = c} a e l h = record { ready = a; class = e; kind = between-true lo hi c l h }
+-- of the signs only ь softens
+spelt-sign : {m out : List ℕ} {i c : ℕ} {r : Right} → ReadyFor isSignClass m out i c r → Spelt (getD m i 0) true false (eqb c 5)
+unfolding everything
+spelt-sign a = spelt-by a true false (λ x. eqb x 5) refl
 
--- the byte's own test, which its class tells
-tested : {test : ℕ → Bool} {m out : List ℕ} {i c : ℕ} {r : Right} → ReadyFor test m out i c r → test (classOf (getD m i 0)) ≡ true
-tested {test} a = ap test (sym (a .class)) ∙ a .kind
-
--- a break
-pub ready-break : {m out : List ℕ} {i c : ℕ} {r : Right} → ReadyFor isBreakClass m out i c r → isBreak (getD m i 0) ≡ true
-ready-break {m} {i = i} a = by-class (getD m i 0) (a .ready .steady .bytes i) .break ∙ tested a
-
--- a consonant
-pub ready-consonant : {m out : List ℕ} {i c : ℕ} {r : Right} → ReadyFor isConsonantClass m out i c r → consonantByte (getD m i 0) ≡ true
-ready-consonant {m} {i = i} a = by-class (getD m i 0) (a .ready .steady .bytes i) .consonant ∙ tested a
-
--- a sign is not heard
+-- they are not heard
 pub sign-steps : {m out : List ℕ} {i c seen : ℕ} {r : Right} → ReadyFor isSignClass m out i c r → seen ≡ r .sound % 64 + cond (eqb c 5) 64 0
-    → Stepped m out out i r (record { at = r .at; tone = r .tone; sound = seen; levels = r .levels })
-sign-steps {m} {out} {i} {c} {seen} {r} a n =
-    let b = getD m i 0 in
-    let t = a .ready .steady .bytes i in
-    let e : signByte b ≡ true = by-class b t .sign ∙ tested a in
-    let p = spelt-sign b t e in
-    silent-steps m out i r (a .ready) (eqb c 5) p (codes-sign m (a .ready .steady) i (a .ready .within) p) (rw (a .class) (sym (sign-softens b t e))) n
+    → Stepped m out out i r (record { at = r .at; sound = seen; near = r .near; far = r .far })
+sign-steps {m} {i = i} a = silent-steps (a .ready) (spelt-sign a) (codes-sign m (a .ready .steady) i (a .ready .within) (spelt-sign a))
 
--- nor is a silent consonant
-pub elided-steps : {m out : List ℕ} {i c seen : ℕ} {r : Right} → ReadyFor isConsonantClass m out i c r → elidedAt m i ≡ true → seen ≡ r .sound % 64 + 0
-    → Stepped m out out i r (record { at = r .at; tone = r .tone; sound = seen; levels = r .levels })
-elided-steps {m} {out} {i} {c} {seen} {r} a e n =
-    let b = getD m i 0 in
-    let t = a .ready .steady .bytes i in
-    let k = ready-consonant a in
-    let p = spelt-consonant b t k in
-    silent-steps m out i r (a .ready) false p (codes-silent m (a .ready .steady) i (a .ready .within) p e) (sym (consonant-softens b t k)) n
+module _ {m out : List ℕ} {i c : ℕ} {r : Right} (a : ReadyFor isBreakClass m out i c r) where
+  breaks : isBreak (getD m i 0) ≡ true
+  breaks = by-class (getD m i 0) (a .ready .steady .bytes i) .break ∙ tested a
 
--- the glide leaves an obstruent before it as written
-pub glide-tone : toneNo (toneBefore J) ≡ 0
-unfolding everything toneNo
-glide-tone = refl
+  -- there is room for a break's mark
+  pub break-room : 0 < r .at
+  unfolding pieceAt
+  break-room = rw breaks at (a .ready .room)
 
--- the codes of a vowel: their first leaves an obstruent before it as written
-pub sung-tone : {m : List ℕ} {i : ℕ} {v : Vowel} → Sung m i v → (t : Tone) → 0 ≡ toneNo (toneAfter (sungCodes v) t)
-unfolding toneNo
-sung-tone {m} {i} {v} f t = by (v .glide)
-  where
-    by : (g : Bool) → 0 ≡ toneNo (toneAfter (cond g (J ∷ v .sound ∷ []) (v .sound ∷ [])) t)
-    by true = sym glide-tone
-    by false = rw (f .sound, vowel-tone (leftAt m i .hard) (leftAt m i .p) (syllableAt m i) (small (getD m i 0)))
+  -- it has put it, and left of it stands another word
+  pub break-steps : {out′ : List ℕ} {at sound : ℕ} {f : Level} (pause : Bool) → eqb c 3 ≡ pause
+      → sound ≡ cond (not pause && isVoicing (codeBy (r .sound % 64))) 57 0 → f ≡ farLevel (markBefore m i) → Put (cond pause 63 0 ∷ []) out out′ (r .at) at
+      → Stepped m out out′ i r (record { at = at; sound = sound; near = f; far = f })
+  unfolding pieceAt
+  break-steps pause k t e q =
+      let y = a .ready .steady in
+      let h = a .ready .within in
+      let b = breaks in
+      let x = rw (a .class) at k in
+      record {
+        stands = record {
+          sound = rw (tone-break m y i h b, sound-break m y i h b, word-break m y i h b, none-softens, break-gap (getD m i 0) (y .bytes i) b, x, t, a .ready .stands .sound .code) (tells-end (not pause && isVoicing (soundAt m (suc i))));
+          levels = levels-break m y i h b e;
+        };
+        put = rw (b, break-code (getD m i 0) (y .bytes i) b, x) q;
+      }
 
--- and is the sound right of the letter before
-pub sung-first : (v : Vowel) (s : ℕ) → cond (v .glide) J (v .sound) ≡ soundAfter (sungCodes v) s
-sung-first v s = by (v .glide)
-  where
-    by : (g : Bool) → cond g J (v .sound) ≡ soundAfter (cond g (J ∷ v .sound ∷ []) (v .sound ∷ [])) s
-    by true = refl
-    by false = refl
+module _ {m out : List ℕ} {i c : ℕ} {r : Right} (a : ReadyFor isConsonantClass m out i c r) where
+  -- the byte is a consonant
+  consonant : consonantByte (getD m i 0) ≡ true
+  consonant = by-class (getD m i 0) (a .ready .steady .bytes i) .consonant ∙ tested a
 
--- where a step may be taken
-pub vowel-ready : {m out : List ℕ} {i c : ℕ} {r : Right} → ReadyFor isVowelClass m out i c r → VowelAt m i c (r .levels .near)
-vowel-ready a = record { within = a .ready .within; steady = a .ready .steady; class = a .class; vowel = a .kind; level = a .ready .stands .levels .near }
+  -- no consonant softens
+  spelt : Spelt (getD m i 0) false false false
+  unfolding everything
+  spelt = spelt-by a false false (λ _. false) refl
+
+  -- its code can be read
+  pub consonant-before : Before (getD m i 0) (r .sound)
+  consonant-before = record { letter = consonant; sound = a .ready .stands .sound .low }
+
+  -- a silent one is not heard
+  pub elided-steps : {seen : ℕ} → elidedAt m i ≡ true → seen ≡ r .sound % 64 + 0 → Stepped m out out i r (record { at = r .at; sound = seen; near = r .near; far = r .far })
+  elided-steps e n = silent-steps (a .ready) spelt (codes-silent m (a .ready .steady) i (a .ready .within) spelt e) n
+
+  module _ {code : ℕ} (heard : elidedAt m i ≡ false) (coded : code ≡ codeBefore (small (getD m i 0)) (r .sound)) where
+    -- another puts its code
+    codes : codesAt m i ≡ code ∷ []
+    codes = let s = a .ready .stands .sound in codes-heard m (a .ready .steady) i (a .ready .within) spelt heard ∙ rw (coded, s .soft, s .tone, s .code)
+
+    -- for which there is room
+    pub consonant-room : 0 < r .at
+    consonant-room = letter-room (a .ready) spelt codes
+
+    -- and which is what stands right of the letter before
+    pub consonant-steps : {out′ : List ℕ} {at : ℕ} → Put (code ∷ []) out out′ (r .at) at → Stepped m out out′ i r (record { at = at; sound = code; near = r .near; far = r .far })
+    consonant-steps q =
+        let x : isSound code ≡ true = rw coded (code-read soundTable (getD m i 0) (r .sound) refl (a .ready .steady .bytes i) consonant-before .sound) in
+        let z : code + 0 ≡ code = omega arith in
+        letter-steps (a .ready) spelt codes (rw z at (tells-sound code false x)) (plain-levels (a .ready) spelt) q
 
 -- what is found of a vowel by the byte before it, its class, and the level is what the passes make of it
 module _ (m : List ℕ) (i c : ℕ) (level : Level) (a : VowelAt m i c level) where
@@ -291,11 +234,44 @@ module _ (m : List ℕ) (i c : ℕ) (level : Level) (a : VowelAt m i c level) wh
         glide = rw (z, glide-raw m (a .steady) i (a .within) vowel-sings (s .cover), ← a .class, ← e, ← f) g;
       }
 
-  -- its codes then
-  pub sung-codes : (v : Vowel) → Sung m i v → codesAt m i ≡ sungCodes v
-  unfolding vowelCodes
-  sung-codes v s =
-      let b = getD m i 0 in
-      let t = a .steady .bytes i in
-      let e = class-spoken m i t (λ e. true≢false (sym vowel-sings ∙ by-class b t .vowel ∙ ap isVowelClass e)) in
-      codes-vowel m (a .steady) i (a .within) (spelt-vowel b t vowel-sings) e ∙ rw (← s .sound, ← s .glide)
+module _ {m out : List ℕ} {i c : ℕ} {r : Right} (a : ReadyFor isVowelClass m out i c r) where
+  -- a vowel may be sung where a step may be taken
+  pub vowel-ready : VowelAt m i c (r .near)
+  vowel-ready = record { within = a .ready .within; steady = a .ready .steady; class = a .class; vowel = a .kind; level = a .ready .stands .levels .near }
+
+  -- of the vowels those of classes 11 and 12 soften
+  vowel-spelt : Spelt (getD m i 0) false true (not (eqb c 10))
+  unfolding everything
+  vowel-spelt = spelt-by a false true (λ x. not (eqb x 10)) refl
+
+  module _ {v : Vowel} (s : Sung m i v) where
+    -- its codes
+    sung-codes : codesAt m i ≡ sungCodes v
+    unfolding vowelCodes
+    sung-codes =
+        let t = a .ready .steady .bytes i in
+        let e = class-spoken m i t (λ e. true≢false (sym (vowel-spelt .sings) ∙ by-class (getD m i 0) t .vowel ∙ ap isVowelClass e)) in
+        codes-heard m (a .ready .steady) i (a .ready .within) vowel-spelt e ∙ rw (← s .sound, ← s .glide)
+
+    -- for which there is room
+    pub vowel-room : length (sungCodes v) ≤ r .at
+    vowel-room = letter-room (a .ready) vowel-spelt sung-codes
+
+    -- their first is what stands right of the letter before
+    first-tells : (soft : Bool) (t : Tone) (k : ℕ) → Tells (cond (v .glide) J (v .sound) + cond soft 64 0) soft (toneAfter (sungCodes v) t) (soundAfter (sungCodes v) k)
+    unfolding vowelByte isSound
+    first-tells soft t k = by (v .glide)
+      where
+        by : (g : Bool) → Tells (cond g J (v .sound) + cond soft 64 0) soft (toneAfter (cond g (J ∷ v .sound ∷ []) (v .sound ∷ [])) t) (soundAfter (cond g (J ∷ v .sound ∷ []) (v .sound ∷ [])) k)
+        by true = tells-sound J soft refl
+        by false = tells-sound (v .sound) soft (rw (s .sound) (vowel-sound _ _ _ (small (getD m i 0)) (vowel-spelt .sings)))
+
+    pub vowel-steps : {out′ : List ℕ} {at first seen : ℕ} {n : Level} → first ≡ cond (v .glide) J (v .sound) → seen ≡ first + cond (not (eqb c 10)) 64 0 → n ≡ levelBefore (r .near) (r .far)
+        → Put (sungCodes v) out out′ (r .at) at → Stepped m out out′ i r (record { at = at; sound = seen; near = n; far = r .far })
+    vowel-steps f e l q =
+        letter-steps (a .ready) vowel-spelt sung-codes (rw (e, f) (first-tells _ _ _))
+        (rw l (levels-vowel m (a .ready .steady) i (a .ready .within) (vowel-spelt .sings) (a .ready .stands .levels))) q
+
+-- what stands right of the message's end
+pub stands-end : {m : List ℕ} → Steady m → {n : ℕ} {f : Level} → f ≡ farLevel (markBefore m (length m)) → Stands m (length m) (record { at = n; sound = 0; near = f; far = f })
+stands-end {m} steady e = record { sound = rw (tone-end m steady, sound-end m steady, word-end m steady, none-softens) (tells-end false); levels = levels-end m steady e }

@@ -10,7 +10,6 @@ use Rattle.spec.specs.Syllables.{nextStressed}
 use Rattle.message.specs.Places.{wordAt, markedAt}
 use Rattle.spec.specs.declared.Level.{Level}
 use Rattle.spec.specs.declared.Level.the-variants.{Stressed, First, Second}
-use Rattle.transcriber.specs.declared.levels.Levels.{Levels}
 
 -- the level of a vowel that is stressed or not, with the next vowel stressed or not, in a word that has a mark or not
 unfoldable pub levelBy : Bool → Bool → Bool → Level
@@ -26,21 +25,11 @@ levelBefore Stressed far = First
 levelBefore First far = far
 levelBefore Second far = far
 
--- at the end of a word that has a mark or not, left of a mark, and left of a vowel
-abbrev pub wordEnd : Bool → Levels
-wordEnd marked = record { near = farLevel marked; far = farLevel marked }
-
-abbrev pub overMark : Levels → Levels
-overMark l = record { near = Stressed; far = l .far }
-
-abbrev pub overVowel : Levels → Levels
-overVowel l = record { near = levelBefore (l .near) (l .far); far = l .far }
-
 -- the level of the next vowel of the word to the left of place i, if no other letter of it stands between
 abbrev pub nearLevel : List ℕ → ℕ → Level
 nearLevel m i = levelBy (beginsWithMark (drop i m)) (nextStressed (wordAt m i)) (markedAt m i)
 
--- l has the levels at place i
-pub record LevelsAt (m : List ℕ) (i : ℕ) (l : Levels) : Type 0 where
-  pub near : l .near ≡ nearLevel m i
-  pub far : l .far ≡ farLevel (markedAt m i)
+-- these are the levels at place i
+pub record LevelsAt (m : List ℕ) (i : ℕ) (n f : Level) : Type 0 where
+  pub near : n ≡ nearLevel m i
+  pub far : f ≡ farLevel (markedAt m i)

@@ -1,18 +1,18 @@
 -- How the code finds a letter's codes: by the class of the byte before it and one table. These are not the paper's words: `proofs/` shows that they agree with them.
 -- Assumes nothing: these are definitions.
-use Prim.Native.Nat.{ℕ, zero, suc, _+_, _-_, _*_, _/_, _%_, _<_, _≤_}
+use Prim.Native.Nat.{ℕ, zero, suc, _+_, _-_, _*_, _%_, _<_, _≤_}
 use mathlib.Core.Path.{_≡_}
-use mathlib.Core.Bool.{Bool, true, false, cond, _&&_, _||_}
+use mathlib.Core.Bool.{Bool, true, cond, _&&_, _||_}
 use mathlib.Core.List.{List, [], _∷_, _++_}
 use lib.Dec.{eqb, leb}
 use lib.ListN.{length, getD}
-use Rattle.spec.specs.Alphabet.{pause, «б», «в», «г», «д», «з», «к», «л», «м», «н», «п», «р», «с», «т», «ф», «х», «ь»}
+use Rattle.spec.specs.Alphabet.{pause, «ь»}
 use Rattle.spec.specs.Refusals.{consonantByte}
-use Rattle.spec.specs.Tables.{_gives_, entry}
+use Rattle.spec.specs.Tables.{among}
 use Rattle.spec.specs.Letters.{between, small, isBreak, isGap, isHardOnly, isPaired, isSoftOnly, isConsonant, isSign, isObstruent}
-use Rattle.spec.specs.Codes.{Б', В', Г', Х1', Д', Ж', З', К', Л', М', Н', П', Р', С', Т', Ф', Х', Ч, Ч1, Щ, А1, А2, Э2, isVoicing}
+use Rattle.spec.specs.Codes.{А*, А1, А2, Э2, Б, Б', В', Г, Г', Х1, Х1', Д, Д', Ж, Ж', З, З', К, К', Л', М', Н', П, П', Р', С, С', Т, Т', Ф, Ф', Х, Х', Ц, Ц1, Ч, Ч1, Ш, Щ}
 use Rattle.spec.specs.Vowels.{initial, hardEnd, vowelSound, bare, writtenCode}
-use Rattle.message.specs.Fused.{toneBefore}
+use Rattle.message.specs.Fused.{toneBefore, consonantCode}
 use Rattle.spec.specs.Voicing.{Tone, voiced, voiceless, asWritten, toned}
 use Rattle.message.specs.Classes.{classOf, isSignClass, tabulate}
 use Rattle.spec.specs.declared.Cover.{Cover}
@@ -83,60 +83,72 @@ glideBy c cover k = (eqb c 11 && (bare cover || isSignClass k)) || (eqb c 12 && 
 unfoldable pub hardBefore : List ℕ → ℕ → Bool
 hardBefore m i = isGap (byteBefore m i) && hardEnd (small (byteBefore m (i - 2))) (small (byteBefore m (i - 1)))
 
--- tones by number: where the tone's codes begin in the table
+-- How the code says by one number what stands right of a letter: the code of the next sound of its word, or 57 or 0 where it has none and the next word voices an obstruent or does not; and 64 more where the next letter palatalizes.
+-- What an obstruent is before it
+unfoldable pub toneBy : ℕ → Tone
+toneBy n = cond (eqb n 57) voiced (cond (eqb n 0) voiceless (toneBefore n))
+
+-- the code, 0 for none
+unfoldable pub codeBy : ℕ → ℕ
+codeBy n = cond (eqb n 57) 0 n
+
+-- the number s tells these
+pub record Tells (s : ℕ) (x : Bool) (t : Tone) (c : ℕ) : Type 0 where
+  pub low : s < 128
+  pub soft : leb 64 s ≡ x
+  pub tone : toneBy (s % 64) ≡ t
+  pub code : codeBy (s % 64) ≡ c
+
+-- the code of the consonant b before it
+abbrev pub codeBefore : ℕ → ℕ → ℕ
+codeBefore b s = consonantCode b (leb 64 s) (toneBy (s % 64)) (codeBy (s % 64))
+
+-- what a consonant's code is read from
+pub record Before (b s : ℕ) : Type 0 where
+  pub letter : consonantByte b ≡ true
+  pub sound : s < 128
+
+-- The sounds that act alike on every letter before them, a row of the table for each list: the first six voice, those of the eighth to the fourteenth devoice, and any other leaves an obstruent as it is written.
+unfoldable pub alike : List (List ℕ)
+alike =
+    (Б ∷ Г ∷ Х1 ∷ Д ∷ Ж ∷ З ∷ Ц1 ∷ []) ∷ (Д' ∷ З' ∷ []) ∷ (Ч1 ∷ Ж' ∷ []) ∷ (Б' ∷ []) ∷ (Г' ∷ []) ∷ (Х1' ∷ [])
+    ∷ (57 ∷ []) ∷ (0 ∷ К ∷ П ∷ С ∷ Т ∷ Ф ∷ Х ∷ Ц ∷ Ш ∷ []) ∷ (Т' ∷ С' ∷ []) ∷ (Ч ∷ Щ ∷ []) ∷ (П' ∷ []) ∷ (Ф' ∷ []) ∷ (К' ∷ []) ∷ (Х' ∷ [])
+    ∷ (Н' ∷ []) ∷ (В' ∷ []) ∷ (Л' ∷ []) ∷ (М' ∷ []) ∷ (Р' ∷ []) ∷ []
+
+-- which of the lists has the sound, or how many they are
+unfoldable pub rowIn : List (List ℕ) → ℕ → ℕ
+rowIn [] s = 0
+rowIn (x ∷ xs) s = cond (among x s) 0 (suc (rowIn xs s))
+
+-- where the next letter palatalizes only the tone matters
+unfoldable pub softRow : Tone → ℕ
+softRow voiced = 20
+softRow voiceless = 21
+softRow asWritten = 22
+
+-- the number of a sound's row: where it begins, in fours, since a row has 28 codes
+unfoldable pub soundRow : ℕ → ℕ
+soundRow s = 7 * cond (leb 64 s) (softRow (toneBy (s % 64))) (rowIn alike s)
+
+-- the codes of the letters а to ы before the sound s
+unfoldable pub codeRow : ℕ → List ℕ
+codeRow s = tabulate (λ j. codeBefore (224 + j) s) 0 28
+
+-- before each row's first sound
+unfoldable pub firstRows : List (List ℕ) → List ℕ
+firstRows [] = codeRow А* ++ (codeRow (Б + 64) ++ (codeRow 64 ++ codeRow (А* + 64)))
+firstRows ([] ∷ xs) = firstRows xs
+firstRows ((s ∷ ss) ∷ xs) = codeRow s ++ firstRows xs
+
+-- the table: the rows, and the row of each sound
+unfoldable pub soundTable : List ℕ
+soundTable = firstRows alike ++ tabulate soundRow 0 128
+
+-- tones by number, and a consonant's code under a tone, not palatalized
 unfoldable pub toneNo : Tone → ℕ
 toneNo asWritten = 0
 toneNo voiced = 32
 toneNo voiceless = 64
 
-unfoldable pub toneBy : ℕ → Tone
-toneBy n = cond (eqb n 32) voiced (cond (eqb n 64) voiceless asWritten)
-
--- the tone of a word's last obstruent before a gap and a word that begins with this sound, 0 for none
-unfoldable pub gapTone : ℕ → ℕ
-gapTone c = toneNo (cond (isVoicing c) voiced voiceless)
-
--- what a consonant's code is read from: its byte, a tone's number, and a sound
-pub record Heard (b n s : ℕ) : Type 0 where
-  pub letter : consonantByte b ≡ true
-  pub tone : toneNo (toneBy n) ≡ n
-  pub sound : s < 128
-
--- a consonant's code under a tone, not palatalized
 unfoldable pub tonedCode : Tone → ℕ → ℕ
 tonedCode tone b = cond (isObstruent b) (toned tone b (writtenCode b)) (writtenCode b)
-
--- Which letters are palatalized before which sounds, by groups: a letter before a sound of its own group, н before those of the dentals too. 0 is no group.
-unfoldable pub letterGroup : ℕ → ℕ
-letterGroup b =
-    entry
-    ((«т» gives 1) ∷ («д» gives 1) ∷ («с» gives 1) ∷ («з» gives 1) ∷ («н» gives 2) ∷ («б» gives 3) ∷ («п» gives 3) ∷ («в» gives 4) ∷ («ф» gives 4) ∷ («г» gives 5) ∷ («к» gives 5) ∷ («х» gives 6) ∷ («л» gives 7) ∷ («м» gives 8) ∷ («р» gives 9) ∷ [])
-    b
-
-unfoldable pub soundGroup : ℕ → ℕ
-soundGroup c =
-    entry
-    ((Т' gives 1) ∷ (Д' gives 1) ∷ (С' gives 1) ∷ (З' gives 1) ∷ (Н' gives 1) ∷ (Ч gives 2) ∷ (Ч1 gives 2) ∷ (Щ gives 2) ∷ (Ж' gives 2) ∷ (Б' gives 3) ∷ (П' gives 3) ∷ (В' gives 4) ∷ (Ф' gives 4) ∷ (Г' gives 5) ∷ (К' gives 5) ∷ (Х' gives 6) ∷ (Х1' gives 6) ∷ (Л' gives 7) ∷ (М' gives 8) ∷ (Р' gives 9) ∷ [])
-    c
-
-unfoldable pub softIn : ℕ → Bool → ℕ → Bool
-softIn own soft group =
-    cond (eqb own 0) false (soft || (cond (eqb group 0) false (eqb own group || (eqb own 2 && eqb group 1))))
-
--- A sound has 64 added where the letter that makes it palatalizes the one before. That is group 10: before it every letter that has a group is palatalized.
-unfoldable pub groupOf : ℕ → ℕ
-groupOf s = cond (leb 64 s) 10 (soundGroup s)
-
--- 1 where a letter of the group `own` is palatalized before a sound of this group
-unfoldable pub softNo : ℕ → ℕ → ℕ
-softNo group own = cond (softIn own (eqb group 10) group) 1 0
-
--- the table: codes under the three tones, not palatalized, for the letters а to я, their groups, for each code its tone, for each sound 16 times its group, then for each group of sounds which groups of letters it palatalizes
-unfoldable pub soundTable : List ℕ
-soundTable =
-    tabulate (λ j. tonedCode asWritten (224 + j)) 0 32
-    ++ (tabulate (λ j. tonedCode voiced (224 + j)) 0 32
-    ++ (tabulate (λ j. tonedCode voiceless (224 + j)) 0 32
-    ++ (tabulate (λ j. letterGroup (224 + j)) 0 32
-    ++ (tabulate (λ c. toneNo (toneBefore c)) 0 64
-    ++ (tabulate (λ s. 16 * groupOf s) 0 128 ++ tabulate (λ j. softNo (j / 16) (j % 16)) 0 176)))))

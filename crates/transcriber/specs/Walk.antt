@@ -9,14 +9,14 @@ use Rattle.spec.specs.Letters.{small, firstByte, isBreak, isMark}
 use Rattle.spec.specs.Codes.{J, markOf}
 use Rattle.spec.specs.Syllables.{incomplete, nameOf, syllableOf}
 use Rattle.spec.specs.Vowels.{vowelSound, glides, softens}
-use Rattle.spec.specs.Tape.{tape}
+use Rattle.spec.specs.Tape.{tape, names}
 use Rattle.spec.specs.Refusals.{vowelByte}
-use Rattle.message.specs.Places.{Steady, tapeAt, leftAt, letterOf, wordAt, toneAt, soundAt, factsAt, codesAt}
+use Rattle.message.specs.Places.{Steady, leftAt, letterOf, wordAt, toneAt, soundAt, factsAt, codesAt}
 use Rattle.message.specs.Classes.{classes, classOf, isVowelClass}
 use Rattle.spec.specs.declared.Level.{Level}
 use Rattle.spec.specs.declared.Syllable.{Syllable}
 use Rattle.transcriber.specs.Levels.{nearLevel, LevelsAt}
-use Rattle.transcriber.specs.Sounds.{soundTable, toneNo}
+use Rattle.transcriber.specs.Sounds.{soundTable, Tells}
 use Rattle.transcriber.specs.declared.Right.{Right}
 use Rattle.transcriber.specs.declared.Vowel.{Vowel}
 use Rattle.transcriber.specs.declared.NameState.{NameState}
@@ -34,9 +34,8 @@ pub record ClassAt (m : List ℕ) (i c : ℕ) : Type 0 where
 
 -- r says what stands right of place i
 pub record Stands (m : List ℕ) (i : ℕ) (r : Right) : Type 0 where
-  pub tone : r .tone ≡ toneNo (toneAt m i)
-  pub sound : r .sound ≡ soundAt m i + cond (softens (firstByte (wordAt m i))) 64 0
-  pub levels : LevelsAt m i (r .levels)
+  pub sound : Tells (r .sound) (softens (firstByte (wordAt m i))) (toneAt m i) (soundAt m i)
+  pub levels : LevelsAt m i (r .near) (r .far)
 
 -- these codes were put right before place at, and the rest of the output is as it was
 pub record Put (codes out out′ : List ℕ) (at r : ℕ) : Type 0 where
@@ -67,13 +66,25 @@ sungCodes v = cond (v .glide) (J ∷ v .sound ∷ []) (v .sound ∷ [])
 unfoldable pub pieceAt : List ℕ → ℕ → List ℕ
 pieceAt m i = cond (isBreak (getD m i 0)) (markOf (getD m i 0) ∷ []) (cond (isMark (getD m i 0)) [] (codesAt m i))
 
--- a step of the walk may be taken at place i: r stands right of it, and there is room for what it puts
-pub record Ready (m out : List ℕ) (i : ℕ) (r : Right) : Type 0 where
+-- A walk may step to place i: `Right` says what is known at the place after it, and there is room for what its byte puts
+pub record MayStep (Right : ℕ → Type 0) (piece m out : List ℕ) (i at : ℕ) : Type 0 where
   pub within : i < length m
   pub steady : Steady m
-  pub stands : Stands m (suc i) r
-  pub room : length (pieceAt m i) ≤ r .at
-  pub place : r .at ≤ length out
+  pub stands : Right (suc i)
+  pub room : length piece ≤ at
+  pub place : at ≤ length out
+
+-- and it did: that is known at the place, and the piece is in the output
+pub record DidStep (Right : ℕ → Type 0) (piece out out′ : List ℕ) (i at at′ : ℕ) : Type 0 where
+  pub stands : Right i
+  pub put : Put piece out out′ at at′
+
+-- the walk that writes the tape
+abbrev pub Ready : List ℕ → List ℕ → ℕ → Right → Type 0
+Ready m out i r = MayStep (λ j. Stands m j r) (pieceAt m i) m out i (r .at)
+
+abbrev pub Stepped : List ℕ → List ℕ → List ℕ → ℕ → Right → Right → Type 0
+Stepped m out out′ i r q = DidStep (λ j. Stands m j q) (pieceAt m i) out out′ i (r .at) (q .at)
 
 -- so that its byte is of class c, which passes a test
 pub record ReadyFor (test : ℕ → Bool) (m out : List ℕ) (i c : ℕ) (r : Right) : Type 0 where
@@ -81,26 +92,12 @@ pub record ReadyFor (test : ℕ → Bool) (m out : List ℕ) (i c : ℕ) (r : Ri
   pub class : c ≡ classOf (getD m i 0)
   pub kind : test c ≡ true
 
--- and it was: q stands there, and the byte's piece is on the tape
-pub record Stepped (m out out′ : List ℕ) (i : ℕ) (r q : Right) : Type 0 where
-  pub stands : Stands m i q
-  pub put : Put (pieceAt m i) out out′ (r .at) (q .at)
-
--- From place `start` back to place `to` the walk was taken: q stands there, and the codes of the bytes between are on the tape
-pub record Walked (m out out′ : List ℕ) (start to : ℕ) (r q : Right) : Type 0 where
-  pub stands : Stands m to q
-  pub codes : List ℕ
-  pub split : tapeAt m to ≡ codes ++ tapeAt m start
-  pub put : Put codes out out′ (r .at) (q .at)
-
--- such a walk may be taken: r stands at its start, and there is room for the whole message's tape
-pub record MayWalk (m out : List ℕ) (start to : ℕ) (r : Right) : Type 0 where
+-- the tape of m may be written right before place `end` of the output
+pub record MayWrite (t s m out : List ℕ) (end : ℕ) : Type 0 where
+  pub lent : Lent t s
   pub steady : Steady m
-  pub order : to ≤ start
-  pub within : start ≤ length m
-  pub stands : Stands m start r
-  pub room : length (tape m) ≤ r .at + length (tapeAt m start)
-  pub place : r .at ≤ length out
+  pub room : length (tape m) ≤ end
+  pub place : end ≤ length out
 
 -- The same for the naming, which needs to know less. The names that the byte at place i settles: a vowel's, and at a break the incomplete one's of the word before
 unfoldable pub namePiece : List ℕ → ℕ → List ℕ
@@ -108,12 +105,11 @@ namePiece m i =
     cond (isBreak (getD m i 0)) (incomplete (leftAt m i .p))
     (cond (vowelByte (getD m i 0)) (nameOf (syllableAt m i) ∷ []) [])
 
-pub record NameReady (m out : List ℕ) (i : ℕ) (v : NameState) : Type 0 where
-  pub within : i < length m
-  pub steady : Steady m
-  pub levels : LevelsAt m (suc i) (v .levels)
-  pub room : length (namePiece m i) ≤ v .at
-  pub place : v .at ≤ length out
+abbrev pub NameReady : List ℕ → List ℕ → ℕ → NameState → Type 0
+NameReady m out i v = MayStep (λ j. LevelsAt m j (v .near) (v .far)) (namePiece m i) m out i (v .at)
+
+abbrev pub Named : List ℕ → List ℕ → List ℕ → ℕ → NameState → NameState → Type 0
+Named m out out′ i v q = DidStep (λ j. LevelsAt m j (q .near) (q .far)) (namePiece m i) out out′ i (v .at) (q .at)
 
 -- at a vowel
 pub record VowelNamed (m out : List ℕ) (i : ℕ) (v : NameState) : Type 0 where
@@ -127,7 +123,8 @@ pub record WordEnd (m out : List ℕ) (i at : ℕ) : Type 0 where
   pub room : length (incomplete (leftAt m i .p)) ≤ at
   pub place : at ≤ length out
 
--- its names were put
-pub record Named (m out out′ : List ℕ) (i : ℕ) (v q : NameState) : Type 0 where
-  pub levels : LevelsAt m i (q .levels)
-  pub put : Put (namePiece m i) out out′ (v .at) (q .at)
+-- all n names of m may be written at the start of the output
+pub record NamesDue (m out : List ℕ) (n : ℕ) : Type 0 where
+  pub steady : Steady m
+  pub total : n ≡ length (names m)
+  pub room : n ≤ length out

@@ -1,53 +1,39 @@
 // The sounds of consonants (paper 01, passes 4 and 5), by the table of sounds.
 ghost use mathlib.Core.Path.{_≡_};
 ghost use mathlib.Core.Bool.{cond};
-ghost use Prim.Native.Nat.{_+_, _%_, _<_};
-ghost use lib.Dec.{leb};
+ghost use Prim.Native.Nat.{_+_, _%_};
+ghost use Rattle.spec.specs.Codes.{isVoicing};
 ghost use Rattle.spec.specs.Letters.{small};
-ghost use Rattle.message.specs.Fused.{toneBefore, consonantCode};
-ghost use Rattle.transcriber.specs.Sounds.{Heard, gapTone, soundTable, toneBy, toneNo};
+ghost use Rattle.transcriber.specs.Sounds.{Before, codeBefore, codeBy, soundTable};
 use crate::tables;
 use crate::tables::SoundTable;
 
-// How an obstruent sounds: where the codes of that tone begin in the table.
-pub const AS_WRITTEN: usize = 0;
+// What stands right of a letter is a number: the code of the next sound of the word, or one of two more where it has none, and then the next word decides how an obstruent sounds.
+pub const VOICELESS_END: usize = 0;
 
-pub const VOICED: usize = 32;
+pub const VOICED_END: usize = 57;
 
-pub const VOICELESS: usize = 64;
-
-// A sound is a code, 0 for none, and this more where its letter palatalizes the one before.
+// It is this more where the next letter palatalizes.
 pub const PALATALIZING: usize = 64;
 
-// The code of the consonant b, a small letter or a capital, before a tone and a sound.
-pub fn consonant_code(b: u8, tone: usize, sound: usize, s: &SoundTable) -> usize
-    requires { ⌜ (now s ≡ soundTable) × Heard b tone sound ⌝ }
-    ensures { λ r. ⌜ r ≡ consonantCode (small b) (leb 64 sound) (toneBy tone) (sound % 64) ⌝ }
+// The code of the consonant b, a small letter or a capital, before a sound.
+pub fn consonant_code(b: u8, sound: usize, s: &SoundTable) -> u8
+    requires { ⌜ (now s ≡ soundTable) × Before b sound ⌝ }
+    ensures { λ r. ⌜ r ≡ codeBefore (small b) sound ⌝ }
 {
-    let letter = (b % 32) as usize;
-    let code = s[tone + letter] as usize;
-    let own = s[tables::LETTER_GROUPS + letter] as usize;
-    let group = s[tables::SOUND_GROUPS + sound] as usize;
-    code + s[tables::PALATALIZED + (group + own)] as usize
+    let row = s[tables::ROWS + sound] as usize;
+    s[row * tables::UNIT + (b % 32) as usize]
 }
 
-// How an obstruent sounds before a code.
-pub fn tone_before(code: usize, s: &SoundTable) -> usize
-    requires { ⌜ (now s ≡ soundTable) × (code < 64) ⌝ }
-    ensures { λ r. ⌜ r ≡ toneNo (toneBefore code) ⌝ }
-{
-    s[tables::TONES + code] as usize
-}
-
-// How an obstruent at the end of a word sounds, where a gap and a word that begins with this sound follow.
-pub fn tone_at_gap(sound: usize, s: &SoundTable) -> usize
+// What stands right of a word's last letter, where a gap and a word that begins with this sound follow. No letter palatalizes across the gap.
+pub fn sound_over_gap(sound: usize, s: &SoundTable) -> usize
     requires { ⌜ now s ≡ soundTable ⌝ }
-    ensures { λ r. ⌜ r ≡ gapTone (sound % 64) ⌝ }
+    ensures { λ r. ⌜ r ≡ cond (isVoicing (codeBy (sound % 64))) 57 0 ⌝ }
 {
-    if tone_before(sound % PALATALIZING, s) == VOICED {
-        return VOICED;
+    if s[tables::ROWS + sound % PALATALIZING] < tables::NOT_VOICING {
+        return VOICED_END;
     }
-    VOICELESS
+    VOICELESS_END
 }
 
 // The sound of a code whose letter palatalizes or not.

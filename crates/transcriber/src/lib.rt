@@ -10,7 +10,7 @@ pub mod tables;
 pub mod tape;
 mod vowels;
 
-use levels::Levels;
+use spec::Level;
 
 // What a vowel puts on the tape: its sound, and whether a glide stands before it.
 pub struct Vowel {
@@ -18,17 +18,18 @@ pub struct Vowel {
     pub glide: bool,
 }
 
-// What stands right of a place of the message, in the walk from its end: where the tape written so far begins, how an obstruent would sound before it,
-// the first sound of this word after the place, and the levels of this word's vowels left of it.
+// What stands right of a place of the message, in the walk from its end: where the tape written so far begins, what a consonant would sound before, and the levels of this word's vowels
+// left of the place.
 pub struct Right {
     pub at: usize,
-    pub tone: usize,
     pub sound: usize,
-    pub levels: Levels,
+    pub near: Level,
+    pub far: Level,
 }
 
 // The same for the naming, which needs to know less.
 pub struct NameState {
     pub at: usize,
-    pub levels: Levels,
+    pub near: Level,
+    pub far: Level,
 }

@@ -1,20 +1,18 @@
 // The naming operation: one walk over the message from its end, which writes the syllable names from their end.
 ghost use mathlib.Core.Path.{_≡_};
 ghost use mathlib.Core.List.{_++_};
-ghost use Prim.Native.Nat.{_≤_};
-ghost use lib.ListN.{length, drop};
+ghost use lib.ListN.{drop};
 ghost use Rattle.message.specs.Classes.{classes};
 ghost use Rattle.spec.specs.Syllables.{incomplete};
 ghost use Rattle.spec.specs.Tape.{names};
-ghost use Rattle.message.specs.Places.{Steady, leftAt};
+ghost use Rattle.message.specs.Places.{leftAt};
 ghost use Rattle.spec.specs.Answers.{NamePromise};
-ghost use Rattle.transcriber.specs.Walk.{Put, WordEnd, NameReady, VowelNamed, Named};
+ghost use Rattle.transcriber.specs.Walk.{Put, WordEnd, NameReady, VowelNamed, Named, NamesDue};
 use crate::NameState;
 use crate::answers::refused;
 use crate::before::class_before;
 use crate::levels::at_word_end;
-use crate::levels::over_mark;
-use crate::levels::over_vowel;
+use crate::levels::level_before;
 use crate::output::put;
 use crate::syllables;
 use crate::syllables::is_consonant_or_sign;
@@ -27,6 +25,7 @@ use message::classify::class_of;
 use message::classify::class_table;
 use spec::Answer;
 use spec::Checked;
+use spec::Level;
 use spec::Refusal;
 
 // The end of a word, at place i: letters after its last vowel are an incomplete syllable.
@@ -45,12 +44,12 @@ fn put_name(m: &[u8], i: usize, v: NameState, out: &mut [u8], t: &ClassTable) ->
     requires { ⌜ (now t ≡ classes) × VowelNamed (now m) (now out) i v ⌝ }
     ensures { λ q. ⌜ Named (now (m .entry)) (now (out .entry)) (now (out .exit)) i v q ⌝ }
 {
-    let l = v.levels;
-    let level = l.near;
+    let level = v.near;
+    let far = v.far;
     let s = syllable_by(class_before(m, i, t), level);
     let at = put(out, v.at, name_of(s));
-    let levels = over_vowel(l);
-    NameState { at, levels }
+    let near = level_before(level, far);
+    NameState { at, near, far }
 }
 
 // The byte at place i.
@@ -67,24 +66,32 @@ fn step(m: &[u8], i: usize, v: NameState, out: &mut [u8], t: &ClassTable) -> Nam
     }
     let at = v.at;
     if c == classes::MARK {
-        let levels = over_mark(v.levels);
-        return NameState { at, levels };
+        let far = v.far;
+        return NameState {
+            at,
+            near: Level::Stressed,
+            far,
+        };
     }
     let end = put_end(m, i, at, out, t);
-    let levels = at_word_end(m, i);
-    NameState { at: end, levels }
+    let far = at_word_end(m, i);
+    NameState {
+        at: end,
+        near: far,
+        far,
+    }
 }
 
 // Writes the names of an accepted message, n of them, at the start of the output.
 fn fill_names(m: &[u8], out: &mut [u8], n: usize)
-    requires { ⌜ Steady (now m) × (n ≡ length (names (now m))) × (n ≤ length (now out)) ⌝ }
+    requires { ⌜ NamesDue (now m) (now out) n ⌝ }
     ensures { λ _. ⌜ now (out .exit) ≡ names (now (m .entry)) ++ drop n (now (out .entry)) ⌝ }
 {
     let t = class_table();
     let mut i = m.len();
     let at = put_end(m, i, n, out, &t);
-    let levels = at_word_end(m, i);
-    let mut v = NameState { at, levels };
+    let far = at_word_end(m, i);
+    let mut v = NameState { at, near: far, far };
     while 0 < i {
         i -= 1;
         v = step(m, i, v, out, &t);

@@ -2,516 +2,792 @@
 ghost use mathlib.Core.Path.{_≡_};
 ghost use Rattle.transcriber.specs.Sounds.{soundTable};
 
-// Where the parts of the table begin, after the hard codes of the letters under each tone.
-pub const LETTER_GROUPS: usize = 96;
+// A row begins at so many times the number that its sounds have, which so fits a byte.
+pub const UNIT: usize = 4;
 
-pub const TONES: usize = 128;
+// The rows before a sound that voices are the first; here begin the others.
+pub const NOT_VOICING: u8 = 42;
 
-pub const SOUND_GROUPS: usize = 192;
+// Where the sounds' rows begin, after the rows themselves.
+pub const ROWS: usize = 644;
 
-pub const PALATALIZED: usize = 320;
+pub type SoundTable = [u8; 772];
 
-pub type SoundTable = [u8; 496];
-
-// The hard codes of the letters а to я as written, voiced and voiceless, and their groups; the tone of each code; 16 times the group of each sound, which is 64 more
-// where its letter palatalizes; and for each group of sounds whether it palatalizes each group of letters.
+// The codes of the letters а to ы before each kind of sound, a row each; then for each sound, which is 64 more where its letter palatalizes, the number of its row. A row ends
+// with ы: whoever makes a copy lays it out, and a run of zeros to я would cost more than the codes do.
 const SOUNDS: SoundTable = [
-    0, // а as written
-    16, // б as written
-    18, // в as written
-    20, // г as written
-    24, // д as written
-    0, // е as written
-    26, // ж as written
-    29, // з as written
-    0, // и as written
-    28, // й as written
-    31, // к as written
-    33, // л as written
-    35, // м as written
-    37, // н as written
-    0, // о as written
-    39, // п as written
-    41, // р as written
-    43, // с as written
-    45, // т as written
-    0, // у as written
-    47, // ф as written
-    49, // х as written
-    51, // ц as written
-    53, // ч as written
-    55, // ш as written
-    56, // щ as written
-    0, // ъ as written
-    0, // ы as written
-    0, // ь as written
-    0, // э as written
-    0, // ю as written
-    0, // я as written
-    0, // а voiced
-    16, // б voiced
-    18, // в voiced
-    20, // г voiced
-    24, // д voiced
-    0, // е voiced
-    26, // ж voiced
-    29, // з voiced
-    0, // и voiced
-    28, // й voiced
-    20, // к voiced
-    33, // л voiced
-    35, // м voiced
-    37, // н voiced
-    0, // о voiced
-    16, // п voiced
-    41, // р voiced
-    29, // с voiced
-    24, // т voiced
-    0, // у voiced
-    18, // ф voiced
-    22, // х voiced
-    52, // ц voiced
-    54, // ч voiced
-    26, // ш voiced
-    27, // щ voiced
-    0, // ъ voiced
-    0, // ы voiced
-    0, // ь voiced
-    0, // э voiced
-    0, // ю voiced
-    0, // я voiced
-    0, // а voiceless
-    39, // б voiceless
-    47, // в voiceless
-    31, // г voiceless
-    45, // д voiceless
-    0, // е voiceless
-    55, // ж voiceless
-    43, // з voiceless
-    0, // и voiceless
-    28, // й voiceless
-    31, // к voiceless
-    33, // л voiceless
-    35, // м voiceless
-    37, // н voiceless
-    0, // о voiceless
-    39, // п voiceless
-    41, // р voiceless
-    43, // с voiceless
-    45, // т voiceless
-    0, // у voiceless
-    47, // ф voiceless
-    49, // х voiceless
-    51, // ц voiceless
-    53, // ч voiceless
-    55, // ш voiceless
-    56, // щ voiceless
-    0, // ъ voiceless
-    0, // ы voiceless
-    0, // ь voiceless
-    0, // э voiceless
-    0, // ю voiceless
-    0, // я voiceless
-    0, // а group
-    3, // б group
-    4, // в group
-    5, // г group
-    1, // д group
-    0, // е group
-    0, // ж group
-    1, // з group
-    0, // и group
-    0, // й group
-    5, // к group
-    7, // л group
-    8, // м group
-    2, // н group
-    0, // о group
-    3, // п group
-    9, // р group
-    1, // с group
-    1, // т group
-    0, // у group
-    4, // ф group
-    6, // х group
-    0, // ц group
-    0, // ч group
-    0, // ш group
-    0, // щ group
-    0, // ъ group
-    0, // ы group
-    0, // ь group
-    0, // э group
-    0, // ю group
-    0, // я group
-    0, // code 0 gap
-    0, // code 1 А*
-    0, // code 2 О*
-    0, // code 3 Э*
-    0, // code 4 Ы*
-    0, // code 5 И*
-    0, // code 6 У*
-    0, // code 7 А1
-    0, // code 8 Э1
-    0, // code 9 Ы1
-    0, // code 10 И1
-    0, // code 11 У1
-    0, // code 12 А2
-    0, // code 13 Э2
-    0, // code 14 О
-    0, // code 15 Е
-    32, // code 16 Б
-    32, // code 17 Б'
-    0, // code 18 В
-    0, // code 19 В'
-    32, // code 20 Г
-    32, // code 21 Г'
-    32, // code 22 Х1
-    32, // code 23 Х1'
-    32, // code 24 Д
-    32, // code 25 Д'
-    32, // code 26 Ж
-    32, // code 27 Ж'
-    0, // code 28 J
-    32, // code 29 З
-    32, // code 30 З'
-    64, // code 31 К
-    64, // code 32 К'
-    0, // code 33 Л
-    0, // code 34 Л'
-    0, // code 35 М
-    0, // code 36 М'
-    0, // code 37 Н
-    0, // code 38 Н'
-    64, // code 39 П
-    64, // code 40 П'
-    0, // code 41 Р
-    0, // code 42 Р'
-    64, // code 43 С
-    64, // code 44 С'
-    64, // code 45 Т
-    64, // code 46 Т'
-    64, // code 47 Ф
-    64, // code 48 Ф'
-    64, // code 49 Х
-    64, // code 50 Х'
-    64, // code 51 Ц
-    32, // code 52 Ц1
-    64, // code 53 Ч
-    32, // code 54 Ч1
-    64, // code 55 Ш
-    64, // code 56 Щ
-    0, // code 57
-    0, // code 58
-    0, // code 59
-    0, // code 60
-    0, // code 61
-    0, // code 62
-    0, // code 63 pause
-    0, // group of code 0 gap
-    0, // group of code 1 А*
-    0, // group of code 2 О*
-    0, // group of code 3 Э*
-    0, // group of code 4 Ы*
-    0, // group of code 5 И*
-    0, // group of code 6 У*
-    0, // group of code 7 А1
-    0, // group of code 8 Э1
-    0, // group of code 9 Ы1
-    0, // group of code 10 И1
-    0, // group of code 11 У1
-    0, // group of code 12 А2
-    0, // group of code 13 Э2
-    0, // group of code 14 О
-    0, // group of code 15 Е
-    0, // group of code 16 Б
-    48, // group of code 17 Б'
-    0, // group of code 18 В
-    64, // group of code 19 В'
-    0, // group of code 20 Г
-    80, // group of code 21 Г'
-    0, // group of code 22 Х1
-    96, // group of code 23 Х1'
-    0, // group of code 24 Д
-    16, // group of code 25 Д'
-    0, // group of code 26 Ж
-    32, // group of code 27 Ж'
-    0, // group of code 28 J
-    0, // group of code 29 З
-    16, // group of code 30 З'
-    0, // group of code 31 К
-    80, // group of code 32 К'
-    0, // group of code 33 Л
-    112, // group of code 34 Л'
-    0, // group of code 35 М
-    128, // group of code 36 М'
-    0, // group of code 37 Н
-    16, // group of code 38 Н'
-    0, // group of code 39 П
-    48, // group of code 40 П'
-    0, // group of code 41 Р
-    144, // group of code 42 Р'
-    0, // group of code 43 С
-    16, // group of code 44 С'
-    0, // group of code 45 Т
-    16, // group of code 46 Т'
-    0, // group of code 47 Ф
-    64, // group of code 48 Ф'
-    0, // group of code 49 Х
-    96, // group of code 50 Х'
-    0, // group of code 51 Ц
-    0, // group of code 52 Ц1
-    32, // group of code 53 Ч
-    32, // group of code 54 Ч1
-    0, // group of code 55 Ш
-    32, // group of code 56 Щ
-    0, // group of code 57
-    0, // group of code 58
-    0, // group of code 59
-    0, // group of code 60
-    0, // group of code 61
-    0, // group of code 62
-    0, // group of code 63 pause
-    160, // group of code 0 gap, palatalizing
-    160, // group of code 1 А*, palatalizing
-    160, // group of code 2 О*, palatalizing
-    160, // group of code 3 Э*, palatalizing
-    160, // group of code 4 Ы*, palatalizing
-    160, // group of code 5 И*, palatalizing
-    160, // group of code 6 У*, palatalizing
-    160, // group of code 7 А1, palatalizing
-    160, // group of code 8 Э1, palatalizing
-    160, // group of code 9 Ы1, palatalizing
-    160, // group of code 10 И1, palatalizing
-    160, // group of code 11 У1, palatalizing
-    160, // group of code 12 А2, palatalizing
-    160, // group of code 13 Э2, palatalizing
-    160, // group of code 14 О, palatalizing
-    160, // group of code 15 Е, palatalizing
-    160, // group of code 16 Б, palatalizing
-    160, // group of code 17 Б', palatalizing
-    160, // group of code 18 В, palatalizing
-    160, // group of code 19 В', palatalizing
-    160, // group of code 20 Г, palatalizing
-    160, // group of code 21 Г', palatalizing
-    160, // group of code 22 Х1, palatalizing
-    160, // group of code 23 Х1', palatalizing
-    160, // group of code 24 Д, palatalizing
-    160, // group of code 25 Д', palatalizing
-    160, // group of code 26 Ж, palatalizing
-    160, // group of code 27 Ж', palatalizing
-    160, // group of code 28 J, palatalizing
-    160, // group of code 29 З, palatalizing
-    160, // group of code 30 З', palatalizing
-    160, // group of code 31 К, palatalizing
-    160, // group of code 32 К', palatalizing
-    160, // group of code 33 Л, palatalizing
-    160, // group of code 34 Л', palatalizing
-    160, // group of code 35 М, palatalizing
-    160, // group of code 36 М', palatalizing
-    160, // group of code 37 Н, palatalizing
-    160, // group of code 38 Н', palatalizing
-    160, // group of code 39 П, palatalizing
-    160, // group of code 40 П', palatalizing
-    160, // group of code 41 Р, palatalizing
-    160, // group of code 42 Р', palatalizing
-    160, // group of code 43 С, palatalizing
-    160, // group of code 44 С', palatalizing
-    160, // group of code 45 Т, palatalizing
-    160, // group of code 46 Т', palatalizing
-    160, // group of code 47 Ф, palatalizing
-    160, // group of code 48 Ф', palatalizing
-    160, // group of code 49 Х, palatalizing
-    160, // group of code 50 Х', palatalizing
-    160, // group of code 51 Ц, palatalizing
-    160, // group of code 52 Ц1, palatalizing
-    160, // group of code 53 Ч, palatalizing
-    160, // group of code 54 Ч1, palatalizing
-    160, // group of code 55 Ш, palatalizing
-    160, // group of code 56 Щ, palatalizing
-    160, // group of code 57, palatalizing
-    160, // group of code 58, palatalizing
-    160, // group of code 59, palatalizing
-    160, // group of code 60, palatalizing
-    160, // group of code 61, palatalizing
-    160, // group of code 62, palatalizing
-    160, // group of code 63 pause, palatalizing
-    0, // none before none
-    0, // т д с з before none
-    0, // н before none
-    0, // б п before none
-    0, // в ф before none
-    0, // г к before none
-    0, // х before none
-    0, // л before none
-    0, // м before none
-    0, // р before none
-    0, // unused 10 before none
-    0, // unused 11 before none
-    0, // unused 12 before none
-    0, // unused 13 before none
-    0, // unused 14 before none
-    0, // unused 15 before none
-    0, // none before Т' Д' С' З' Н'
-    1, // т д с з before Т' Д' С' З' Н'
-    1, // н before Т' Д' С' З' Н'
-    0, // б п before Т' Д' С' З' Н'
-    0, // в ф before Т' Д' С' З' Н'
-    0, // г к before Т' Д' С' З' Н'
-    0, // х before Т' Д' С' З' Н'
-    0, // л before Т' Д' С' З' Н'
-    0, // м before Т' Д' С' З' Н'
-    0, // р before Т' Д' С' З' Н'
-    0, // unused 10 before Т' Д' С' З' Н'
-    0, // unused 11 before Т' Д' С' З' Н'
-    0, // unused 12 before Т' Д' С' З' Н'
-    0, // unused 13 before Т' Д' С' З' Н'
-    0, // unused 14 before Т' Д' С' З' Н'
-    0, // unused 15 before Т' Д' С' З' Н'
-    0, // none before Ч Ч1 Щ Ж'
-    0, // т д с з before Ч Ч1 Щ Ж'
-    1, // н before Ч Ч1 Щ Ж'
-    0, // б п before Ч Ч1 Щ Ж'
-    0, // в ф before Ч Ч1 Щ Ж'
-    0, // г к before Ч Ч1 Щ Ж'
-    0, // х before Ч Ч1 Щ Ж'
-    0, // л before Ч Ч1 Щ Ж'
-    0, // м before Ч Ч1 Щ Ж'
-    0, // р before Ч Ч1 Щ Ж'
-    0, // unused 10 before Ч Ч1 Щ Ж'
-    0, // unused 11 before Ч Ч1 Щ Ж'
-    0, // unused 12 before Ч Ч1 Щ Ж'
-    0, // unused 13 before Ч Ч1 Щ Ж'
-    0, // unused 14 before Ч Ч1 Щ Ж'
-    0, // unused 15 before Ч Ч1 Щ Ж'
-    0, // none before Б' П'
-    0, // т д с з before Б' П'
-    0, // н before Б' П'
-    1, // б п before Б' П'
-    0, // в ф before Б' П'
-    0, // г к before Б' П'
-    0, // х before Б' П'
-    0, // л before Б' П'
-    0, // м before Б' П'
-    0, // р before Б' П'
-    0, // unused 10 before Б' П'
-    0, // unused 11 before Б' П'
-    0, // unused 12 before Б' П'
-    0, // unused 13 before Б' П'
-    0, // unused 14 before Б' П'
-    0, // unused 15 before Б' П'
-    0, // none before В' Ф'
-    0, // т д с з before В' Ф'
-    0, // н before В' Ф'
-    0, // б п before В' Ф'
-    1, // в ф before В' Ф'
-    0, // г к before В' Ф'
-    0, // х before В' Ф'
-    0, // л before В' Ф'
-    0, // м before В' Ф'
-    0, // р before В' Ф'
-    0, // unused 10 before В' Ф'
-    0, // unused 11 before В' Ф'
-    0, // unused 12 before В' Ф'
-    0, // unused 13 before В' Ф'
-    0, // unused 14 before В' Ф'
-    0, // unused 15 before В' Ф'
-    0, // none before Г' К'
-    0, // т д с з before Г' К'
-    0, // н before Г' К'
-    0, // б п before Г' К'
-    0, // в ф before Г' К'
-    1, // г к before Г' К'
-    0, // х before Г' К'
-    0, // л before Г' К'
-    0, // м before Г' К'
-    0, // р before Г' К'
-    0, // unused 10 before Г' К'
-    0, // unused 11 before Г' К'
-    0, // unused 12 before Г' К'
-    0, // unused 13 before Г' К'
-    0, // unused 14 before Г' К'
-    0, // unused 15 before Г' К'
-    0, // none before Х' Х1'
-    0, // т д с з before Х' Х1'
-    0, // н before Х' Х1'
-    0, // б п before Х' Х1'
-    0, // в ф before Х' Х1'
-    0, // г к before Х' Х1'
-    1, // х before Х' Х1'
-    0, // л before Х' Х1'
-    0, // м before Х' Х1'
-    0, // р before Х' Х1'
-    0, // unused 10 before Х' Х1'
-    0, // unused 11 before Х' Х1'
-    0, // unused 12 before Х' Х1'
-    0, // unused 13 before Х' Х1'
-    0, // unused 14 before Х' Х1'
-    0, // unused 15 before Х' Х1'
-    0, // none before Л'
-    0, // т д с з before Л'
-    0, // н before Л'
-    0, // б п before Л'
-    0, // в ф before Л'
-    0, // г к before Л'
-    0, // х before Л'
-    1, // л before Л'
-    0, // м before Л'
-    0, // р before Л'
-    0, // unused 10 before Л'
-    0, // unused 11 before Л'
-    0, // unused 12 before Л'
-    0, // unused 13 before Л'
-    0, // unused 14 before Л'
-    0, // unused 15 before Л'
-    0, // none before М'
-    0, // т д с з before М'
-    0, // н before М'
-    0, // б п before М'
-    0, // в ф before М'
-    0, // г к before М'
-    0, // х before М'
-    0, // л before М'
-    1, // м before М'
-    0, // р before М'
-    0, // unused 10 before М'
-    0, // unused 11 before М'
-    0, // unused 12 before М'
-    0, // unused 13 before М'
-    0, // unused 14 before М'
-    0, // unused 15 before М'
-    0, // none before Р'
-    0, // т д с з before Р'
-    0, // н before Р'
-    0, // б п before Р'
-    0, // в ф before Р'
-    0, // г к before Р'
-    0, // х before Р'
-    0, // л before Р'
-    0, // м before Р'
-    1, // р before Р'
-    0, // unused 10 before Р'
-    0, // unused 11 before Р'
-    0, // unused 12 before Р'
-    0, // unused 13 before Р'
-    0, // unused 14 before Р'
-    0, // unused 15 before Р'
-    0, // none before palatalizing
-    1, // т д с з before palatalizing
-    1, // н before palatalizing
-    1, // б п before palatalizing
-    1, // в ф before palatalizing
-    1, // г к before palatalizing
-    1, // х before palatalizing
-    1, // л before palatalizing
-    1, // м before palatalizing
-    1, // р before palatalizing
-    1, // unused 10 before palatalizing
-    1, // unused 11 before palatalizing
-    1, // unused 12 before palatalizing
-    1, // unused 13 before palatalizing
-    1, // unused 14 before palatalizing
-    1, // unused 15 before palatalizing
+    0, // а before Б
+    16, // б before Б
+    18, // в before Б
+    20, // г before Б
+    24, // д before Б
+    0, // е before Б
+    26, // ж before Б
+    29, // з before Б
+    0, // и before Б
+    28, // й before Б
+    20, // к before Б
+    33, // л before Б
+    35, // м before Б
+    37, // н before Б
+    0, // о before Б
+    16, // п before Б
+    41, // р before Б
+    29, // с before Б
+    24, // т before Б
+    0, // у before Б
+    18, // ф before Б
+    22, // х before Б
+    52, // ц before Б
+    54, // ч before Б
+    26, // ш before Б
+    27, // щ before Б
+    0, // ъ before Б
+    0, // ы before Б
+    0, // а before Д'
+    16, // б before Д'
+    18, // в before Д'
+    20, // г before Д'
+    25, // д before Д'
+    0, // е before Д'
+    26, // ж before Д'
+    30, // з before Д'
+    0, // и before Д'
+    28, // й before Д'
+    20, // к before Д'
+    33, // л before Д'
+    35, // м before Д'
+    38, // н before Д'
+    0, // о before Д'
+    16, // п before Д'
+    41, // р before Д'
+    30, // с before Д'
+    25, // т before Д'
+    0, // у before Д'
+    18, // ф before Д'
+    22, // х before Д'
+    52, // ц before Д'
+    54, // ч before Д'
+    26, // ш before Д'
+    27, // щ before Д'
+    0, // ъ before Д'
+    0, // ы before Д'
+    0, // а before Ч1
+    16, // б before Ч1
+    18, // в before Ч1
+    20, // г before Ч1
+    24, // д before Ч1
+    0, // е before Ч1
+    26, // ж before Ч1
+    29, // з before Ч1
+    0, // и before Ч1
+    28, // й before Ч1
+    20, // к before Ч1
+    33, // л before Ч1
+    35, // м before Ч1
+    38, // н before Ч1
+    0, // о before Ч1
+    16, // п before Ч1
+    41, // р before Ч1
+    29, // с before Ч1
+    24, // т before Ч1
+    0, // у before Ч1
+    18, // ф before Ч1
+    22, // х before Ч1
+    52, // ц before Ч1
+    54, // ч before Ч1
+    26, // ш before Ч1
+    27, // щ before Ч1
+    0, // ъ before Ч1
+    0, // ы before Ч1
+    0, // а before Б'
+    17, // б before Б'
+    18, // в before Б'
+    20, // г before Б'
+    24, // д before Б'
+    0, // е before Б'
+    26, // ж before Б'
+    29, // з before Б'
+    0, // и before Б'
+    28, // й before Б'
+    20, // к before Б'
+    33, // л before Б'
+    35, // м before Б'
+    37, // н before Б'
+    0, // о before Б'
+    17, // п before Б'
+    41, // р before Б'
+    29, // с before Б'
+    24, // т before Б'
+    0, // у before Б'
+    18, // ф before Б'
+    22, // х before Б'
+    52, // ц before Б'
+    54, // ч before Б'
+    26, // ш before Б'
+    27, // щ before Б'
+    0, // ъ before Б'
+    0, // ы before Б'
+    0, // а before Г'
+    16, // б before Г'
+    18, // в before Г'
+    21, // г before Г'
+    24, // д before Г'
+    0, // е before Г'
+    26, // ж before Г'
+    29, // з before Г'
+    0, // и before Г'
+    28, // й before Г'
+    21, // к before Г'
+    33, // л before Г'
+    35, // м before Г'
+    37, // н before Г'
+    0, // о before Г'
+    16, // п before Г'
+    41, // р before Г'
+    29, // с before Г'
+    24, // т before Г'
+    0, // у before Г'
+    18, // ф before Г'
+    22, // х before Г'
+    52, // ц before Г'
+    54, // ч before Г'
+    26, // ш before Г'
+    27, // щ before Г'
+    0, // ъ before Г'
+    0, // ы before Г'
+    0, // а before Х1'
+    16, // б before Х1'
+    18, // в before Х1'
+    20, // г before Х1'
+    24, // д before Х1'
+    0, // е before Х1'
+    26, // ж before Х1'
+    29, // з before Х1'
+    0, // и before Х1'
+    28, // й before Х1'
+    20, // к before Х1'
+    33, // л before Х1'
+    35, // м before Х1'
+    37, // н before Х1'
+    0, // о before Х1'
+    16, // п before Х1'
+    41, // р before Х1'
+    29, // с before Х1'
+    24, // т before Х1'
+    0, // у before Х1'
+    18, // ф before Х1'
+    23, // х before Х1'
+    52, // ц before Х1'
+    54, // ч before Х1'
+    26, // ш before Х1'
+    27, // щ before Х1'
+    0, // ъ before Х1'
+    0, // ы before Х1'
+    0, // а before no sound, voiced
+    16, // б before no sound, voiced
+    18, // в before no sound, voiced
+    20, // г before no sound, voiced
+    24, // д before no sound, voiced
+    0, // е before no sound, voiced
+    26, // ж before no sound, voiced
+    29, // з before no sound, voiced
+    0, // и before no sound, voiced
+    28, // й before no sound, voiced
+    20, // к before no sound, voiced
+    33, // л before no sound, voiced
+    35, // м before no sound, voiced
+    37, // н before no sound, voiced
+    0, // о before no sound, voiced
+    16, // п before no sound, voiced
+    41, // р before no sound, voiced
+    29, // с before no sound, voiced
+    24, // т before no sound, voiced
+    0, // у before no sound, voiced
+    18, // ф before no sound, voiced
+    22, // х before no sound, voiced
+    52, // ц before no sound, voiced
+    54, // ч before no sound, voiced
+    26, // ш before no sound, voiced
+    27, // щ before no sound, voiced
+    0, // ъ before no sound, voiced
+    0, // ы before no sound, voiced
+    0, // а before no sound
+    39, // б before no sound
+    47, // в before no sound
+    31, // г before no sound
+    45, // д before no sound
+    0, // е before no sound
+    55, // ж before no sound
+    43, // з before no sound
+    0, // и before no sound
+    28, // й before no sound
+    31, // к before no sound
+    33, // л before no sound
+    35, // м before no sound
+    37, // н before no sound
+    0, // о before no sound
+    39, // п before no sound
+    41, // р before no sound
+    43, // с before no sound
+    45, // т before no sound
+    0, // у before no sound
+    47, // ф before no sound
+    49, // х before no sound
+    51, // ц before no sound
+    53, // ч before no sound
+    55, // ш before no sound
+    56, // щ before no sound
+    0, // ъ before no sound
+    0, // ы before no sound
+    0, // а before Т'
+    39, // б before Т'
+    47, // в before Т'
+    31, // г before Т'
+    46, // д before Т'
+    0, // е before Т'
+    55, // ж before Т'
+    44, // з before Т'
+    0, // и before Т'
+    28, // й before Т'
+    31, // к before Т'
+    33, // л before Т'
+    35, // м before Т'
+    38, // н before Т'
+    0, // о before Т'
+    39, // п before Т'
+    41, // р before Т'
+    44, // с before Т'
+    46, // т before Т'
+    0, // у before Т'
+    47, // ф before Т'
+    49, // х before Т'
+    51, // ц before Т'
+    53, // ч before Т'
+    55, // ш before Т'
+    56, // щ before Т'
+    0, // ъ before Т'
+    0, // ы before Т'
+    0, // а before Ч
+    39, // б before Ч
+    47, // в before Ч
+    31, // г before Ч
+    45, // д before Ч
+    0, // е before Ч
+    55, // ж before Ч
+    43, // з before Ч
+    0, // и before Ч
+    28, // й before Ч
+    31, // к before Ч
+    33, // л before Ч
+    35, // м before Ч
+    38, // н before Ч
+    0, // о before Ч
+    39, // п before Ч
+    41, // р before Ч
+    43, // с before Ч
+    45, // т before Ч
+    0, // у before Ч
+    47, // ф before Ч
+    49, // х before Ч
+    51, // ц before Ч
+    53, // ч before Ч
+    55, // ш before Ч
+    56, // щ before Ч
+    0, // ъ before Ч
+    0, // ы before Ч
+    0, // а before П'
+    40, // б before П'
+    47, // в before П'
+    31, // г before П'
+    45, // д before П'
+    0, // е before П'
+    55, // ж before П'
+    43, // з before П'
+    0, // и before П'
+    28, // й before П'
+    31, // к before П'
+    33, // л before П'
+    35, // м before П'
+    37, // н before П'
+    0, // о before П'
+    40, // п before П'
+    41, // р before П'
+    43, // с before П'
+    45, // т before П'
+    0, // у before П'
+    47, // ф before П'
+    49, // х before П'
+    51, // ц before П'
+    53, // ч before П'
+    55, // ш before П'
+    56, // щ before П'
+    0, // ъ before П'
+    0, // ы before П'
+    0, // а before Ф'
+    39, // б before Ф'
+    48, // в before Ф'
+    31, // г before Ф'
+    45, // д before Ф'
+    0, // е before Ф'
+    55, // ж before Ф'
+    43, // з before Ф'
+    0, // и before Ф'
+    28, // й before Ф'
+    31, // к before Ф'
+    33, // л before Ф'
+    35, // м before Ф'
+    37, // н before Ф'
+    0, // о before Ф'
+    39, // п before Ф'
+    41, // р before Ф'
+    43, // с before Ф'
+    45, // т before Ф'
+    0, // у before Ф'
+    48, // ф before Ф'
+    49, // х before Ф'
+    51, // ц before Ф'
+    53, // ч before Ф'
+    55, // ш before Ф'
+    56, // щ before Ф'
+    0, // ъ before Ф'
+    0, // ы before Ф'
+    0, // а before К'
+    39, // б before К'
+    47, // в before К'
+    32, // г before К'
+    45, // д before К'
+    0, // е before К'
+    55, // ж before К'
+    43, // з before К'
+    0, // и before К'
+    28, // й before К'
+    32, // к before К'
+    33, // л before К'
+    35, // м before К'
+    37, // н before К'
+    0, // о before К'
+    39, // п before К'
+    41, // р before К'
+    43, // с before К'
+    45, // т before К'
+    0, // у before К'
+    47, // ф before К'
+    49, // х before К'
+    51, // ц before К'
+    53, // ч before К'
+    55, // ш before К'
+    56, // щ before К'
+    0, // ъ before К'
+    0, // ы before К'
+    0, // а before Х'
+    39, // б before Х'
+    47, // в before Х'
+    31, // г before Х'
+    45, // д before Х'
+    0, // е before Х'
+    55, // ж before Х'
+    43, // з before Х'
+    0, // и before Х'
+    28, // й before Х'
+    31, // к before Х'
+    33, // л before Х'
+    35, // м before Х'
+    37, // н before Х'
+    0, // о before Х'
+    39, // п before Х'
+    41, // р before Х'
+    43, // с before Х'
+    45, // т before Х'
+    0, // у before Х'
+    47, // ф before Х'
+    50, // х before Х'
+    51, // ц before Х'
+    53, // ч before Х'
+    55, // ш before Х'
+    56, // щ before Х'
+    0, // ъ before Х'
+    0, // ы before Х'
+    0, // а before Н'
+    16, // б before Н'
+    18, // в before Н'
+    20, // г before Н'
+    25, // д before Н'
+    0, // е before Н'
+    26, // ж before Н'
+    30, // з before Н'
+    0, // и before Н'
+    28, // й before Н'
+    31, // к before Н'
+    33, // л before Н'
+    35, // м before Н'
+    38, // н before Н'
+    0, // о before Н'
+    39, // п before Н'
+    41, // р before Н'
+    44, // с before Н'
+    46, // т before Н'
+    0, // у before Н'
+    47, // ф before Н'
+    49, // х before Н'
+    51, // ц before Н'
+    53, // ч before Н'
+    55, // ш before Н'
+    56, // щ before Н'
+    0, // ъ before Н'
+    0, // ы before Н'
+    0, // а before В'
+    16, // б before В'
+    19, // в before В'
+    20, // г before В'
+    24, // д before В'
+    0, // е before В'
+    26, // ж before В'
+    29, // з before В'
+    0, // и before В'
+    28, // й before В'
+    31, // к before В'
+    33, // л before В'
+    35, // м before В'
+    37, // н before В'
+    0, // о before В'
+    39, // п before В'
+    41, // р before В'
+    43, // с before В'
+    45, // т before В'
+    0, // у before В'
+    48, // ф before В'
+    49, // х before В'
+    51, // ц before В'
+    53, // ч before В'
+    55, // ш before В'
+    56, // щ before В'
+    0, // ъ before В'
+    0, // ы before В'
+    0, // а before Л'
+    16, // б before Л'
+    18, // в before Л'
+    20, // г before Л'
+    24, // д before Л'
+    0, // е before Л'
+    26, // ж before Л'
+    29, // з before Л'
+    0, // и before Л'
+    28, // й before Л'
+    31, // к before Л'
+    34, // л before Л'
+    35, // м before Л'
+    37, // н before Л'
+    0, // о before Л'
+    39, // п before Л'
+    41, // р before Л'
+    43, // с before Л'
+    45, // т before Л'
+    0, // у before Л'
+    47, // ф before Л'
+    49, // х before Л'
+    51, // ц before Л'
+    53, // ч before Л'
+    55, // ш before Л'
+    56, // щ before Л'
+    0, // ъ before Л'
+    0, // ы before Л'
+    0, // а before М'
+    16, // б before М'
+    18, // в before М'
+    20, // г before М'
+    24, // д before М'
+    0, // е before М'
+    26, // ж before М'
+    29, // з before М'
+    0, // и before М'
+    28, // й before М'
+    31, // к before М'
+    33, // л before М'
+    36, // м before М'
+    37, // н before М'
+    0, // о before М'
+    39, // п before М'
+    41, // р before М'
+    43, // с before М'
+    45, // т before М'
+    0, // у before М'
+    47, // ф before М'
+    49, // х before М'
+    51, // ц before М'
+    53, // ч before М'
+    55, // ш before М'
+    56, // щ before М'
+    0, // ъ before М'
+    0, // ы before М'
+    0, // а before Р'
+    16, // б before Р'
+    18, // в before Р'
+    20, // г before Р'
+    24, // д before Р'
+    0, // е before Р'
+    26, // ж before Р'
+    29, // з before Р'
+    0, // и before Р'
+    28, // й before Р'
+    31, // к before Р'
+    33, // л before Р'
+    35, // м before Р'
+    37, // н before Р'
+    0, // о before Р'
+    39, // п before Р'
+    42, // р before Р'
+    43, // с before Р'
+    45, // т before Р'
+    0, // у before Р'
+    47, // ф before Р'
+    49, // х before Р'
+    51, // ц before Р'
+    53, // ч before Р'
+    55, // ш before Р'
+    56, // щ before Р'
+    0, // ъ before Р'
+    0, // ы before Р'
+    0, // а before А*
+    16, // б before А*
+    18, // в before А*
+    20, // г before А*
+    24, // д before А*
+    0, // е before А*
+    26, // ж before А*
+    29, // з before А*
+    0, // и before А*
+    28, // й before А*
+    31, // к before А*
+    33, // л before А*
+    35, // м before А*
+    37, // н before А*
+    0, // о before А*
+    39, // п before А*
+    41, // р before А*
+    43, // с before А*
+    45, // т before А*
+    0, // у before А*
+    47, // ф before А*
+    49, // х before А*
+    51, // ц before А*
+    53, // ч before А*
+    55, // ш before А*
+    56, // щ before А*
+    0, // ъ before А*
+    0, // ы before А*
+    0, // а before palatalizing Б
+    17, // б before palatalizing Б
+    19, // в before palatalizing Б
+    21, // г before palatalizing Б
+    25, // д before palatalizing Б
+    0, // е before palatalizing Б
+    26, // ж before palatalizing Б
+    30, // з before palatalizing Б
+    0, // и before palatalizing Б
+    28, // й before palatalizing Б
+    21, // к before palatalizing Б
+    34, // л before palatalizing Б
+    36, // м before palatalizing Б
+    38, // н before palatalizing Б
+    0, // о before palatalizing Б
+    17, // п before palatalizing Б
+    42, // р before palatalizing Б
+    30, // с before palatalizing Б
+    25, // т before palatalizing Б
+    0, // у before palatalizing Б
+    19, // ф before palatalizing Б
+    23, // х before palatalizing Б
+    52, // ц before palatalizing Б
+    54, // ч before palatalizing Б
+    26, // ш before palatalizing Б
+    27, // щ before palatalizing Б
+    0, // ъ before palatalizing Б
+    0, // ы before palatalizing Б
+    0, // а before palatalizing no sound
+    40, // б before palatalizing no sound
+    48, // в before palatalizing no sound
+    32, // г before palatalizing no sound
+    46, // д before palatalizing no sound
+    0, // е before palatalizing no sound
+    55, // ж before palatalizing no sound
+    44, // з before palatalizing no sound
+    0, // и before palatalizing no sound
+    28, // й before palatalizing no sound
+    32, // к before palatalizing no sound
+    34, // л before palatalizing no sound
+    36, // м before palatalizing no sound
+    38, // н before palatalizing no sound
+    0, // о before palatalizing no sound
+    40, // п before palatalizing no sound
+    42, // р before palatalizing no sound
+    44, // с before palatalizing no sound
+    46, // т before palatalizing no sound
+    0, // у before palatalizing no sound
+    48, // ф before palatalizing no sound
+    50, // х before palatalizing no sound
+    51, // ц before palatalizing no sound
+    53, // ч before palatalizing no sound
+    55, // ш before palatalizing no sound
+    56, // щ before palatalizing no sound
+    0, // ъ before palatalizing no sound
+    0, // ы before palatalizing no sound
+    0, // а before palatalizing А*
+    17, // б before palatalizing А*
+    19, // в before palatalizing А*
+    21, // г before palatalizing А*
+    25, // д before palatalizing А*
+    0, // е before palatalizing А*
+    26, // ж before palatalizing А*
+    30, // з before palatalizing А*
+    0, // и before palatalizing А*
+    28, // й before palatalizing А*
+    32, // к before palatalizing А*
+    34, // л before palatalizing А*
+    36, // м before palatalizing А*
+    38, // н before palatalizing А*
+    0, // о before palatalizing А*
+    40, // п before palatalizing А*
+    42, // р before palatalizing А*
+    44, // с before palatalizing А*
+    46, // т before palatalizing А*
+    0, // у before palatalizing А*
+    48, // ф before palatalizing А*
+    50, // х before palatalizing А*
+    51, // ц before palatalizing А*
+    53, // ч before palatalizing А*
+    55, // ш before palatalizing А*
+    56, // щ before palatalizing А*
+    0, // ъ before palatalizing А*
+    0, // ы before palatalizing А*
+    49, // no sound
+    133, // А*
+    133, // О*
+    133, // Э*
+    133, // Ы*
+    133, // И*
+    133, // У*
+    133, // А1
+    133, // Э1
+    133, // Ы1
+    133, // И1
+    133, // У1
+    133, // А2
+    133, // Э2
+    133, // О
+    133, // Е
+    0, // Б
+    21, // Б'
+    133, // В
+    105, // В'
+    0, // Г
+    28, // Г'
+    0, // Х1
+    35, // Х1'
+    0, // Д
+    7, // Д'
+    0, // Ж
+    14, // Ж'
+    133, // J
+    0, // З
+    7, // З'
+    49, // К
+    84, // К'
+    133, // Л
+    112, // Л'
+    133, // М
+    119, // М'
+    133, // Н
+    98, // Н'
+    49, // П
+    70, // П'
+    133, // Р
+    126, // Р'
+    49, // С
+    56, // С'
+    49, // Т
+    56, // Т'
+    49, // Ф
+    77, // Ф'
+    49, // Х
+    91, // Х'
+    49, // Ц
+    0, // Ц1
+    63, // Ч
+    14, // Ч1
+    49, // Ш
+    63, // Щ
+    42, // no sound, voiced
+    133, // unused 58
+    133, // unused 59
+    133, // unused 60
+    133, // unused 61
+    133, // unused 62
+    133, // unused 63
+    147, // palatalizing no sound
+    154, // palatalizing А*
+    154, // palatalizing О*
+    154, // palatalizing Э*
+    154, // palatalizing Ы*
+    154, // palatalizing И*
+    154, // palatalizing У*
+    154, // palatalizing А1
+    154, // palatalizing Э1
+    154, // palatalizing Ы1
+    154, // palatalizing И1
+    154, // palatalizing У1
+    154, // palatalizing А2
+    154, // palatalizing Э2
+    154, // palatalizing О
+    154, // palatalizing Е
+    140, // palatalizing Б
+    140, // palatalizing Б'
+    154, // palatalizing В
+    154, // palatalizing В'
+    140, // palatalizing Г
+    140, // palatalizing Г'
+    140, // palatalizing Х1
+    140, // palatalizing Х1'
+    140, // palatalizing Д
+    140, // palatalizing Д'
+    140, // palatalizing Ж
+    140, // palatalizing Ж'
+    154, // palatalizing J
+    140, // palatalizing З
+    140, // palatalizing З'
+    147, // palatalizing К
+    147, // palatalizing К'
+    154, // palatalizing Л
+    154, // palatalizing Л'
+    154, // palatalizing М
+    154, // palatalizing М'
+    154, // palatalizing Н
+    154, // palatalizing Н'
+    147, // palatalizing П
+    147, // palatalizing П'
+    154, // palatalizing Р
+    154, // palatalizing Р'
+    147, // palatalizing С
+    147, // palatalizing С'
+    147, // palatalizing Т
+    147, // palatalizing Т'
+    147, // palatalizing Ф
+    147, // palatalizing Ф'
+    147, // palatalizing Х
+    147, // palatalizing Х'
+    147, // palatalizing Ц
+    140, // palatalizing Ц1
+    147, // palatalizing Ч
+    140, // palatalizing Ч1
+    147, // palatalizing Ш
+    147, // palatalizing Щ
+    140, // palatalizing no sound, voiced
+    154, // palatalizing unused 58
+    154, // palatalizing unused 59
+    154, // palatalizing unused 60
+    154, // palatalizing unused 61
+    154, // palatalizing unused 62
+    154, // palatalizing unused 63
 ];
 
 pub fn sound_table() -> SoundTable

@@ -4,26 +4,21 @@ ghost use Prim.Native.Nat.{_≤_};
 ghost use lib.ListN.{length};
 ghost use Rattle.message.specs.Classes.{classes, isBreakClass, isConsonantClass, isVowelClass, elidedAt};
 ghost use Rattle.spec.specs.Tape.{tape};
-ghost use Rattle.message.specs.Places.{Steady};
 ghost use Rattle.spec.specs.Answers.{TranscribePromise};
 ghost use Rattle.transcriber.specs.Sounds.{soundTable};
-ghost use Rattle.transcriber.specs.Walk.{Stands, Put, sungCodes, Lent, ClassAt, Ready, ReadyFor, Stepped, MayWalk, Walked};
+ghost use Rattle.transcriber.specs.Walk.{Put, sungCodes, Lent, ClassAt, Ready, ReadyFor, Stepped, MayWrite};
 use crate::Right;
 use crate::Vowel;
 use crate::answers::refused;
 use crate::before::class_before;
 use crate::codes;
-use crate::consonants::AS_WRITTEN;
-use crate::consonants::VOICELESS;
+use crate::consonants::VOICELESS_END;
 use crate::consonants::consonant_code;
 use crate::consonants::seen_over;
 use crate::consonants::sound_of;
-use crate::consonants::tone_at_gap;
-use crate::consonants::tone_before;
-use crate::levels::Levels;
+use crate::consonants::sound_over_gap;
 use crate::levels::at_word_end;
-use crate::levels::over_mark;
-use crate::levels::over_vowel;
+use crate::levels::level_before;
 use crate::output::put;
 use crate::tables::SoundTable;
 use crate::tables::sound_table;
@@ -37,6 +32,7 @@ use message::classify::class_table;
 use message::letters::is_elided;
 use spec::Answer;
 use spec::Checked;
+use spec::Level;
 use spec::Refusal;
 
 // A break puts its mark, and left of it stands another word. c is its class.
@@ -44,37 +40,37 @@ fn put_break(m: &[u8], i: usize, c: usize, r: Right, out: &mut [u8], s: &SoundTa
     requires { ⌜ (now s ≡ soundTable) × ReadyFor isBreakClass (now m) (now out) i c r ⌝ }
     ensures { λ q. ⌜ Stepped (now (m .entry)) (now (out .entry)) (now (out .exit)) i r q ⌝ }
 {
-    let levels = at_word_end(m, i);
+    let far = at_word_end(m, i);
     if c == classes::PAUSE {
         let at = put(out, r.at, codes::PAUSE);
         return Right {
             at,
-            tone: VOICELESS,
-            sound: 0,
-            levels,
+            sound: VOICELESS_END,
+            near: far,
+            far,
         };
     }
-    let tone = tone_at_gap(r.sound, s);
+    let sound = sound_over_gap(r.sound, s);
     let at = put(out, r.at, codes::GAP);
     Right {
         at,
-        tone,
-        sound: 0, // no letter of the next word palatalizes across the gap
-        levels,
+        sound, // no letter of the next word palatalizes across the gap
+        near: far,
+        far,
     }
 }
 
 // A letter or mark that puts nothing leaves the tape as it is.
-fn pass_over(r: Right, sound: usize, levels: Levels) -> Right
-    ensures { λ q. ⌜ q ≡ record { at = r .at; tone = r .tone; sound = sound; levels = levels } ⌝ }
+fn pass_over(r: Right, sound: usize, near: Level) -> Right
+    ensures { λ q. ⌜ q ≡ record { at = r .at; sound = sound; near = near; far = r .far } ⌝ }
 {
     let at = r.at;
-    let tone = r.tone;
+    let far = r.far;
     Right {
         at,
-        tone,
         sound,
-        levels,
+        near,
+        far,
     }
 }
 
@@ -105,18 +101,18 @@ fn put_consonant(
     requires { ⌜ Lent (now t) (now s) × ReadyFor isConsonantClass (now m) (now out) i c r ⌝ }
     ensures { λ q. ⌜ Stepped (now (m .entry)) (now (out .entry)) (now (out .exit)) i r q ⌝ }
 {
-    let levels = r.levels;
+    let near = r.near;
     if is_silent(m, i, c, t) {
-        return pass_over(r, seen_over(r.sound, false), levels);
+        return pass_over(r, seen_over(r.sound, false), near);
     }
-    let code = consonant_code(m[i], r.tone, r.sound, s);
-    let at = put(out, r.at, code as u8);
-    let tone = tone_before(code, s);
+    let code = consonant_code(m[i], r.sound, s);
+    let at = put(out, r.at, code);
+    let far = r.far;
     Right {
         at,
-        tone,
-        sound: code,
-        levels,
+        sound: code as usize,
+        near,
+        far,
     }
 }
 
@@ -137,17 +133,17 @@ fn put_vowel(m: &[u8], i: usize, c: usize, r: Right, out: &mut [u8], t: &ClassTa
     requires { ⌜ (now t ≡ classes) × ReadyFor isVowelClass (now m) (now out) i c r ⌝ }
     ensures { λ q. ⌜ Stepped (now (m .entry)) (now (out .entry)) (now (out .exit)) i r q ⌝ }
 {
-    let l = r.levels;
-    let level = l.near;
+    let level = r.near;
+    let far = r.far;
     let vowel = vowel_at(m, i, c, level, t);
     let at = put_sung(out, r.at, vowel);
     let sound = sound_of(first_code(vowel), c != classes::PLAIN_VOWEL);
-    let levels = over_vowel(l);
+    let near = level_before(level, far);
     Right {
         at,
-        tone: AS_WRITTEN,
         sound,
-        levels,
+        near,
+        far,
     }
 }
 
@@ -163,61 +159,35 @@ fn step(m: &[u8], i: usize, r: Right, out: &mut [u8], t: &ClassTable, s: &SoundT
     if classes::HARD_ONLY <= c {
         return put_consonant(m, i, c, r, out, t, s);
     }
-    let levels = r.levels;
+    let near = r.near;
     if classes::HARD_SIGN <= c {
-        return pass_over(r, seen_over(r.sound, c == classes::SOFT_SIGN), levels);
+        return pass_over(r, seen_over(r.sound, c == classes::SOFT_SIGN), near);
     }
     if c == classes::MARK {
-        return pass_over(r, r.sound, over_mark(levels));
+        return pass_over(r, r.sound, Level::Stressed);
     }
     put_break(m, i, c, r, out, s)
 }
 
-// What stands right of the message's end, where place end of the output is the end of its tape.
-fn start(m: &[u8], end: usize) -> Right
-    requires { ⌜ Steady (now m) ⌝ }
-    ensures { λ r. ⌜ (r .at ≡ end) × Stands (now (m .entry)) (length (now (m .entry))) r ⌝ }
-{
-    let levels = at_word_end(m, m.len());
-    Right {
-        at: end,
-        tone: VOICELESS,
-        sound: 0,
-        levels,
-    }
-}
-
-// The walk from place from back to place to. It is the one caller of the step, so that the state stays in registers.
-fn walk_back(
-    m: &[u8],
-    out: &mut [u8],
-    from: usize,
-    to: usize,
-    r: Right,
-    t: &ClassTable,
-    s: &SoundTable,
-) -> Right
-    requires { ⌜ (now t ≡ classes) × (now s ≡ soundTable) × MayWalk (now m) (now out) from to r ⌝ }
-    ensures { λ q. ⌜ Walked (now (m .entry)) (now (out .entry)) (now (out .exit)) from to r q ⌝ }
-{
-    let mut i = from;
-    let mut q = r;
-    while to < i {
-        i -= 1;
-        q = step(m, i, q, out, t, s);
-    }
-    q
-}
-
-// Puts the tape of an accepted message right before place end of the output, and tells where it begins. The tables are lent, since a copy of them
-// for each part of a message would cost more than the part.
+// Puts the tape of an accepted message right before place end of the output, and tells where it begins. It is the one caller of the step, so that the state stays in registers. The tables are
+// lent, since a copy of them for each part of a message would cost more than the part.
 pub fn write_tape(m: &[u8], out: &mut [u8], end: usize, t: &ClassTable, s: &SoundTable) -> usize
-    requires { ⌜ (now t ≡ classes) × (now s ≡ soundTable) × Steady (now m) × (length (tape (now m)) ≤ end) × (end ≤ length (now out)) ⌝ }
+    requires { ⌜ MayWrite (now t) (now s) (now m) (now out) end ⌝ }
     ensures { λ r. ⌜ Put (tape (now (m .entry))) (now (out .entry)) (now (out .exit)) end r ⌝ }
 {
-    let r = start(m, end);
-    let q = walk_back(m, out, m.len(), 0, r, t, s);
-    q.at
+    let mut i = m.len();
+    let far = at_word_end(m, i);
+    let mut r = Right {
+        at: end,
+        sound: VOICELESS_END,
+        near: far,
+        far,
+    };
+    while 0 < i {
+        i -= 1;
+        r = step(m, i, r, out, t, s);
+    }
+    r.at
 }
 
 // The transcriber (paper 01): writes the tape of the message at the start of the lent output, or refuses and leaves every byte.

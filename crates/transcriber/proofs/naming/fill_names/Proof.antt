@@ -1,63 +1,42 @@
 -- The invariant says that the names from the place on are in the output; each turn puts those of one byte before them. The measure is the place.
-use Rattle.laws.proofs.Kit.{_≡_, _∙_, arith}
-use Rattle.transcriber.proofs.{Putting.put-length, Namings.Naming, Namings.end-room, Namings.naming-none, Namings.naming-length, Namings.naming-before, Namings.naming-ready, Namings.naming-more, Namings.naming-all}
+use Rattle.laws.proofs.Kit.{_≡_, _∙_, arith, needs}
+use Rattle.message.specs.Places.{namesAt}
+use Rattle.message.proofs.Tail.{names-start}
+use Rattle.transcriber.specs.{Levels.LevelsAt, Walk.namePiece}
+use Rattle.transcriber.proofs.{Putting.put-length, Putting.put-rest, Putting.put-first, Filling.Writing, Filling.writing-length, Filling.writing-ready, Filling.writing-more, Namings.end-ends, Namings.naming-none}
 use Rattle.transcriber.proofs.naming.fill_names.Statement.{statement}
 use Rattle.transcriber.proofs.naming.fill_names.Tie as tie
 
 abbrev Inv-loop : tie.InvT-loop
-Inv-loop m out₀ n t i₀ at v₀ out i v = Naming m out₀ out n i v
+Inv-loop m out₀ n t i₀ at v₀ out i v = Writing (λ j. LevelsAt m j (v .near) (v .far)) m (namesAt m) (namePiece m) n out₀ out n i (v .at)
 
 abbrev μ-loop : tie.MeasureT-loop
 μ-loop m out₀ n t i₀ at v₀ out i v = i
 
-put-end-requires : tie.Need-put-end-requires Inv-loop μ-loop
-put-end-requires c κs =
-    let a = c .before .before in
-    let s = a .before .before .before in
-    (a .class-table .ensures, record { within = omega arith; steady = s .pre .0; room = end-room (s .pre .0) (s .pre .1); place = s .pre .2 })
-
-loop-holds : tie.Need-loop-holds Inv-loop μ-loop
-loop-holds c =
-    let e = c .before .before .before in
-    let s = e .before .before .before .before .before .before in
-    naming-none (s .pre .0) (s .pre .1) (s .pre .2) (e .put-end .ensures) (c .at-word-end .ensures)
-
-step-requires : tie.Need-step-requires Inv-loop μ-loop
-step-requires c κs =
-    let b = c .before .before in
-    let e = b .before .before .before .before .before in
-    (e .before .before .before .class-table .ensures, naming-ready (naming-before (b .loop-test .taken) (b .before .loop .inv)))
-
-loop-again : tie.Need-loop-again Inv-loop μ-loop
-loop-again c =
-    let b = c .before .before .before .before .before in
-    naming-more (naming-before (b .loop-test .taken) (b .before .loop .inv)) (c .before .before .step .ensures)
-
 same-length : tie.Need-same-length Inv-loop μ-loop
 same-length c =
     let e = c .before .before .before .before .before in
-    naming-length (c .before .loop .inv) ∙ put-length _ _ _ _ _ (e .before .before .before .before .before .before .pre .2) (e .put-end .ensures)
+    writing-length (c .before .loop .inv) ∙ put-length _ _ _ _ _ (e .before .before .before .before .before .before .pre .room) (e .put-end .ensures)
 
 returns : tie.Need-returns Inv-loop μ-loop
 returns c =
     let l = c .before .loop in
-    let e : l .i ≡ 0 = omega (arith, c .loop-test .left) in
     let p = c .before .before .before .before .before in
-    naming-all (p .before .before .before .before .before .before .pre .2) (p .put-end .ensures) (rw e at (l .inv))
+    let s = p .before .before .before .before .before .before in
+    let e : l .i ≡ 0 = omega (arith, c .loop-test .left) in
+    rw (put-rest _ _ _ _ _ (s .pre .room) (p .put-end .ensures)) at (put-first _ _ _ _ _ (s .pre .total) (rw (e, names-start (s .args .m .now) (s .pre .steady)) at (l .inv .put)))
 
 pub fill-names-spec : {M : Type 1} → statement M
 fill-names-spec =
     tie.close
     (tie.spec
-    Inv-loop
-    μ-loop
-    (λ c κs. tt)
-    put-end-requires
-    (λ c κs. (c .before .before .before .before .before .before .before .before .pre .0, omega arith))
-    loop-holds
+    Inv-loop μ-loop (search needs)
+    (λ c κs. let t = c .before .before in (t .class-table .ensures, end-ends (t .before .before .before .pre)))
+    (λ c κs. search needs)
+    (λ c. let e = c .before .before .before in naming-none (e .before .before .before .before .before .before .pre) (c .at-word-end .ensures) (e .put-end .ensures))
     (λ c. omega arith)
-    step-requires
+    (λ c κs. let l = c .before .before .before in (l .before .before .before .before .before .before .before .class-table .ensures, writing-ready (l .loop .inv) (c .before .before .loop-test .taken)))
     (λ c. omega arith)
-    loop-again
+    (λ c. let n = c .before .before in let k = n .before .before .before in writing-more (k .before .loop .inv) (k .loop-test .taken) (n .step .ensures))
     same-length
     returns)

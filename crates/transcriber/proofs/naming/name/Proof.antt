@@ -19,7 +19,7 @@ fill-names-requires : tie.Need-fill-names-requires
 fill-names-requires c κs =
     let k = c .before .before .before in
     let s = k .before .before .before .before .before in
-    (accepted-steady (s .args .m .now) _ (accepted k) (λ j. omega (arith, k .before .before .before .before .shared-slice-known .given j)), counted k, c .before .if1 .left)
+    record { steady = accepted-steady (s .args .m .now) _ (accepted k) (λ j. omega (arith, k .before .before .before .before .shared-slice-known .given j)); total = counted k; room = c .before .if1 .left }
 
 pub name-spec : {M : Type 1} → statement M
 unfolding nameAnswer

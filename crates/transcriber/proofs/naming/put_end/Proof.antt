@@ -12,17 +12,12 @@ tail c =
     let s = c .before .before .before .before in
     rw (c .is-consonant-or-sign .ensures, c .before .class-before .ensures) (incomplete-raw (s .args .m .now) (s .pre .1 .steady) (s .args .i) (s .pre .1 .within))
 
-put-requires : tie.Need-put-requires
-put-requires c κs =
-    let w = c .before .before .before .before .before .before .pre .1 in
-    (omega (arith, w .room, rw (c .before .if1 .taken) at (ap length (tail (c .before .before)))), w .place)
-
 pub put-end-spec : {M : Type 1} → statement M
 put-end-spec =
     tie.close
     (tie.spec
     (λ c κs. search needs) (search needs)
-    put-requires
+    (λ c κs. let w = c .before .before .before .before .before .before .pre .1 in (omega (arith, w .room, rw (c .before .if1 .taken) at (ap length (tail (c .before .before)))), w .place))
     (search needs)
     (λ c. let t = c .before .before .before .before in rw (tail (t .before), t .if1 .taken) (c .before .before .put .ensures))
     (λ c. rw (tail (c .before), c .if1 .left) (put-none _ _)))

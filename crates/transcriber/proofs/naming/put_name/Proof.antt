@@ -4,19 +4,12 @@ use Rattle.transcriber.proofs.Namings.{vowel-room, named-vowel}
 use Rattle.transcriber.proofs.naming.put_name.Statement.{statement}
 use Rattle.transcriber.proofs.naming.put_name.Tie as tie
 
-returns : tie.Need-returns
-returns c =
-    let p = c .before .before .before in
-    let k = p .before .before .before .before in
-    let a = k .before .before .before .before .pre .1 in
-    rw (c .over-vowel .ensures) (named-vowel (a .ready) (a .vowel)
-    (rw (p .before .name-of .ensures, p .before .before .before .syllable-by .ensures, k .class-before .ensures) at (p .put .ensures)))
-
 pub put-name-spec : {M : Type 1} → statement M
 put-name-spec =
     tie.close
     (tie.spec
     (λ c κs. search needs) (search needs) (search needs)
-    (λ c κs. let a = c .before .before .before .before .before .before .before .pre .1 in (vowel-room (a .ready) (a .vowel), a .ready .place))
+    (λ c κs. let a = c .before .before .before .before .before .before .pre .1 in (vowel-room (a .ready) (a .vowel), a .ready .place))
     (search needs) (search needs)
-    returns)
+    (λ c. let p = c .before .before .before in let y = p .before .before .before in let a = y .before .before .before .before .pre .1 in
+    named-vowel (a .ready) (a .vowel) (c .level-before .ensures) (rw (p .before .name-of .ensures, y .syllable-by .ensures, y .before .class-before .ensures) at (p .put .ensures))))

@@ -1,48 +1,27 @@
 -- Each class of byte settles its names, and a byte of an accepted message has one.
-use Rattle.laws.proofs.Kit.{ℕ, _<_, _≡_, sym, _∙_, arith, getD, needs}
-use Rattle.message.specs.Classes.{classOf}
-use Rattle.transcriber.proofs.Namings.{vowel-class, named-letter, named-mark, break-room, named-break}
+use Rattle.laws.proofs.Kit.{_≡_, true, sym, _∙_, arith, getD, needs}
+use Rattle.message.specs.Classes.{classOf, isBreakClass}
+use Rattle.transcriber.proofs.{Walking.between-true, Walking.vowel-class, Walking.break-class, Namings.named-letter, Namings.named-mark, Namings.word-ends, Namings.named-break}
 use Rattle.transcriber.proofs.naming.step.Statement.{statement}
 use Rattle.transcriber.proofs.naming.step.Tie as tie
 
--- the byte's class
-abbrev class : tie.After-class-of → ℕ
-class c = classOf (getD (c .before .before .before .before .args .m .now) (c .before .before .before .before .args .i) 0)
-
--- where it is no letter
-low : (c : tie.Else3) → class (c .before .before .before) < 4
-low c = omega (arith, c .before .before .before .class-of .ensures, c .before .if2 .left)
-
--- and no mark
-unmarked : (c : tie.Else3) → class (c .before .before .before) ≡ 1 → ⊥
-unmarked c e = c .if3 .left (c .before .before .before .class-of .ensures ∙ e)
+-- where the byte is no letter and no mark it is a break
+breaks : (c : tie.Else3) → let s = c .before .before .before .before .before .before .before in isBreakClass (classOf (getD (s .args .m .now) (s .args .i) 0)) ≡ true
+breaks c =
+    let k = c .before .before .before in
+    let r = k .before .before .before .before .pre .1 in
+    rw (k .class-of .ensures) at (break-class (r .steady) (r .within) (k .class-of .ensures) (omega (arith, c .before .if2 .left)) (c .if3 .left))
 
 put-name-requires : tie.Need-put-name-requires
 put-name-requires c κs =
-    let s = c .before .before .before .before .before .before in
-    (s .pre .0, record { ready = s .pre .1; vowel = vowel-class (s .pre .1) (omega (arith, c .before .before .class-of .ensures, c .before .if1 .taken)) })
+    let k = c .before .before in
+    let p = k .before .before .before .before .pre in
+    (p .0, record { ready = p .1; vowel = rw (k .class-of .ensures) at (vowel-class (p .1 .steady) (p .1 .within) (k .class-of .ensures) (c .before .if1 .taken)) })
 
 returns-2 : tie.Need-returns-2
 returns-2 c =
     let k = c .before .before in
-    named-letter (k .before .before .before .before .pre .1) (omega (arith, k .class-of .ensures, c .if2 .taken)) (omega (arith, k .class-of .ensures, c .before .if1 .left))
-
-returns-3 : tie.Need-returns-3
-returns-3 c =
-    let k = c .before .before .before .before in
-    rw (c .over-mark .ensures) (named-mark (k .before .before .before .before .pre .1) (sym (k .class-of .ensures) ∙ c .before .if3 .taken))
-
-put-end-requires : tie.Need-put-end-requires
-put-end-requires c κs =
-    let s = c .before .before .before .before .before .before .before .before in
-    let r = s .pre .1 in
-    (s .pre .0, record { within = omega (arith, r .within); steady = r .steady; room = break-room r (low (c .before)) (unmarked (c .before)); place = r .place })
-
-returns-4 : tie.Need-returns-4
-returns-4 c =
-    let e = c .before .before .before in
-    let l = e .before .before in
-    named-break (l .before .before .before .before .before .before .before .pre .1) (low l) (unmarked l) (e .put-end .ensures) (c .at-word-end .ensures)
+    named-letter (k .before .before .before .before .pre .1) (rw (k .class-of .ensures) at (between-true 4 9 (k .class-of .result) (c .if2 .taken) (omega (arith, c .before .if1 .left))))
 
 pub step-spec : {M : Type 1} → statement M
 step-spec =
@@ -52,8 +31,7 @@ step-spec =
     put-name-requires
     (search needs) (λ c. search needs)
     returns-2
-    (search needs)
-    returns-3
-    put-end-requires
+    (λ c. let k = c .before .before .before in named-mark (k .before .before .before .before .pre .1) (sym (k .class-of .ensures) ∙ c .if3 .taken))
+    (λ c κs. let s = c .before .before .before .before .before .before .before .before in (s .pre .0, word-ends (s .pre .1) (breaks (c .before))))
     (λ c κs. search needs) (search needs)
-    returns-4)
+    (λ c. let e = c .before .before .before in let l = e .before .before in named-break (l .before .before .before .before .before .before .before .pre .1) (breaks l) (e .put-end .ensures) (c .at-word-end .ensures)))

@@ -21,21 +21,12 @@ write-tape-requires c κs =
     let e = a .before .before in
     let k = e .before .before in
     let s = k .before .before .before .before .before in
-    let n = counted k in (
-      a .before .class-table .ensures,
-      a .sound-table .ensures,
-      accepted-steady (s .args .m .now) (k .checked .given .0 .0) (accepted k) (λ j. omega (arith, k .before .before .before .before .shared-slice-known .given j)),
-      omega (arith, n),
-      e .if1 .left,
-    )
-
-returns-3 : tie.Need-returns-3
-unfolding tapeAnswer
-returns-3 c =
-    let f = c .before .before in
-    let e = f .before .before .before .before .before .before in
-    let k = e .before .before in
-    answered-written (accepted k) (counted k) (e .if1 .left) (put-first _ _ _ _ _ (counted k) (f .write-tape .ensures))
+    record {
+      lent = record { byte = a .before .class-table .ensures; sound = a .sound-table .ensures };
+      steady = accepted-steady (s .args .m .now) (k .checked .given .0 .0) (accepted k) (λ j. omega (arith, k .before .before .before .before .shared-slice-known .given j));
+      room = omega (arith, counted k);
+      place = e .if1 .left;
+    }
 
 pub transcribe-spec : {M : Type 1} → statement M
 unfolding tapeAnswer
@@ -48,4 +39,5 @@ transcribe-spec =
     (search needs) (search needs)
     write-tape-requires
     (search needs)
-    returns-3)
+    (λ c. let f = c .before .before in let e = f .before .before .before .before .before .before in let k = e .before .before in
+    answered-written (accepted k) (counted k) (e .if1 .left) (put-first _ _ _ _ _ (counted k) (f .write-tape .ensures))))
