@@ -4,9 +4,4 @@ use Rattle.transcriber.proofs.syllables.cover_class.Statement.{statemen
 use Rattle.transcriber.proofs.syllables.cover_class.Tie as tie
 
 pub cover-class-spec : {M : Type 1} → statement M
-cover-class-spec =
-    tie.close
-    (tie.spec
-    (search needs)
-    (λ c. rw (← c .before .is-consonant-or-sign .ensures, c .if1 .taken))
-    (λ c. rw (← c .before .is-consonant-or-sign .ensures, c .if1 .left)))
+cover-class-spec = tie.close (tie.spec (search needs) (λ c. cc) (λ c. cc))

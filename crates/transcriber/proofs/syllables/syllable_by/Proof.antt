@@ -4,4 +4,4 @@ use Rattle.transcriber.proofs.syllables.syllable_by.Statement.{statemen
 use Rattle.transcriber.proofs.syllables.syllable_by.Tie as tie
 
 pub syllable-by-spec : {M : Type 1} → statement M
-syllable-by-spec = tie.close (tie.spec (search needs) (λ c. rw (c .cover-class .ensures)))
+syllable-by-spec = tie.close (tie.spec (search needs) (λ c. cc))

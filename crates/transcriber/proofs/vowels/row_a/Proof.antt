@@ -1,5 +1,5 @@
--- The level is the arm's, and what the byte before tells settles the tests of the row.
-use Rattle.laws.proofs.Kit.{needs}
+-- The level is the arm's, and what the class before tells settles the tests of the row.
+use Rattle.laws.proofs.Kit.{needs, ne-eqb}
 use Rattle.spec.specs.Vowels.{byLevel, rowА}
 use Rattle.transcriber.proofs.vowels.row_a.Statement.{statement}
 use Rattle.transcriber.proofs.vowels.row_a.Tie as tie
@@ -9,9 +9,11 @@ unfolding rowА byLevel
 row-a-spec =
     tie.close
     (tie.spec
-    (search needs) (search needs) (search needs)
-    (λ c hard q t. rw (c .before .before .enum-told2 .given .1, t .softOnly, ← c .before .is-soft-only .ensures, c .if1 .taken))
     (search needs) (search needs)
-    (λ c hard q t. rw (c .enum-told .given .1))
-    (λ c hard q t. rw (c .before .before .enum-told2 .given .1, t .softOnly, ← c .before .is-soft-only .ensures, c .if1 .left))
-    (λ c hard q t. rw (c .before .enum-told3 .given .1) (c .second-a .ensures q t)))
+    (λ c hard q t. rw (c .before .enum-told2 .given .1, t .softOnly, c .if1 .taken))
+    (search needs) (search needs)
+    (λ c hard q t. rw (c .before .before .enum-told3 .given .1, t .first, ← c .before .is-initial .ensures, c .if2 .taken))
+    (λ c hard q t. let f = c .before in rw (f .before .before .enum-told3 .given .1, t .first, ← f .before .is-initial .ensures, f .if2 .left, t .softOnly, c .if3 .taken))
+    (λ c hard q t. cc)
+    (λ c hard q t. rw (c .before .enum-told2 .given .1, t .softOnly, ne-eqb _ _ (c .if1 .left)))
+    (λ c hard q t. let f = c .before in rw (f .before .before .enum-told3 .given .1, t .first, ← f .before .is-initial .ensures, f .if2 .left, t .softOnly, ne-eqb _ _ (c .if3 .left))))

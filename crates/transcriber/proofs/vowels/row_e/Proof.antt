@@ -10,9 +10,9 @@ unfolding rowЭ byLevel
 row-e-spec =
     tie.close
     (tie.spec
-    (search needs) (search needs) (search needs)
+    (search needs) (search needs) (λ c κs. search needs)
     (λ c q t. let h = c .before in rw (h .before .enum-told2 .given .1, boundary-initial (h .before .before .before .before .pre) t, ← h .hard-before .ensures, c .if1 .taken))
-    (search needs) (search needs)
+    (search needs) (λ c κs. search needs)
     (λ c q t. let h = c .before in rw (h .before .enum-told3 .given .1, boundary-initial (h .before .before .before .before .pre) t, ← h .hard-before2 .ensures, c .if2 .taken))
     (λ c q t. rw (c .enum-told .given .1))
     (λ c q t. let h = c .before in rw (h .before .enum-told2 .given .1, boundary-initial (h .before .before .before .before .pre) t, ← h .hard-before .ensures, c .if1 .left))

@@ -1,15 +1,14 @@
 -- The level is the arm's, and the third is the sound that а has there.
 use Rattle.laws.proofs.Kit.{needs}
-use Rattle.spec.specs.Vowels.{byLevel, rowО}
+use Rattle.spec.specs.Vowels.{byLevel, rowА, rowО}
 use Rattle.transcriber.proofs.vowels.row_o.Statement.{statement}
 use Rattle.transcriber.proofs.vowels.row_o.Tie as tie
 
 pub row-o-spec : {M : Type 1} → statement M
-unfolding rowО byLevel
+unfolding rowА rowО byLevel
 row-o-spec =
     tie.close
     (tie.spec
     (search needs) (search needs) (search needs) (search needs)
-    (λ c hard q t. rw (c .enum-told .given .1))
-    (λ c hard q t. rw (c .enum-told2 .given .1))
-    (λ c hard q t. rw (c .before .enum-told3 .given .1) (c .second-a .ensures q t)))
+    (λ c hard q t. cc) (λ c hard q t. cc)
+    (λ c hard q t. let e = c .before .enum-told3 .given .1 in rw e (rw e at (c .row-a .ensures hard q t))))

@@ -1,4 +1,4 @@
--- The level is the arm's, and the byte before tells whether the vowel is initial.
+-- The level is the arm's, and the class before tells whether the vowel is initial.
 use Rattle.laws.proofs.Kit.{needs}
 use Rattle.spec.specs.Vowels.{byLevel, rowЯ}
 use Rattle.transcriber.proofs.vowels.row_ya.Statement.{statement}
@@ -11,6 +11,5 @@ row-ya-spec =
     (tie.spec
     (search needs) (search needs) (search needs) (search needs)
     (λ c hard q t. rw (c .before .before .enum-told3 .given .1, t .first, ← c .before .is-initial .ensures, c .if1 .taken))
-    (λ c hard q t. rw (c .enum-told .given .1))
-    (λ c hard q t. rw (c .enum-told2 .given .1))
+    (λ c hard q t. cc) (λ c hard q t. cc)
     (λ c hard q t. rw (c .before .before .enum-told3 .given .1, t .first, ← c .before .is-initial .ensures, c .if1 .left)))
