@@ -1,6 +1,6 @@
 -- The text grows at its end: what is put after other bytes and those bytes together were put at the place of the latter. How long a number, the codes and an answer are in it.
-use Rattle.laws.proofs.Kit.{ℕ, zero, suc, _+_, _-_, _*_, _/_, _%_, _^_, _<_, _≤_, arith, add-one, _≡_, refl, sym, ap, _∙_, ⊎-elim, List, [], _∷_, _++_, append-assoc, append-nil, length, take, drop, set, getD, length-append, length-drop, drop-of-length-le, take-suc-set, take-at, drop-cons, le-leb, lt-leb, lt-ltb, le-ltb}
-use Rattle.spec.specs.{Printed.ascii, Printed.lastDigits, Printed.decimal, Printed.printedCodes, Printed.printedAnswer, Tape.tape, Answers.numberOf, Answers.placeOf, Answers.lengthOf, Answers.outputAfter, Answers.tapeAnswer, declared.Refusal.Refusal, declared.Answer.the-variants.Written, declared.Answer.the-variants.Refused}
+use Rattle.laws.proofs.Kit.{ℕ, zero, suc, _+_, _-_, _*_, _/_, _%_, _^_, _<_, _≤_, arith, _≡_, refl, sym, ap, _∙_, ⊎-elim, List, [], _∷_, _++_, append-assoc, append-nil, length, take, drop, getD, length-append, length-drop, drop-of-length-le, take-at, drop-cons, le-leb, lt-leb, lt-ltb, le-ltb}
+use Rattle.spec.specs.{Printed.ascii, Printed.lastDigits, Printed.decimal, Printed.printedCodes, Printed.printedAnswer, Tape.tape, Answers.numberOf, Answers.placeOf, Answers.lengthOf, Answers.outputAfter, Answers.tapeAnswer, Answers.Promise, declared.Refusal.Refusal, declared.Answer.Answer, declared.Answer.the-variants.Written, declared.Answer.the-variants.Refused}
 use Rattle.laws.proofs.{Bounds.tape-small, Classes.below-or}
 use Rattle.govorun.specs.Putting.{Put, codeAt}
 use native.Mathlib.Nat.{pow-suc}
@@ -8,10 +8,6 @@ use native.Mathlib.Nat.{pow-suc}
 -- nothing put leaves the text as it is
 pub put-none : (text : List ℕ) (at : ℕ) → Put [] text text at at
 put-none text at = record { place = omega arith; bytes = sym (append-nil (take at text)) }
-
--- a byte stored
-pub put-one : (text : List ℕ) (at byte : ℕ) → at < length text → Put (byte ∷ []) text (set text at byte) at (at + 1)
-put-one text at byte h = record { place = refl; bytes = rw (add-one at) (take-suc-set text at byte h) }
 
 -- bytes put after others
 pub put-over : {a b text text₁ text₂ : List ℕ} {at r s : ℕ} → Put a text text₁ at r → Put b text₁ text₂ r s → Put (a ++ b) text text₂ at s
@@ -57,29 +53,14 @@ codes-size (c ∷ []) h = omega (arith, decimal-size 2 c (omega (arith, h 0)))
 codes-size (c ∷ (d ∷ codes)) h =
     simp length-append (omega (arith, decimal-size 2 c (omega (arith, h 0)), codes-size (d ∷ codes) (λ i. h (suc i))))
 
--- a code's digits are part of its text
-pub code-size : (codes : List ℕ) (i : ℕ) → length (decimal (getD codes i 0)) ≤ length (codeAt codes i)
-unfolding codeAt
-code-size codes i = simp length-append (omega arith)
-
--- a code that is not the last
-pub code-more : (codes : List ℕ) (i : ℕ) → i + 1 < length codes → codeAt codes i ≡ decimal (getD codes i 0) ++ (32 ∷ [])
-unfolding codeAt
-code-more codes i h = rw (lt-ltb (i + 1) (length codes) h)
-
--- and the last one
-pub code-last : (codes : List ℕ) (i : ℕ) → length codes ≤ i + 1 → codeAt codes i ≡ decimal (getD codes i 0)
-unfolding codeAt
-code-last codes i h = rw (le-ltb (i + 1) (length codes) h) (append-nil (decimal (getD codes i 0)))
-
 -- the codes from place i on are the code there and those after it
 codes-from : (codes : List ℕ) (i : ℕ) → i < length codes → printedCodes (drop i codes) ≡ codeAt codes i ++ printedCodes (drop (suc i) codes)
 unfolding printedCodes ascii
 codes-from codes i h = rw (drop-cons codes i 0 h) (by (drop (suc i) codes) (length-drop (suc i) codes))
   where
     by : (rest : List ℕ) → length rest ≡ length codes - suc i → printedCodes (getD codes i 0 ∷ rest) ≡ codeAt codes i ++ printedCodes rest
-    by [] e = rw (code-last codes i (omega arith)) (sym (append-nil (decimal (getD codes i 0))))
-    by (d ∷ rest) e = rw (code-more codes i (omega arith)) (sym (append-assoc (decimal (getD codes i 0)) (32 ∷ []) (printedCodes (d ∷ rest))))
+    by [] e = rw (le-ltb (i + 1) (length codes) (omega arith)) (simp append-nil)
+    by (d ∷ rest) e = rw (lt-ltb (i + 1) (length codes) (omega arith)) (sym (append-assoc (decimal (getD codes i 0)) (32 ∷ []) (printedCodes (d ∷ rest))))
 
 -- in the text stand the codes before place i
 pub record Printed (codes text : List ℕ) (at i : ℕ) : Type 0 where
@@ -123,13 +104,17 @@ answer-refused m r e =
     let b = rw (sym e) at (tape-small m 8192) in
     (rw (sym e), omega (arith, refusal-length r [], decimal-size 3 (r .number) (omega (arith, b .number)), decimal-size 3 (r .place) (omega (arith, b .place))))
 
--- or the tape, with which the output begins
-pub answer-written : (m codes codes′ : List ℕ) (n k : ℕ) → length codes ≡ 8192 → length codes′ ≡ length codes → Written n k ≡ tapeAnswer m 8192
-    → codes′ ≡ outputAfter (tapeAnswer m 8192) (tape m) codes
-    → (n ≤ 8192) × (printedAnswer (tapeAnswer m 8192) (tape m) ≡ printedCodes (take n codes′))
+-- or the tape: n codes that lie within the output, and their text is the answer's
+pub record Spoken (m codes : List ℕ) (n : ℕ) : Type 0 where
+  pub short : n ≤ 8192
+  pub size : length (take n codes) ≡ n
+  pub text : printedAnswer (tapeAnswer m 8192) (tape m) ≡ printedCodes (take n codes)
+
+pub answer-written : (m : List ℕ) {codes codes′ : List ℕ} {a : Answer} {n k : ℕ} → length codes ≡ 8192 → Promise (tapeAnswer m 8192) (tape m) codes codes′ a → a ≡ Written n k → length codes′ ≡ length codes → Spoken m codes′ n
 unfolding printedAnswer outputAfter lengthOf
-answer-written m codes codes′ n k full same e o =
-    let b : n ≤ 8192 = (rw (sym e) at (tape-small m 8192)) .length in
-    let w : codes′ ≡ tape m ++ drop n codes = rw (sym e) at o in
-    let l : length (tape m) ≡ n = omega (arith, simp (length-append, length-drop) at (ap length w)) in
-    (b, rw (sym e, w, take-at (tape m) (drop n codes) n l))
+answer-written m {codes} {n = n} full p e same =
+    let d : Written n _ ≡ tapeAnswer m 8192 = sym e ∙ p .answer in
+    let w = rw (sym d) at (p .output) in
+    let l : length (tape m) ≡ n = omega (arith, (rw (sym d) at (tape-small m 8192)) .length, simp (length-append, length-drop) at (ap length w)) in
+    let t = take-at (tape m) (drop n codes) n l in
+    record { short = (rw (sym d) at (tape-small m 8192)) .length; size = rw (w, t) l; text = rw (sym d, w, t) }
