@@ -4,7 +4,7 @@ use Rattle.spec.specs.{Alphabet.pause, Alphabet.mark, Alphabet.«ь», Alphabet
 use Rattle.message.specs.{Classes.classOf, Classes.isBreakClass, Classes.isSignClass, Classes.isLetterClass, Fused.toneBefore, Fused.vowelCodes, Fused.consonantCode, Fused.letterCodes, Fused.fusedFrom, Places.Steady, Places.leftAt, Places.letterOf, Places.wordAt, Places.markedAt, Places.factsAt, Places.soundAt, Places.tailWord}
 use Rattle.message.proofs.{Bytes.below, Bytes.below-same, Bytes.by-class, Bytes.letter-class, Bytes.not-both, Bytes.vowel-break, Bytes.vowel-mark, Before.vowel-before, Left.left-letter, Left.left-mark, Left.left-break, Computed.everything}
 use Rattle.laws.proofs.Classes.{among-same, cond-both, cond-app, yes-or}
-use Rattle.transcriber.specs.{Levels.levelBy, Sounds.byteBefore, Sounds.Before, Sounds.classBefore, Sounds.isHardOrPaired, Sounds.Told, Sounds.coverClass, Sounds.syllableBy, Sounds.glideBy, Sounds.hardBefore, Sounds.tonedCode, Sounds.toneNo}
+use Rattle.transcriber.specs.{Levels.levelBy, Sounds.byteBefore, Sounds.Before, Sounds.classBefore, Sounds.isHardOrPaired, Sounds.Told, Sounds.syllableBy, Sounds.glideBy, Sounds.hardBefore, Sounds.tonedCode, Sounds.toneNo}
 pub use Rattle.laws.proofs.Classes.{cond-same}
 
 -- two functions that agree on the bytes that pass a test agree at each of them
@@ -92,11 +92,6 @@ module _ (m : List ℕ) (steady : Steady m) where
       by false s true e = rw (left-mark m i h e) (told-mark b e (leftAt m i .p) (vowel-before m steady i h e))
       by false s false e = rw (left-letter m i h s e) (told-letter b (steady .bytes i) (letter-class b (steady .bytes i) s e (steady .named i h)))
 
-  -- so whether a syllable after it is covered
-  pub cover-raw : (i : ℕ) → i ≤ length m → coverAfter (leftAt m i .p) ≡ coverClass (classBefore m i)
-  unfolding coverAfter
-  cover-raw i h = rw (told-at i h .covers)
-
   -- the classes of the two bytes before a place tell whether the word before it ends hard
   end-raw : (i : ℕ) → i ≤ length m → hardEnd (leftAt m i .q) (leftAt m i .p) ≡ cond (eqb (classBefore m i) 5) (eqb (classBefore m (i - 1)) 6) (between 6 8 (classBefore m i))
   unfolding leftAt byteBefore hardEnd everything
@@ -151,8 +146,8 @@ module _ (m : List ℕ) (steady : Steady m) where
   pub syllable-raw : (i : ℕ) → i < length m
       → syllableOf (factsAt m i) (leftAt m i .p) (letterOf m i) (wordAt m (suc i))
       ≡ syllableBy (classBefore m i) (levelBy (beginsWithMark (drop (suc i) m)) (nextStressed (wordAt m (suc i))) (markedAt m i))
-  unfolding syllableOf levelOf letterOf levelBy
-  syllable-raw i h = rw (cover-raw i (omega arith))
+  unfolding syllableOf coverAfter levelOf letterOf levelBy
+  syllable-raw i h = rw (told-at i (omega arith) .covers)
 
   -- whether the vowel there has a glide
   pub glide-raw : (i : ℕ) → i < length m → vowelByte (getD m i 0) ≡ true → (cover : Cover)
