@@ -3,29 +3,20 @@ ghost use mathlib.Core.Path.{_≡_};
 ghost use Prim.Native.Nat.{_≤_};
 ghost use lib.ListN.{length};
 ghost use Rattle.message.specs.Classes.{classes};
-ghost use Rattle.transcriber.specs.Sounds.{Before, byteBefore, classBefore, hardBefore};
-use message::alphabet;
+ghost use Rattle.transcriber.specs.Sounds.{Before, classBefore, hardBefore};
 use message::classes;
 use message::classes::ClassTable;
 use message::classify::class_of;
 
-// The byte before place i; a pause at the start of the message.
-fn byte_before(m: &[u8], i: usize) -> u8
-    requires { ⌜ i ≤ length (now m) ⌝ }
-    ensures { λ r. ⌜ r ≡ byteBefore (now (m .entry)) i ⌝ }
-{
-    if i == 0 {
-        return alphabet::PAUSE;
-    }
-    m[i - 1]
-}
-
-// Its class.
+// The class of the byte before place i; a pause at the start of the message.
 pub fn class_before(m: &[u8], i: usize, t: &ClassTable) -> usize
     requires { ⌜ (now t ≡ classes) × (i ≤ length (now m)) ⌝ }
     ensures { λ r. ⌜ r ≡ classBefore (now (m .entry)) i ⌝ }
 {
-    class_of(byte_before(m, i), t)
+    if i == 0 {
+        return classes::PAUSE;
+    }
+    class_of(m[i - 1], t)
 }
 
 // Does a hard boundary stand before place i? The byte before, of class k, is then a gap, and the one before that a hard or paired consonant, or ь after a hard one.
