@@ -49,15 +49,11 @@ pub record Told (k q : ℕ) : Type 0 where
   pub hard : isHardOrPaired q ≡ between 6 8 k
   pub softSign : eqb q «ь» ≡ eqb k 5
 
--- r is what a row says of syllable s after every letter that the class k tells
+-- r is what a row says of syllable s after every letter that the class k tells; where the row's line does not ask for the boundary, hard is all one
 abbrev pub ByRow : (Bool → ℕ → Syllable → ℕ) → Bool → ℕ → Syllable → ℕ → Type 0
 ByRow row hard k s r = (q : ℕ) → Told k q → r ≡ row hard q s
 
--- the same of a row whose line does not ask for the boundary
-abbrev pub Anyway : (Bool → ℕ → Syllable → ℕ) → ℕ → Syllable → ℕ → Type 0
-Anyway row k s r = (hard : Bool) → ByRow row hard k s r
-
--- and after the byte p
+-- the same after the byte p
 abbrev pub AtBoundary : (Bool → ℕ → Syllable → ℕ) → Bool → ℕ → Syllable → ℕ → Type 0
 AtBoundary row hard p s r = ByRow row hard (classOf p) s r
 

@@ -1,12 +1,12 @@
 // The sounds of vowels (paper 01, pass 3): an arm for each row. A row that asks of the letter before, or of the boundary, is a function that asks only where its line does.
 // The letter before is told by the class of the byte before, k: that of a break at the start of a word, of a mark after a stressed vowel.
 ghost use mathlib.Core.Path.{_≡_};
-ghost use mathlib.Core.Bool.{cond};
+ghost use mathlib.Core.Bool.{false, cond};
 ghost use Rattle.spec.specs.Letters.{small};
 ghost use Rattle.spec.specs.Vowels.{byStress, rowА, rowО, rowЭ, rowЕ, rowЯ, rowИ};
 ghost use Rattle.spec.specs.Codes.{J};
 ghost use Rattle.message.specs.Classes.{classes, isBreakClass, isSignClass};
-ghost use Rattle.transcriber.specs.Sounds.{Anyway, Before, ByRow, glideBy, hardBefore, rowOf};
+ghost use Rattle.transcriber.specs.Sounds.{Before, ByRow, glideBy, hardBefore, rowOf};
 ghost use Rattle.transcriber.specs.Walk.{VowelAt, Sung};
 use crate::Vowel;
 use crate::before::class_before;
@@ -40,7 +40,7 @@ fn by_stress(s: Syllable, stressed: u8, other: u8) -> u8
 
 // Row а: of the letters before it only ч щ й change it.
 fn row_a(s: Syllable, k: usize) -> u8
-    ensures { λ r. ⌜ Anyway rowА k s r ⌝ }
+    ensures { λ r. ⌜ ByRow rowА false k s r ⌝ }
 {
     let level = s.level;
     match level {
@@ -65,7 +65,7 @@ fn row_a(s: Syllable, k: usize) -> u8
 
 // Row о, which sounds as а where it is not stressed, but for level 1 after ч щ й.
 fn row_o(s: Syllable, k: usize) -> u8
-    ensures { λ r. ⌜ Anyway rowО k s r ⌝ }
+    ensures { λ r. ⌜ ByRow rowО false k s r ⌝ }
 {
     let level = s.level;
     match level {
@@ -100,7 +100,7 @@ fn row_e(s: Syllable, k: usize, m: &[u8], i: usize, t: &ClassTable) -> u8
 
 // Row е: of the letters before it only ж ш ц change it.
 fn row_ie(s: Syllable, k: usize) -> u8
-    ensures { λ r. ⌜ Anyway rowЕ k s r ⌝ }
+    ensures { λ r. ⌜ ByRow rowЕ false k s r ⌝ }
 {
     let level = s.level;
     match level {
@@ -125,7 +125,7 @@ fn row_ie(s: Syllable, k: usize) -> u8
 
 // Row я: it matters only whether it is initial.
 fn row_ya(s: Syllable, k: usize) -> u8
-    ensures { λ r. ⌜ Anyway rowЯ k s r ⌝ }
+    ensures { λ r. ⌜ ByRow rowЯ false k s r ⌝ }
 {
     let level = s.level;
     match level {

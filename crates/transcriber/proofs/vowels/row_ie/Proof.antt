@@ -10,10 +10,10 @@ row-ie-spec =
     tie.close
     (tie.spec
     (search needs) (search needs)
-    (λ c hard q t. rw (c .before .enum-told2 .given .1, t .hardOnly, c .if1 .taken))
+    (λ c q t. rw (c .before .enum-told2 .given .1, t .hardOnly, c .if1 .taken))
     (search needs) (search needs)
-    (λ c hard q t. rw (c .before .before .enum-told3 .given .1, t .first, ← c .before .is-initial .ensures, c .if2 .taken))
-    (λ c hard q t. let f = c .before in rw (f .before .before .enum-told3 .given .1, t .first, ← f .before .is-initial .ensures, f .if2 .left, t .hardOnly, c .if3 .taken))
-    (λ c hard q t. cc)
-    (λ c hard q t. rw (c .before .enum-told2 .given .1, t .hardOnly, ne-eqb _ _ (c .if1 .left)))
-    (λ c hard q t. let f = c .before in rw (f .before .before .enum-told3 .given .1, t .first, ← f .before .is-initial .ensures, f .if2 .left, t .hardOnly, ne-eqb _ _ (c .if3 .left))))
+    (λ c q t. rw (c .before .before .enum-told3 .given .1, t .first, ← c .before .is-initial .ensures, c .if2 .taken))
+    (λ c q t. let f = c .before in rw (f .before .before .enum-told3 .given .1, t .first, ← f .before .is-initial .ensures, f .if2 .left, t .hardOnly, c .if3 .taken))
+    (λ c q t. cc)
+    (λ c q t. rw (c .before .enum-told2 .given .1, t .hardOnly, ne-eqb _ _ (c .if1 .left)))
+    (λ c q t. let f = c .before in rw (f .before .before .enum-told3 .given .1, t .first, ← f .before .is-initial .ensures, f .if2 .left, t .hardOnly, ne-eqb _ _ (c .if3 .left))))

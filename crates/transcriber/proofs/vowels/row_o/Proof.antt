@@ -10,5 +10,5 @@ row-o-spec =
     tie.close
     (tie.spec
     (search needs) (search needs) (search needs) (search needs)
-    (λ c hard q t. cc) (λ c hard q t. cc)
-    (λ c hard q t. let e = c .before .enum-told3 .given .1 in rw e (rw e at (c .row-a .ensures hard q t))))
+    (λ c q t. cc) (λ c q t. cc)
+    (λ c q t. let e = c .before .enum-told3 .given .1 in rw e (rw e at (c .row-a .ensures q t))))

@@ -10,6 +10,6 @@ row-ya-spec =
     tie.close
     (tie.spec
     (search needs) (search needs) (search needs) (search needs)
-    (λ c hard q t. rw (c .before .before .enum-told3 .given .1, t .first, ← c .before .is-initial .ensures, c .if1 .taken))
-    (λ c hard q t. cc) (λ c hard q t. cc)
-    (λ c hard q t. rw (c .before .before .enum-told3 .given .1, t .first, ← c .before .is-initial .ensures, c .if1 .left)))
+    (λ c q t. rw (c .before .before .enum-told3 .given .1, t .first, ← c .before .is-initial .ensures, c .if1 .taken))
+    (λ c q t. cc) (λ c q t. cc)
+    (λ c q t. rw (c .before .before .enum-told3 .given .1, t .first, ← c .before .is-initial .ensures, c .if1 .left)))
