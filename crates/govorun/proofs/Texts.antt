@@ -1,9 +1,10 @@
 -- The text grows at its end: what is put after other bytes and those bytes together were put at the place of the latter. How long a number, the codes and an answer are in it.
-use Rattle.laws.proofs.Kit.{ℕ, zero, suc, _+_, _-_, _*_, _/_, _%_, _^_, _<_, _≤_, arith, _≡_, refl, sym, ap, _∙_, ⊎-elim, List, [], _∷_, _++_, append-assoc, append-nil, length, take, drop, getD, length-append, length-drop, drop-of-length-le, take-at, drop-cons, le-leb, lt-leb, lt-ltb, le-ltb}
+use Rattle.laws.proofs.Kit.{ℕ, zero, suc, _+_, _-_, _*_, _/_, _%_, _^_, _<_, _≤_, arith, _≡_, refl, sym, ap, _∙_, ⊎-elim, List, [], _∷_, _++_, append-assoc, append-nil, length, take, drop, getD, length-append, length-drop, take-at, drop-cons, drop-length, le-leb, lt-leb, lt-ltb, le-ltb}
 use Rattle.spec.specs.{Printed.ascii, Printed.lastDigits, Printed.decimal, Printed.printedCodes, Printed.printedAnswer, Tape.tape, Answers.numberOf, Answers.placeOf, Answers.lengthOf, Answers.outputAfter, Answers.tapeAnswer, Answers.Promise, declared.Refusal.Refusal, declared.Answer.Answer, declared.Answer.the-variants.Written, declared.Answer.the-variants.Refused}
-use Rattle.laws.proofs.{Bounds.tape-small, Classes.below-or}
+use Rattle.laws.proofs.{Bounds.tape-small, Classes.below-or, Classes.cond-both}
 use Rattle.govorun.specs.Putting.{Put, codeAt}
 use native.Mathlib.Nat.{pow-suc}
+use lib.Dec.{ltb}
 
 -- nothing put leaves the text as it is
 pub put-none : (text : List ℕ) (at : ℕ) → Put [] text text at at
@@ -45,14 +46,6 @@ decimal-size (suc k) n h =
     let p = pow-suc 10 (suc k) in
     ⊎-elim (λ g. omega (arith, decimal-longer n (omega arith), decimal-size k (n / 10) (omega arith))) (λ g. omega (arith, ap length (decimal-small n (omega arith)))) (below-or 9 n)
 
--- codes that are bytes have at most three digits each, and a space
-pub codes-size : (codes : List ℕ) → ((i : ℕ) → getD codes i 0 < 256) → length (printedCodes codes) ≤ 4 * length codes
-unfolding printedCodes ascii
-codes-size [] h = omega arith
-codes-size (c ∷ []) h = omega (arith, decimal-size 2 c (omega (arith, h 0)))
-codes-size (c ∷ (d ∷ codes)) h =
-    simp length-append (omega (arith, decimal-size 2 c (omega (arith, h 0)), codes-size (d ∷ codes) (λ i. h (suc i))))
-
 -- the codes from place i on are the code there and those after it
 codes-from : (codes : List ℕ) (i : ℕ) → i < length codes → printedCodes (drop i codes) ≡ codeAt codes i ++ printedCodes (drop (suc i) codes)
 unfolding printedCodes ascii
@@ -62,34 +55,29 @@ codes-from codes i h = rw (drop-cons codes i 0 h) (by (drop (suc i) codes) (leng
     by [] e = rw (le-ltb (i + 1) (length codes) (omega arith)) (simp append-nil)
     by (d ∷ rest) e = rw (lt-ltb (i + 1) (length codes) (omega arith)) (sym (append-assoc (decimal (getD codes i 0)) (32 ∷ []) (printedCodes (d ∷ rest))))
 
--- in the text stand the codes before place i
-pub record Printed (codes text : List ℕ) (at i : ℕ) : Type 0 where
-  pub place : at + length (printedCodes (drop i codes)) ≡ length (printedCodes codes)
-  pub bytes : take at text ++ printedCodes (drop i codes) ≡ printedCodes codes
+-- the codes before place i
+abbrev pub printedTo : List ℕ → ℕ → List ℕ
+printedTo codes zero = []
+printedTo codes (suc i) = printedTo codes i ++ codeAt codes i
 
-pub printed-none : (codes text : List ℕ) → Printed codes text 0 0
-printed-none codes text = record { place = omega arith; bytes = refl }
+-- codes that are bytes have at most three digits each, and a space
+pub to-size : (codes : List ℕ) → ((i : ℕ) → getD codes i 0 < 256) → (i : ℕ) → length (printedTo codes i) ≤ 4 * i
+to-size codes h zero = omega arith
+to-size codes h (suc i) =
+    let d = decimal (getD codes i 0) in
+    let k = decimal-size 2 (getD codes i 0) (omega (arith, h i)) in
+    let l : length (codeAt codes i) ≤ 4 = rw length-append (cond-both (λ (x : List ℕ). length d + length x ≤ 4) (ltb (i + 1) (length codes)) {x = 32 ∷ []} {y = []} (omega arith) (omega arith)) in
+    omega (arith, length-append (printedTo codes i) (codeAt codes i), to-size codes h i)
 
-module _ (codes text : List ℕ) (at i : ℕ) (p : Printed codes text at i) where
-  -- there is room for one more
-  pub printed-room : i < length codes → at + length (codeAt codes i) ≤ length (printedCodes codes)
-  printed-room h = omega (arith, p .place, ap length (codes-from codes i h), length-append (codeAt codes i) (printedCodes (drop (suc i) codes)))
+-- with those from there on they are all
+to-all : (codes : List ℕ) (i : ℕ) → i ≤ length codes → printedTo codes i ++ printedCodes (drop i codes) ≡ printedCodes codes
+to-all codes zero h = refl
+to-all codes (suc i) h = append-assoc (printedTo codes i) (codeAt codes i) (printedCodes (drop (suc i) codes)) ∙ rw (← codes-from codes i h) (to-all codes i (omega arith))
 
-  -- which may be put
-  pub printed-more : (text′ : List ℕ) (r : ℕ) → i < length codes → Put (codeAt codes i) text text′ at r → Printed codes text′ r (suc i)
-  printed-more text′ r h q =
-      let e = codes-from codes i h in
-      record {
-        place = omega (arith, p .place, q .place, ap length e, length-append (codeAt codes i) (printedCodes (drop (suc i) codes)));
-        bytes = rw (q .bytes, append-assoc (take at text) (codeAt codes i) (printedCodes (drop (suc i) codes)), ← e) (p .bytes);
-      }
-
-  -- until all are
-  pub printed-all : (text₀ : List ℕ) → length codes ≤ i → Put (printedCodes codes) text₀ text 0 at
-  unfolding printedCodes
-  printed-all text₀ h =
-      let e = drop-of-length-le codes h in
-      record { place = omega (arith, rw e at (p .place)); bytes = sym (append-nil (take at text)) ∙ rw e at (p .bytes) }
+-- so at the end
+pub printed-all : (codes : List ℕ) (i : ℕ) → i ≡ length codes → printedTo codes i ≡ printedCodes codes
+unfolding printedCodes
+printed-all codes i e = rw e (sym (append-nil (printedTo codes (length codes))) ∙ rw (drop-length codes) at (to-all codes (length codes) (omega arith)))
 
 -- how long a refusal's text is
 pub refusal-length : (r : Refusal) (codes : List ℕ) → length (printedAnswer (Refused r) codes) ≡ 8 + (length (decimal (r .number)) + (4 + length (decimal (r .place))))

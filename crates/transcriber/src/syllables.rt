@@ -22,9 +22,15 @@ pub fn syllable_by(k: usize, level: Level) -> Syllable
     ensures { λ r. ⌜ r ≡ syllableBy k level ⌝ }
 {
     if is_consonant_or_sign(k) {
-        return Syllable { cover: Cover::Covered, level };
+        return Syllable {
+            cover: Cover::Covered,
+            level,
+        };
     }
-    Syllable { cover: Cover::Bare, level }
+    Syllable {
+        cover: Cover::Bare,
+        level,
+    }
 }
 
 // The name of a syllable with a vowel.
