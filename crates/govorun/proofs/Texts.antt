@@ -1,10 +1,9 @@
 -- The text grows at its end: what is put after other bytes and those bytes together were put at the place of the latter. How long a number, the codes and an answer are in it.
 use Rattle.laws.proofs.Kit.{ℕ, zero, suc, _+_, _-_, _*_, _/_, _%_, _^_, _<_, _≤_, arith, _≡_, refl, sym, ap, _∙_, ⊎-elim, List, [], _∷_, _++_, append-assoc, append-nil, length, take, drop, getD, length-append, length-drop, take-at, drop-cons, drop-length, le-leb, lt-leb, lt-ltb, le-ltb}
 use Rattle.spec.specs.{Printed.ascii, Printed.lastDigits, Printed.decimal, Printed.printedCodes, Printed.printedAnswer, Tape.tape, Answers.numberOf, Answers.placeOf, Answers.lengthOf, Answers.outputAfter, Answers.tapeAnswer, Answers.Promise, declared.Refusal.Refusal, declared.Answer.Answer, declared.Answer.the-variants.Written, declared.Answer.the-variants.Refused}
-use Rattle.laws.proofs.{Bounds.tape-small, Classes.below-or, Classes.cond-both}
+use Rattle.laws.proofs.{Bounds.tape-small, Classes.below-or}
 use Rattle.govorun.specs.Putting.{Put, codeAt}
 use native.Mathlib.Nat.{pow-suc}
-use lib.Dec.{ltb}
 
 -- nothing put leaves the text as it is
 pub put-none : (text : List ℕ) (at : ℕ) → Put [] text text at at
@@ -40,7 +39,7 @@ pub decimal-longer : (n : ℕ) → 10 ≤ n → length (decimal n) ≡ length (d
 decimal-longer n h = ap length (decimal-large n h) ∙ length-append (decimal (n / 10)) ((48 + n % 10) ∷ [])
 
 -- a number below a power of ten has at most as many digits as the power says
-pub decimal-size : (k n : ℕ) → n < 10 ^ suc k → length (decimal n) ≤ suc k
+decimal-size : (k n : ℕ) → n < 10 ^ suc k → length (decimal n) ≤ suc k
 decimal-size zero n h = omega (arith, ap length (decimal-small n h))
 decimal-size (suc k) n h =
     let p = pow-suc 10 (suc k) in
@@ -64,9 +63,8 @@ printedTo codes (suc i) = printedTo codes i ++ codeAt codes i
 pub to-size : (codes : List ℕ) → ((i : ℕ) → getD codes i 0 < 256) → (i : ℕ) → length (printedTo codes i) ≤ 4 * i
 to-size codes h zero = omega arith
 to-size codes h (suc i) =
-    let d = decimal (getD codes i 0) in
     let k = decimal-size 2 (getD codes i 0) (omega (arith, h i)) in
-    let l : length (codeAt codes i) ≤ 4 = rw length-append (cond-both (λ (x : List ℕ). length d + length x ≤ 4) (ltb (i + 1) (length codes)) {x = 32 ∷ []} {y = []} (omega arith) (omega arith)) in
+    let l : length (codeAt codes i) ≤ 4 = rw length-append (⊎-elim (λ g. rw (lt-ltb (i + 1) (length codes) g) (omega arith)) (λ g. rw (le-ltb (i + 1) (length codes) g) (omega arith)) (below-or (i + 1) (length codes))) in
     omega (arith, length-append (printedTo codes i) (codeAt codes i), to-size codes h i)
 
 -- with those from there on they are all

@@ -1,6 +1,6 @@
 -- The codes put so far stand in the text, and each turn puts one more.
 use Rattle.laws.proofs.Kit.{suc, _-_, _≤_, arith, add-one, _≡_, length, length-append}
-use Rattle.govorun.specs.Putting.{Put, codeAt}
+use Rattle.govorun.specs.Putting.{Put}
 use Rattle.govorun.proofs.Texts.{put-none, put-over, printedTo, to-size, printed-all}
 use Rattle.govorun.proofs.text.put_codes.Statement.{statement}
 use Rattle.govorun.proofs.text.put_codes.Tie as tie
