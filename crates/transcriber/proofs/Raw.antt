@@ -1,8 +1,8 @@
 -- What the code reads off the bytes beside a place is what the left context of the place says: in a steady message the class of the byte before tells the class of the last letter of the word.
 use Rattle.laws.proofs.Kit.{ℕ, zero, suc, _-_, _<_, _≤_, _≡_, refl, ap, Bool, true, false, cond, _&&_, _||_, not, and-eq-true-iff, and-false, or-assoc, or-false, List, [], _∷_, _++_, map, _⊎_, inl, inr, ⊎-elim, arith, eqb, leb, length, getD, drop, eqb-true, ne-eqb, leb-true, le-leb}
 use Rattle.spec.specs.{Alphabet.pause, Alphabet.mark, Alphabet.«ь», Alphabet.«е», Alphabet.«ё», Alphabet.«и», Alphabet.«ю», Alphabet.«я», Tables.among, Tables.Entry, Tables._gives_, Tables.entry, Letters.Letter, Letters.between, Letters.small, Letters.plainVowels, Letters.softeningVowels, Letters.isBreak, Letters.isGap, Letters.isHardOnly, Letters.isSoftOnly, Letters.isConsonant, Letters.isSign, Letters.isVowel, Letters.isObstruent, Letters.isMark, Letters.firstByte, Letters.beginsWithMark, Refusals.vowelByte, Elision.elides, Syllables.Facts, Syllables.coverAfter, Syllables.incomplete, Syllables.levelOf, Syllables.syllableOf, Syllables.nextStressed, Vowels.initial, Vowels.byStress, Vowels.byLevel, Vowels.hardEnd, Vowels.vowelSound, Vowels.glides, Vowels.writtenCode, Vowels.softens, Voicing.Tone, Voicing.voiced, Voicing.voiceless, Voicing.asWritten, Voicing.toneOf, Voicing.toned, Voicing.voicedCode, Voicing.voicelessCode, Palatalization.isSoft, Palatalization.firstCode, declared.Cover.Cover, declared.Level.Level, declared.Level.the-variants.Stressed, declared.Level.the-variants.First, declared.Level.the-variants.Second, declared.Syllable.Syllable}
-use Rattle.message.specs.{Classes.classOf, Classes.isBreakClass, Classes.isSignClass, Classes.isLetterClass, Fused.toneBefore, Fused.vowelCodes, Fused.consonantCode, Fused.letterCodes, Fused.fusedFrom, Places.Steady, Places.leftAt, Places.letterOf, Places.wordAt, Places.markedAt, Places.factsAt, Places.soundAt, Places.tailWord}
-use Rattle.message.proofs.{Bytes.below, Bytes.below-same, Bytes.by-class, Bytes.letter-class, Bytes.not-both, Bytes.vowel-break, Bytes.vowel-mark, Before.vowel-before, Left.left-letter, Left.left-mark, Left.left-break, Computed.everything}
+use Rattle.message.specs.{Classes.classOf, Classes.isBreakClass, Classes.isSignClass, Classes.isLetterClass, Fused.toneBefore, Fused.vowelCodes, Fused.consonantCode, Fused.letterCodes, Fused.fusedFrom, Places.Steady, Places.Left, Places.stepLeft, Places.leftAt, Places.letterOf, Places.wordAt, Places.markedAt, Places.factsAt, Places.soundAt, Places.tailWord}
+use Rattle.message.proofs.{Bytes.below, Bytes.below-same, Bytes.by-class, Bytes.letter-class, Bytes.not-both, Bytes.vowel-break, Bytes.vowel-mark, Before.vowel-before, Left.left-letter, Computed.everything}
 use Rattle.laws.proofs.Classes.{among-same, cond-both, cond-app, yes-or}
 use Rattle.transcriber.specs.{Levels.levelBy, Sounds.byteBefore, Sounds.Before, Sounds.classBefore, Sounds.isHardOrPaired, Sounds.Told, Sounds.syllableBy, Sounds.glideBy, Sounds.hardBefore, Sounds.tonedCode, Sounds.toneNo}
 pub use Rattle.laws.proofs.Classes.{cond-same}
@@ -11,6 +11,11 @@ pub use Rattle.laws.proofs.Classes.{cond-same}
 pub where-same : {A : Type 0} (t : ℕ → Bool) (f g : ℕ → A) (d : A) (b : ℕ) → map (λ x. cond (t x) (f x) d) (below 256) ≡ map (λ x. cond (t x) (g x) d) (below 256)
     → b < 256 → t b ≡ true → f b ≡ g b
 where-same t f g d b e h k = rw k at (below-same (λ x. cond (t x) (f x) d) (λ x. cond (t x) (g x) d) 256 b e h)
+
+-- what holds of each choice by the test's outcome holds of what a test chooses
+cond-by : {A : Type 0} (P : A → Type 0) (t : Bool) {x y : A} → (t ≡ true → P x) → (t ≡ false → P y) → P (cond t x y)
+cond-by P true a b = a refl
+cond-by P false a b = b refl
 
 -- a byte that is none of the keys of arms with two keys each
 pub data NoKey (b : ℕ) : List ℕ → Type 0 where
@@ -80,17 +85,13 @@ glide-class b h = (below-same (λ x. among («е» ∷ «ё» ∷ «ю» ∷ «�
 module _ (m : List ℕ) (steady : Steady m) where
   -- the class of the byte before a place tells the last letter of the word
   pub told-at : (i : ℕ) → i ≤ length m → Told (classBefore m i) (leftAt m i .p)
-  unfolding leftAt byteBefore letterOf isBreak
+  unfolding leftAt stepLeft byteBefore isBreak
   told-at zero h = told-break pause (omega arith) refl
-  told-at (suc i) h = by (isBreak b) refl (isMark b) refl
-    where
-      b : ℕ
-      b = getD m i 0
-
-      by : (s : Bool) → isBreak b ≡ s → (k : Bool) → isMark b ≡ k → Told (classOf b) (leftAt m (suc i) .p)
-      by true s k e = rw (left-break m i h s) (told-break b (steady .bytes i) s)
-      by false s true e = rw (left-mark m i h e) (told-mark b e (leftAt m i .p) (vowel-before m steady i h e))
-      by false s false e = rw (left-letter m i h s e) (told-letter b (steady .bytes i) (letter-class b (steady .bytes i) s e (steady .named i h)))
+  told-at (suc i) h =
+      let b = getD m i 0 in
+      let t = steady .bytes i in
+      let P : Left → Type 0 = λ l. Told (classOf b) (l .p) in
+      cond-by P (isBreak b) (told-break b t) (λ s. cond-by P (isMark b) (λ k. told-mark b k _ (vowel-before m steady i h k)) (λ k. told-letter b t (letter-class b t s k (steady .named i h))))
 
   -- the classes of the two bytes before a place tell whether the word before it ends hard
   end-raw : (i : ℕ) → i ≤ length m → hardEnd (leftAt m i .q) (leftAt m i .p) ≡ cond (eqb (classBefore m i) 5) (eqb (classBefore m (i - 1)) 6) (between 6 8 (classBefore m i))
@@ -122,20 +123,15 @@ module _ (m : List ℕ) (steady : Steady m) where
 
   -- whether a hard boundary stands before the place
   pub hard-raw : (i : ℕ) → i ≤ length m → leftAt m i .hard ≡ hardBefore m i
-  unfolding leftAt byteBefore hardBefore isGap
+  unfolding leftAt stepLeft byteBefore hardBefore
   hard-raw zero h = rw (start-class m)
-  hard-raw (suc i) h = by (isBreak b) refl (isMark b) refl
-    where
-      b : ℕ
-      b = getD m i 0
-
-      by : (s : Bool) → isBreak b ≡ s → (k : Bool) → isMark b ≡ k → leftAt m (suc i) .hard ≡ hardBefore m (suc i)
-      by true s k e =
-          let x : suc i - 1 ≡ i = omega arith in
-          let y : suc i - 2 ≡ i - 1 = omega arith in
-          rw (left-break m i h s, gap-class b (steady .bytes i), end-raw i (omega arith), x, y)
-      by false s true e = rw (left-mark m i h e, mark-soft i h e, within-gap b (steady .bytes i) s)
-      by false s false e = rw (left-letter m i h s e, within-gap b (steady .bytes i) s)
+  hard-raw (suc i) h =
+      let b = getD m i 0 in
+      let t = steady .bytes i in
+      let x : suc i - 1 ≡ i = omega arith in
+      let y : suc i - 2 ≡ i - 1 = omega arith in
+      let P : Left → Type 0 = λ l. l .hard ≡ hardBefore m (suc i) in
+      cond-by P (isBreak b) (λ s. rw (gap-class b t, end-raw i (omega arith), x, y)) (λ s. cond-by P (isMark b) (λ k. rw (mark-soft i h k, within-gap b t s)) (λ k. rw (within-gap b t s)))
 
   -- whether a syllable is left incomplete after it
   pub incomplete-raw : (i : ℕ) → i ≤ length m → incomplete (leftAt m i .p) ≡ cond (between 4 9 (classBefore m i)) (7 ∷ []) []
