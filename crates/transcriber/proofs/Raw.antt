@@ -95,22 +95,16 @@ module _ (m : List ℕ) (steady : Steady m) where
 
   -- the classes of the two bytes before a place tell whether the word before it ends hard
   end-raw : (i : ℕ) → i ≤ length m → hardEnd (leftAt m i .q) (leftAt m i .p) ≡ cond (eqb (classBefore m i) 5) (eqb (classBefore m (i - 1)) 6) (between 6 8 (classBefore m i))
-  unfolding leftAt byteBefore hardEnd everything
-  end-raw zero h = refl
+  unfolding leftAt byteBefore hardEnd
+  end-raw zero h = rw (← or-assoc, told-at zero h .hard, start-class m)
   end-raw (suc i) h =
+      let b = getD m i 0 in
       let k = told-at (suc i) h in
+      let c = by-class b (steady .bytes i) in
       let e : suc i - 1 ≡ i = omega arith in
-      rw (← or-assoc, k .hard, k .softSign, e) (by (eqb (classOf b) 5) refl)
-    where
-      b : ℕ
-      b = getD m i 0
-
-      by : (t : Bool) → eqb (classOf b) 5 ≡ t → (between 6 8 (classOf b) || (t && isHardOnly (leftAt m (suc i) .q))) ≡ cond t (eqb (classBefore m i) 6) (between 6 8 (classOf b))
-      by true d =
-          let k = eqb-true (classOf b) 5 d in
-          let c = by-class b (steady .bytes i) in
-          rw (k, left-letter m i h (rw k at (c .break)) (rw k at (c .mark)), told-at i (omega arith) .hardOnly)
-      by false d = or-false (between 6 8 (classOf b))
+      rw (← or-assoc, k .hard, k .softSign, e)
+      (⊎-elim (λ d. let f = eqb-true (classOf b) 5 d in rw (f, left-letter m i h (rw f at (c .break)) (rw f at (c .mark)), told-at i (omega arith) .hardOnly))
+      (λ d. rw d (or-false (between 6 8 (classOf b)))) (yes-or (eqb (classOf b) 5)))
 
   -- before a mark stands a vowel, and no boundary
   mark-soft : (i : ℕ) → i < length m → isMark (getD m i 0) ≡ true → leftAt m i .hard ≡ false
