@@ -1,9 +1,9 @@
-// The sounds of vowels (paper 01, pass 3): an arm for each row. A row that asks of the letter before, or of the boundary, is a function that asks only where its line does.
+// The sounds of vowels (paper 01, pass 3): an arm for each row. A row that asks of the letter before, or of the boundary, is a function: the answer chooses the sounds, and the level one of them.
 // The letter before is told by the class of the byte before, k: that of a break at the start of a word, of a mark after a stressed vowel.
 ghost use mathlib.Core.Path.{_≡_};
 ghost use mathlib.Core.Bool.{false, cond};
 ghost use Rattle.spec.specs.Letters.{small};
-ghost use Rattle.spec.specs.Vowels.{byStress, rowА, rowО, rowЭ, rowЕ, rowЯ, rowИ};
+ghost use Rattle.spec.specs.Vowels.{byLevel, byStress, rowА, rowО, rowЭ, rowЕ, rowЯ, rowИ};
 ghost use Rattle.spec.specs.Codes.{J};
 ghost use Rattle.message.specs.Classes.{classes, isBreakClass, isSignClass};
 ghost use Rattle.transcriber.specs.Sounds.{Before, ByRow, glideBy, hardBefore, rowOf};
@@ -38,106 +38,76 @@ fn by_stress(s: Syllable, stressed: u8, other: u8) -> u8
     }
 }
 
+// A row that has one sound for each level.
+fn by_level(s: Syllable, stressed: u8, first: u8, second: u8) -> u8
+    ensures { λ r. ⌜ r ≡ byLevel (s .level) stressed first second ⌝ }
+{
+    let level = s.level;
+    match level {
+        Level::Stressed => stressed,
+        Level::First => first,
+        Level::Second => second,
+    }
+}
+
 // Row а: of the letters before it only ч щ й change it.
 fn row_a(s: Syllable, k: usize) -> u8
     ensures { λ r. ⌜ ByRow rowА false k s r ⌝ }
 {
-    let level = s.level;
-    match level {
-        Level::Stressed => codes::A_STRESSED,
-        Level::First => {
-            if k == classes::SOFT_ONLY {
-                return codes::E1;
-            }
-            codes::A1
-        }
-        Level::Second => {
-            if is_initial(k) {
-                return codes::A1;
-            }
-            if k == classes::SOFT_ONLY {
-                return codes::E2;
-            }
-            codes::A2
-        }
+    if k == classes::SOFT_ONLY {
+        return by_level(s, codes::A_STRESSED, codes::E1, codes::E2);
     }
+    if is_initial(k) {
+        return by_level(s, codes::A_STRESSED, codes::A1, codes::A1);
+    }
+    by_level(s, codes::A_STRESSED, codes::A1, codes::A2)
 }
 
 // Row о, which sounds as а where it is not stressed, but for level 1 after ч щ й.
 fn row_o(s: Syllable, k: usize) -> u8
     ensures { λ r. ⌜ ByRow rowО false k s r ⌝ }
 {
-    let level = s.level;
-    match level {
-        Level::Stressed => codes::O_STRESSED,
-        Level::First => codes::A1,
-        Level::Second => row_a(s, k),
+    if k == classes::SOFT_ONLY {
+        return by_level(s, codes::O_STRESSED, codes::A1, codes::E2);
     }
+    if is_initial(k) {
+        return by_level(s, codes::O_STRESSED, codes::A1, codes::A1);
+    }
+    by_level(s, codes::O_STRESSED, codes::A1, codes::A2)
 }
 
-// Row э: the boundary is asked for only where the vowel is not stressed.
+// Row э: a hard boundary makes it sound as ы where it is not stressed.
 fn row_e(s: Syllable, k: usize, m: &[u8], i: usize, t: &ClassTable) -> u8
     requires { ⌜ Before (now t) (now m) i k ⌝ }
     ensures { λ r. ⌜ ByRow rowЭ (hardBefore (now (m .entry)) i) k s r ⌝ }
 {
-    let level = s.level;
-    match level {
-        Level::Stressed => codes::E_STRESSED,
-        Level::First => {
-            if hard_before(m, i, k, t) {
-                return codes::Y1;
-            }
-            codes::E1
-        }
-        Level::Second => {
-            if hard_before(m, i, k, t) {
-                return codes::Y1;
-            }
-            codes::E2
-        }
+    if hard_before(m, i, k, t) {
+        return by_level(s, codes::E_STRESSED, codes::Y1, codes::Y1);
     }
+    by_level(s, codes::E_STRESSED, codes::E1, codes::E2)
 }
 
 // Row е: of the letters before it only ж ш ц change it.
 fn row_ie(s: Syllable, k: usize) -> u8
     ensures { λ r. ⌜ ByRow rowЕ false k s r ⌝ }
 {
-    let level = s.level;
-    match level {
-        Level::Stressed => codes::E_STRESSED,
-        Level::First => {
-            if k == classes::HARD_ONLY {
-                return codes::Y1;
-            }
-            codes::E1
-        }
-        Level::Second => {
-            if is_initial(k) {
-                return codes::E1;
-            }
-            if k == classes::HARD_ONLY {
-                return codes::A2;
-            }
-            codes::E2
-        }
+    if k == classes::HARD_ONLY {
+        return by_level(s, codes::E_STRESSED, codes::Y1, codes::A2);
     }
+    if is_initial(k) {
+        return by_level(s, codes::E_STRESSED, codes::E1, codes::E1);
+    }
+    by_level(s, codes::E_STRESSED, codes::E1, codes::E2)
 }
 
 // Row я: it matters only whether it is initial.
 fn row_ya(s: Syllable, k: usize) -> u8
     ensures { λ r. ⌜ ByRow rowЯ false k s r ⌝ }
 {
-    let level = s.level;
-    match level {
-        Level::Stressed => codes::A_STRESSED,
-        Level::First => codes::E1,
-        Level::Second => {
-            if is_initial(k) {
-                return codes::E1;
-            }
-            codes::E2
-        }
+    if is_initial(k) {
+        return by_level(s, codes::A_STRESSED, codes::E1, codes::E1);
     }
+    by_level(s, codes::A_STRESSED, codes::E1, codes::E2)
 }
 
 // Row и: ж ш ц before it, or a hard boundary, make it sound as ы.

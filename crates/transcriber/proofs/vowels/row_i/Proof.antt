@@ -10,9 +10,6 @@ unfolding rowИ
 row-i-spec =
     tie.close
     (tie.spec
-    (search needs)
-    (λ c q t. rw (t .hardOnly, c .before .if1 .taken) (c .by-stress .ensures))
-    (λ c κs. search needs) (search needs)
-    (λ c q t. let h = c .before .before in rw (t .hardOnly, ne-eqb _ _ (h .before .if1 .left), boundary-initial (h .before .before .before .pre) t, ← h .hard-before .ensures, c .before .if2 .taken) (c .by-stress2 .ensures))
-    (search needs)
-    (λ c q t. let h = c .before .before in rw (t .hardOnly, ne-eqb _ _ (h .before .if1 .left), boundary-initial (h .before .before .before .pre) t, ← h .hard-before .ensures, c .before .if2 .left) (c .by-stress3 .ensures)))
+    (search needs) (λ c q t. rw (t .hardOnly, c .before .if1 .taken) (c .by-stress .ensures))
+    (λ c κs. search needs) (search needs) (λ c q t. let h = c .before .before in rw (t .hardOnly, ne-eqb _ _ (h .before .if1 .left), boundary-initial (h .before .before .before .pre) t, ← h .hard-before .ensures, c .before .if2 .taken) (c .by-stress2 .ensures))
+    (search needs) (λ c q t. let h = c .before .before in rw (t .hardOnly, ne-eqb _ _ (h .before .if1 .left), boundary-initial (h .before .before .before .pre) t, ← h .hard-before .ensures, c .before .if2 .left) (c .by-stress3 .ensures)))
