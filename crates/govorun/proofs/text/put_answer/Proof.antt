@@ -22,9 +22,7 @@ pub put-answer-spec : {M : Type 1} → statement M
 put-answer-spec =
     tie.close
     (tie.spec
-    (λ c. search needs)
-    (λ c κs. search needs)
-    (λ c. search needs)
+    (λ c. search needs) (λ c κs. search needs) (λ c. search needs)
     (λ c. omega (arith, written (c .before) .short, c .before .before .before .before .transcribe .kept .1 .0))
     (λ c. sym (written (c .before .before) .size))
     (λ c κs. let w = written (c .before .before .before) in omega (arith, w .short, w .size))
