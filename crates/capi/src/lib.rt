@@ -1,6 +1,6 @@
 // The C interface: include/govorun.h says what each function promises. Each carries its operation's promise on, in four numbers.
 ghost use Rattle.spec.specs.Answers.{CheckPromise, NamePromise, TranscribePromise, JoinPromise, Carried};
-ghost use Rattle.laws.proofs.Bounds.{Small};
+ghost use Rattle.laws.proofs.Bounds.{Small, SmallCheck};
 ghost use Rattle.capi.specs.Said.{Said, Counted};
 use joiner::join::join;
 use message::check::check;
@@ -25,11 +25,12 @@ pub struct GovorunCounts {
     pub names: u32,
 }
 
-#[no_mangle]
-pub extern "C" fn govorun_check(m: &[u8]) -> GovorunCounts
-    ensures { λ r. ⌜ Carried (CheckPromise (now (m .entry))) Counted r ⌝ }
+// The check's answer in four numbers, each of which fits.
+fn count(a: Checked) -> GovorunCounts
+    requires { ⌜ SmallCheck a ⌝ }
+    ensures { λ r. ⌜ Counted a r ⌝ }
 {
-    match check(m) {
+    match a {
         Checked::Accepted(counts) => GovorunCounts {
             number: 0,
             place: 0,
@@ -45,7 +46,14 @@ pub extern "C" fn govorun_check(m: &[u8]) -> GovorunCounts
     }
 }
 
-// An answer in four numbers, each of which fits.
+#[no_mangle]
+pub extern "C" fn govorun_check(m: &[u8]) -> GovorunCounts
+    ensures { λ r. ⌜ Carried (CheckPromise (now (m .entry))) Counted r ⌝ }
+{
+    count(check(m))
+}
+
+// The same of an operation's answer.
 fn say(a: Answer) -> GovorunAnswer
     requires { ⌜ Small a ⌝ }
     ensures { λ r. ⌜ Said a r ⌝ }

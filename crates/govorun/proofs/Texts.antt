@@ -1,6 +1,6 @@
 -- The text grows at its end: what is put after other bytes and those bytes together were put at the place of the latter. How long a number, the codes and an answer are in it.
-use Rattle.laws.proofs.Kit.{ℕ, zero, suc, _+_, _-_, _*_, _/_, _%_, _^_, _<_, _≤_, arith, add-one, _≡_, refl, sym, ap, _∙_, ⊎-elim, List, [], _∷_, _++_, append-assoc, append-nil, length, take, drop, set, getD, length-append, length-drop, drop-of-length-le, take-suc-set, take-at, drop-cons, le-leb, lt-leb, lt-ltb, le-ltb}
-use Rattle.spec.specs.{Printed.ascii, Printed.lastDigits, Printed.decimal, Printed.printedCodes, Printed.printedAnswer, Tape.tape, Answers.numberOf, Answers.placeOf, Answers.lengthOf, Answers.outputAfter, Answers.tapeAnswer, declared.Refusal.Refusal, declared.Answer.the-variants.Written, declared.Answer.the-variants.Refused}
+use Rattle.laws.proofs.Kit.{ℕ, zero, suc, _+_, _-_, _*_, _/_, _%_, _^_, _<_, _≤_, arith, _≡_, refl, sym, ap, _∙_, ⊎-elim, List, [], _∷_, _++_, append-assoc, append-nil, length, take, drop, getD, length-append, length-drop, take-at, drop-cons, drop-length, le-leb, lt-leb, lt-ltb, le-ltb}
+use Rattle.spec.specs.{Printed.ascii, Printed.lastDigits, Printed.decimal, Printed.printedCodes, Printed.printedAnswer, Tape.tape, Answers.numberOf, Answers.placeOf, Answers.lengthOf, Answers.outputAfter, Answers.tapeAnswer, Answers.Promise, declared.Refusal.Refusal, declared.Answer.Answer, declared.Answer.the-variants.Written, declared.Answer.the-variants.Refused}
 use Rattle.laws.proofs.{Bounds.tape-small, Classes.below-or}
 use Rattle.govorun.specs.Putting.{Put, codeAt}
 use native.Mathlib.Nat.{pow-suc}
@@ -8,10 +8,6 @@ use native.Mathlib.Nat.{pow-suc}
 -- nothing put leaves the text as it is
 pub put-none : (text : List ℕ) (at : ℕ) → Put [] text text at at
 put-none text at = record { place = omega arith; bytes = sym (append-nil (take at text)) }
-
--- a byte stored
-pub put-one : (text : List ℕ) (at byte : ℕ) → at < length text → Put (byte ∷ []) text (set text at byte) at (at + 1)
-put-one text at byte h = record { place = refl; bytes = rw (add-one at) (take-suc-set text at byte h) }
 
 -- bytes put after others
 pub put-over : {a b text text₁ text₂ : List ℕ} {at r s : ℕ} → Put a text text₁ at r → Put b text₁ text₂ r s → Put (a ++ b) text text₂ at s
@@ -43,34 +39,11 @@ pub decimal-longer : (n : ℕ) → 10 ≤ n → length (decimal n) ≡ length (d
 decimal-longer n h = ap length (decimal-large n h) ∙ length-append (decimal (n / 10)) ((48 + n % 10) ∷ [])
 
 -- a number below a power of ten has at most as many digits as the power says
-pub decimal-size : (k n : ℕ) → n < 10 ^ suc k → length (decimal n) ≤ suc k
+decimal-size : (k n : ℕ) → n < 10 ^ suc k → length (decimal n) ≤ suc k
 decimal-size zero n h = omega (arith, ap length (decimal-small n h))
 decimal-size (suc k) n h =
     let p = pow-suc 10 (suc k) in
     ⊎-elim (λ g. omega (arith, decimal-longer n (omega arith), decimal-size k (n / 10) (omega arith))) (λ g. omega (arith, ap length (decimal-small n (omega arith)))) (below-or 9 n)
-
--- codes that are bytes have at most three digits each, and a space
-pub codes-size : (codes : List ℕ) → ((i : ℕ) → getD codes i 0 < 256) → length (printedCodes codes) ≤ 4 * length codes
-unfolding printedCodes ascii
-codes-size [] h = omega arith
-codes-size (c ∷ []) h = omega (arith, decimal-size 2 c (omega (arith, h 0)))
-codes-size (c ∷ (d ∷ codes)) h =
-    simp length-append (omega (arith, decimal-size 2 c (omega (arith, h 0)), codes-size (d ∷ codes) (λ i. h (suc i))))
-
--- a code's digits are part of its text
-pub code-size : (codes : List ℕ) (i : ℕ) → length (decimal (getD codes i 0)) ≤ length (codeAt codes i)
-unfolding codeAt
-code-size codes i = simp length-append (omega arith)
-
--- a code that is not the last
-pub code-more : (codes : List ℕ) (i : ℕ) → i + 1 < length codes → codeAt codes i ≡ decimal (getD codes i 0) ++ (32 ∷ [])
-unfolding codeAt
-code-more codes i h = rw (lt-ltb (i + 1) (length codes) h)
-
--- and the last one
-pub code-last : (codes : List ℕ) (i : ℕ) → length codes ≤ i + 1 → codeAt codes i ≡ decimal (getD codes i 0)
-unfolding codeAt
-code-last codes i h = rw (le-ltb (i + 1) (length codes) h) (append-nil (decimal (getD codes i 0)))
 
 -- the codes from place i on are the code there and those after it
 codes-from : (codes : List ℕ) (i : ℕ) → i < length codes → printedCodes (drop i codes) ≡ codeAt codes i ++ printedCodes (drop (suc i) codes)
@@ -78,37 +51,31 @@ unfolding printedCodes ascii
 codes-from codes i h = rw (drop-cons codes i 0 h) (by (drop (suc i) codes) (length-drop (suc i) codes))
   where
     by : (rest : List ℕ) → length rest ≡ length codes - suc i → printedCodes (getD codes i 0 ∷ rest) ≡ codeAt codes i ++ printedCodes rest
-    by [] e = rw (code-last codes i (omega arith)) (sym (append-nil (decimal (getD codes i 0))))
-    by (d ∷ rest) e = rw (code-more codes i (omega arith)) (sym (append-assoc (decimal (getD codes i 0)) (32 ∷ []) (printedCodes (d ∷ rest))))
+    by [] e = rw (le-ltb (i + 1) (length codes) (omega arith)) (simp append-nil)
+    by (d ∷ rest) e = rw (lt-ltb (i + 1) (length codes) (omega arith)) (sym (append-assoc (decimal (getD codes i 0)) (32 ∷ []) (printedCodes (d ∷ rest))))
 
--- in the text stand the codes before place i
-pub record Printed (codes text : List ℕ) (at i : ℕ) : Type 0 where
-  pub place : at + length (printedCodes (drop i codes)) ≡ length (printedCodes codes)
-  pub bytes : take at text ++ printedCodes (drop i codes) ≡ printedCodes codes
+-- the codes before place i
+abbrev pub printedTo : List ℕ → ℕ → List ℕ
+printedTo codes zero = []
+printedTo codes (suc i) = printedTo codes i ++ codeAt codes i
 
-pub printed-none : (codes text : List ℕ) → Printed codes text 0 0
-printed-none codes text = record { place = omega arith; bytes = refl }
+-- codes that are bytes have at most three digits each, and a space
+pub to-size : (codes : List ℕ) → ((i : ℕ) → getD codes i 0 < 256) → (i : ℕ) → length (printedTo codes i) ≤ 4 * i
+to-size codes h zero = omega arith
+to-size codes h (suc i) =
+    let k = decimal-size 2 (getD codes i 0) (omega (arith, h i)) in
+    let l : length (codeAt codes i) ≤ 4 = rw length-append (⊎-elim (λ g. rw (lt-ltb (i + 1) (length codes) g) (omega arith)) (λ g. rw (le-ltb (i + 1) (length codes) g) (omega arith)) (below-or (i + 1) (length codes))) in
+    omega (arith, length-append (printedTo codes i) (codeAt codes i), to-size codes h i)
 
-module _ (codes text : List ℕ) (at i : ℕ) (p : Printed codes text at i) where
-  -- there is room for one more
-  pub printed-room : i < length codes → at + length (codeAt codes i) ≤ length (printedCodes codes)
-  printed-room h = omega (arith, p .place, ap length (codes-from codes i h), length-append (codeAt codes i) (printedCodes (drop (suc i) codes)))
+-- with those from there on they are all
+to-all : (codes : List ℕ) (i : ℕ) → i ≤ length codes → printedTo codes i ++ printedCodes (drop i codes) ≡ printedCodes codes
+to-all codes zero h = refl
+to-all codes (suc i) h = append-assoc (printedTo codes i) (codeAt codes i) (printedCodes (drop (suc i) codes)) ∙ rw (← codes-from codes i h) (to-all codes i (omega arith))
 
-  -- which may be put
-  pub printed-more : (text′ : List ℕ) (r : ℕ) → i < length codes → Put (codeAt codes i) text text′ at r → Printed codes text′ r (suc i)
-  printed-more text′ r h q =
-      let e = codes-from codes i h in
-      record {
-        place = omega (arith, p .place, q .place, ap length e, length-append (codeAt codes i) (printedCodes (drop (suc i) codes)));
-        bytes = rw (q .bytes, append-assoc (take at text) (codeAt codes i) (printedCodes (drop (suc i) codes)), ← e) (p .bytes);
-      }
-
-  -- until all are
-  pub printed-all : (text₀ : List ℕ) → length codes ≤ i → Put (printedCodes codes) text₀ text 0 at
-  unfolding printedCodes
-  printed-all text₀ h =
-      let e = drop-of-length-le codes h in
-      record { place = omega (arith, rw e at (p .place)); bytes = sym (append-nil (take at text)) ∙ rw e at (p .bytes) }
+-- so at the end
+pub printed-all : (codes : List ℕ) (i : ℕ) → i ≡ length codes → printedTo codes i ≡ printedCodes codes
+unfolding printedCodes
+printed-all codes i e = rw e (sym (append-nil (printedTo codes (length codes))) ∙ rw (drop-length codes) at (to-all codes (length codes) (omega arith)))
 
 -- how long a refusal's text is
 pub refusal-length : (r : Refusal) (codes : List ℕ) → length (printedAnswer (Refused r) codes) ≡ 8 + (length (decimal (r .number)) + (4 + length (decimal (r .place))))
@@ -123,13 +90,17 @@ answer-refused m r e =
     let b = rw (sym e) at (tape-small m 8192) in
     (rw (sym e), omega (arith, refusal-length r [], decimal-size 3 (r .number) (omega (arith, b .number)), decimal-size 3 (r .place) (omega (arith, b .place))))
 
--- or the tape, with which the output begins
-pub answer-written : (m codes codes′ : List ℕ) (n k : ℕ) → length codes ≡ 8192 → length codes′ ≡ length codes → Written n k ≡ tapeAnswer m 8192
-    → codes′ ≡ outputAfter (tapeAnswer m 8192) (tape m) codes
-    → (n ≤ 8192) × (printedAnswer (tapeAnswer m 8192) (tape m) ≡ printedCodes (take n codes′))
+-- or the tape: n codes that lie within the output, and their text is the answer's
+pub record Spoken (m codes : List ℕ) (n : ℕ) : Type 0 where
+  pub short : n ≤ 8192
+  pub size : length (take n codes) ≡ n
+  pub text : printedAnswer (tapeAnswer m 8192) (tape m) ≡ printedCodes (take n codes)
+
+pub answer-written : (m : List ℕ) {codes codes′ : List ℕ} {a : Answer} {n k : ℕ} → length codes ≡ 8192 → Promise (tapeAnswer m 8192) (tape m) codes codes′ a → a ≡ Written n k → length codes′ ≡ length codes → Spoken m codes′ n
 unfolding printedAnswer outputAfter lengthOf
-answer-written m codes codes′ n k full same e o =
-    let b : n ≤ 8192 = (rw (sym e) at (tape-small m 8192)) .length in
-    let w : codes′ ≡ tape m ++ drop n codes = rw (sym e) at o in
-    let l : length (tape m) ≡ n = omega (arith, simp (length-append, length-drop) at (ap length w)) in
-    (b, rw (sym e, w, take-at (tape m) (drop n codes) n l))
+answer-written m {codes} {n = n} full p e same =
+    let d : Written n _ ≡ tapeAnswer m 8192 = sym e ∙ p .answer in
+    let w = rw (sym d) at (p .output) in
+    let l : length (tape m) ≡ n = omega (arith, (rw (sym d) at (tape-small m 8192)) .length, simp (length-append, length-drop) at (ap length w)) in
+    let t = take-at (tape m) (drop n codes) n l in
+    record { short = (rw (sym d) at (tape-small m 8192)) .length; size = rw (w, t) l; text = rw (sym d, w, t) }

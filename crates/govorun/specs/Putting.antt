@@ -14,5 +14,5 @@ pub record Put (more text text′ : List ℕ) (at r : ℕ) : Type 0 where
   pub bytes : take r text′ ≡ take at text ++ more
 
 -- the code at place i in decimal, and a space where another follows
-unfoldable pub codeAt : List ℕ → ℕ → List ℕ
+abbrev pub codeAt : List ℕ → ℕ → List ℕ
 codeAt codes i = decimal (getD codes i 0) ++ cond (ltb (i + 1) (length codes)) (32 ∷ []) []

@@ -1,15 +1,21 @@
--- What the code reads off the bytes beside a place is what the left context of the place says: in a steady message the byte before tells the class of the last letter of the word.
-use Rattle.laws.proofs.Kit.{ℕ, zero, suc, _-_, _<_, _≤_, _≡_, refl, sym, ap, _∙_, Bool, true, false, cond, _&&_, _||_, not, or-assoc, false≢true, List, [], _∷_, _++_, map, _⊎_, inl, inr, arith, eqb, leb, length, getD, drop, eqb-true, ne-eqb, leb-true, le-leb}
-use Rattle.spec.specs.{Alphabet.gap, Alphabet.pause, Alphabet.mark, Alphabet.«ь», Alphabet.«е», Alphabet.«ё», Alphabet.«и», Alphabet.«ю», Alphabet.«я», Tables.among, Tables.Entry, Tables._gives_, Tables.entry, Letters.Letter, Letters.between, Letters.small, Letters.plainVowels, Letters.softeningVowels, Letters.isBreak, Letters.isGap, Letters.isHardOnly, Letters.isSoftOnly, Letters.isConsonant, Letters.isSign, Letters.isVowel, Letters.isMark, Letters.firstByte, Letters.beginsWithMark, Refusals.vowelByte, Refusals.signByte, Codes.J, Elision.elides, Syllables.Facts, Syllables.coverAfter, Syllables.incomplete, Syllables.levelOf, Syllables.syllableOf, Syllables.nextStressed, Vowels.initial, Vowels.byStress, Vowels.byLevel, Vowels.hardEnd, Vowels.vowelSound, Vowels.glides, Vowels.writtenCode, Vowels.softens, Voicing.Tone, Voicing.voiced, Voicing.voiceless, Voicing.asWritten, Voicing.toneOf, Voicing.toned, Voicing.voicedCode, Voicing.voicelessCode, Palatalization.isSoft, Palatalization.firstCode, declared.Cover.Cover, declared.Level.Level, declared.Level.the-variants.Stressed, declared.Level.the-variants.First, declared.Level.the-variants.Second, declared.Syllable.Syllable}
-use Rattle.message.specs.{Classes.classOf, Classes.isSignClass, Classes.isLetterClass, Fused.toneBefore, Fused.vowelCodes, Fused.consonantCode, Fused.letterCodes, Fused.fusedFrom, Places.Steady, Places.leftAt, Places.letterOf, Places.wordAt, Places.markedAt, Places.factsAt, Places.soundAt, Places.tailWord}
-use Rattle.message.proofs.{Bytes.below, Bytes.below-same, Bytes.by-class, Bytes.letter-class, Bytes.not-both, Bytes.vowel-break, Bytes.vowel-mark, Before.vowel-before, Left.left-letter, Left.left-mark, Left.left-break, Computed.everything}
-use Rattle.laws.proofs.Classes.{among-same}
-use Rattle.transcriber.specs.{Levels.levelBy, Sounds.byteBefore, Sounds.ByteBefore, Sounds.classBefore, Sounds.isHardOrPaired, Sounds.Told, Sounds.coverClass, Sounds.syllableBy, Sounds.glideBy, Sounds.hardBefore, Sounds.tonedCode, Sounds.toneNo}
+-- What the code reads off the bytes beside a place is what the left context of the place says: in a steady message the class of the byte before tells the class of the last letter of the word.
+use Rattle.laws.proofs.Kit.{ℕ, zero, suc, _-_, _<_, _≤_, _≡_, refl, ap, Bool, true, false, cond, _&&_, _||_, not, and-eq-true-iff, and-false, or-assoc, or-false, List, [], _∷_, _++_, map, _⊎_, inl, inr, ⊎-elim, arith, eqb, leb, length, getD, drop, eqb-true, ne-eqb, leb-true, le-leb}
+use Rattle.spec.specs.{Alphabet.pause, Alphabet.mark, Alphabet.«ь», Alphabet.«е», Alphabet.«ё», Alphabet.«и», Alphabet.«ю», Alphabet.«я», Tables.among, Tables.Entry, Tables._gives_, Tables.entry, Letters.Letter, Letters.between, Letters.small, Letters.plainVowels, Letters.softeningVowels, Letters.isBreak, Letters.isGap, Letters.isHardOnly, Letters.isSoftOnly, Letters.isConsonant, Letters.isSign, Letters.isVowel, Letters.isObstruent, Letters.isMark, Letters.firstByte, Letters.beginsWithMark, Refusals.vowelByte, Elision.elides, Syllables.Facts, Syllables.coverAfter, Syllables.incomplete, Syllables.levelOf, Syllables.syllableOf, Syllables.nextStressed, Vowels.initial, Vowels.byStress, Vowels.byLevel, Vowels.hardEnd, Vowels.vowelSound, Vowels.glides, Vowels.writtenCode, Vowels.softens, Voicing.Tone, Voicing.voiced, Voicing.voiceless, Voicing.asWritten, Voicing.toneOf, Voicing.toned, Voicing.voicedCode, Voicing.voicelessCode, Palatalization.isSoft, Palatalization.firstCode, declared.Cover.Cover, declared.Level.Level, declared.Level.the-variants.Stressed, declared.Level.the-variants.First, declared.Level.the-variants.Second, declared.Syllable.Syllable}
+use Rattle.message.specs.{Classes.classOf, Classes.isBreakClass, Classes.isSignClass, Classes.isLetterClass, Fused.toneBefore, Fused.vowelCodes, Fused.consonantCode, Fused.letterCodes, Fused.fusedFrom, Places.Steady, Places.Left, Places.stepLeft, Places.leftAt, Places.letterOf, Places.wordAt, Places.markedAt, Places.factsAt, Places.soundAt, Places.tailWord}
+use Rattle.message.proofs.{Bytes.below, Bytes.below-same, Bytes.by-class, Bytes.letter-class, Bytes.not-both, Bytes.vowel-break, Bytes.vowel-mark, Before.vowel-before, Left.left-letter, Computed.everything}
+use Rattle.laws.proofs.Classes.{among-same, cond-both, cond-app, yes-or}
+use Rattle.transcriber.specs.{Levels.levelBy, Sounds.byteBefore, Sounds.Before, Sounds.classBefore, Sounds.isHardOrPaired, Sounds.Told, Sounds.syllableBy, Sounds.glideBy, Sounds.hardBefore, Sounds.tonedCode, Sounds.toneNo}
+pub use Rattle.laws.proofs.Classes.{cond-same}
 
 -- two functions that agree on the bytes that pass a test agree at each of them
 pub where-same : {A : Type 0} (t : ℕ → Bool) (f g : ℕ → A) (d : A) (b : ℕ) → map (λ x. cond (t x) (f x) d) (below 256) ≡ map (λ x. cond (t x) (g x) d) (below 256)
     → b < 256 → t b ≡ true → f b ≡ g b
 where-same t f g d b e h k = rw k at (below-same (λ x. cond (t x) (f x) d) (λ x. cond (t x) (g x) d) 256 b e h)
+
+-- what holds of each choice by the test's outcome holds of what a test chooses
+cond-by : {A : Type 0} (P : A → Type 0) (t : Bool) {x y : A} → (t ≡ true → P x) → (t ≡ false → P y) → P (cond t x y)
+cond-by P true a b = a refl
+cond-by P false a b = b refl
 
 -- a byte that is none of the keys of arms with two keys each
 pub data NoKey (b : ℕ) : List ℕ → Type 0 where
@@ -21,130 +27,84 @@ unfolding among
 not-among none = refl
 not-among (neither n k) = rw (ne-eqb _ _ (λ h. n (inl h)), ne-eqb _ _ (λ h. n (inr h))) (not-among k)
 
--- passes no test that only keys pass
-pub outside : {keys : List ℕ} {b : ℕ} (f : ℕ → Bool) → NoKey b keys → map (λ x. cond (among keys x) false (f x)) (below 256) ≡ map (λ _. false) (below 256) → b < 256 → f b ≡ false
-outside {keys} {b} f k e h = rw (not-among k) at (below-same (λ x. cond (among keys x) false (f x)) (λ _. false) 256 b e h)
+-- at such a byte a function that is d at all other bytes is d
+pub outside : {A : Type 0} {keys : List ℕ} {b : ℕ} (f : ℕ → A) (d : A) → NoKey b keys → map (λ x. cond (among keys x) d (f x)) (below 256) ≡ map (λ _. d) (below 256) → b < 256 → f b ≡ d
+outside {A} {keys} {b} f d k e h = rw (not-among k) at (below-same (λ x. cond (among keys x) d (f x)) (λ _. d) 256 b e h)
 
--- what is asked of the last letter, 0 for none, but for whether there is one
+-- what is asked of the last letter, 0 for none
 abbrev asked : ℕ → List Bool
-asked q = isHardOnly q ∷ isSoftOnly q ∷ isConsonant q ∷ isSign q ∷ isHardOrPaired q ∷ eqb q «ь» ∷ []
+asked q = initial q ∷ isHardOnly q ∷ isSoftOnly q ∷ (isConsonant q || isSign q) ∷ isSign q ∷ isHardOrPaired q ∷ eqb q «ь» ∷ []
 
--- the answers are the same for the byte and the letter
-told-asked : (p q : ℕ) → initial q ≡ isBreak p → asked q ≡ asked (small p) → Told p q
-told-asked p q f e = record { first = f; hardOnly = cc; softOnly = cc; consonant = cc; sign = cc; hard = cc; softSign = cc }
+-- what a class answers
+abbrev tells : ℕ → List Bool
+tells k = isBreakClass k ∷ eqb k 6 ∷ eqb k 9 ∷ between 4 9 k ∷ isSignClass k ∷ between 6 8 k ∷ eqb k 5 ∷ []
+
+told-asked : {k q : ℕ} → asked q ≡ tells k → Told k q
+told-asked e = record { first = cc; hardOnly = cc; softOnly = cc; covers = cc; sign = cc; hard = cc; softSign = cc }
 
 -- a letter is told by its byte
-told-letter : (b : ℕ) → b < 256 → isLetterClass (classOf b) ≡ true → Told b (small b)
+told-letter : (b : ℕ) → b < 256 → isLetterClass (classOf b) ≡ true → Told (classOf b) (small b)
 unfolding everything
-told-letter b h e = told-asked b (small b) (where-same (λ x. isLetterClass (classOf x)) (λ x. initial (small x)) isBreak true b refl h e) refl
+told-letter b h e = told-asked (where-same (λ x. isLetterClass (classOf x)) (λ x. asked (small x)) (λ x. tells (classOf x)) [] b refl h e)
 
 -- a break tells that there is none
-told-break : (b : ℕ) → b < 256 → isBreak b ≡ true → Told b 0
+told-break : (b : ℕ) → b < 256 → isBreak b ≡ true → Told (classOf b) 0
 unfolding everything
-told-break b h e = told-asked b 0 (sym e) (where-same isBreak (λ _. asked 0) (λ x. asked (small x)) [] b refl h e)
+told-break b h e = told-asked (where-same isBreak (λ _. asked 0) (λ x. tells (classOf x)) [] b refl h e)
 
 -- a mark, before which a vowel stands, tells of a vowel
-told-mark : (b : ℕ) → isMark b ≡ true → (q : ℕ) → isVowel q ≡ true → Told b q
+told-mark : (b : ℕ) → isMark b ≡ true → (q : ℕ) → isVowel q ≡ true → Told (classOf b) q
 unfolding everything
-told-mark b k q e =
-    let vowels = plainVowels ++ softeningVowels in
-    rw (eqb-true b mark k) (told-asked mark q (among-same initial (λ _. false) vowels q refl e) (among-same asked (λ _. asked mark) vowels q refl e))
+told-mark b k q e = rw (eqb-true b mark k) (told-asked (among-same asked (λ _. tells 1) (plainVowels ++ softeningVowels) q refl e))
 
--- no byte but a break is a gap
-within-gap : (b : ℕ) → b < 256 → isBreak b ≡ false → isGap b ≡ false
+-- a gap is class 2
+gap-class : (b : ℕ) → b < 256 → isGap b ≡ eqb (classOf b) 2
 unfolding everything
-within-gap b h s = not-both (λ x. not (isBreak x)) isGap b refl h (ap not s)
+gap-class b h = below-same isGap (λ x. eqb (classOf x) 2) 256 b refl h
+
+-- which no byte but a break has
+within-gap : (b : ℕ) → b < 256 → isBreak b ≡ false → eqb (classOf b) 2 ≡ false
+unfolding everything
+within-gap b h s = not-both (λ x. not (isBreak x)) (λ x. eqb (classOf x) 2) b refl h (ap not s)
+
+-- a message begins as after a pause
+pub start-class : (m : List ℕ) → classBefore m 0 ≡ 3
+unfolding everything byteBefore
+start-class m = refl
 
 -- a hard boundary stands only before a word's first letter
-gap-break : (g h y : Bool) → ((g || h) && (g && y)) ≡ (g && y)
-gap-break true h y = refl
-gap-break false true y = refl
-gap-break false false y = refl
+pub boundary-initial : {t m : List ℕ} {i k q : ℕ} → Before t m i k → Told k q → (initial q && hardBefore m i) ≡ hardBefore m i
+unfolding hardBefore
+boundary-initial {k = k} e w = rw (w .first, ← e .class) (⊎-elim (λ d. rw (eqb-true k 2 d)) (λ d. rw d (and-false (isBreakClass k))) (yes-or (eqb k 2)))
 
-pub boundary-initial : {m : List ℕ} {i p q : ℕ} → ByteBefore m i p → Told p q → (initial q && hardBefore m i) ≡ hardBefore m i
-unfolding hardBefore isBreak isGap
-boundary-initial {m} {i} e t =
-    let b = byteBefore m i in
-    rw (t .first, e .byte) (gap-break (eqb b gap) (eqb b pause) (hardEnd (small (byteBefore m (i - 2))) (small (byteBefore m (i - 1)))))
-
--- consonants and signs are the classes from 4 to 9
-letters-class : (b : ℕ) → b < 256 → (isConsonant (small b) || isSign (small b)) ≡ between 4 9 (classOf b)
+-- е ё ю я are class 11, and и is class 12
+glide-class : (b : ℕ) → b < 256 → (among («е» ∷ «ё» ∷ «ю» ∷ «я» ∷ []) (small b) ≡ eqb (classOf b) 11) × (eqb (small b) «и» ≡ eqb (classOf b) 12)
 unfolding everything
-letters-class b h = below-same (λ x. isConsonant (small x) || isSign (small x)) (λ x. between 4 9 (classOf x)) 256 b refl h
-
--- ь is no break and no mark
-sign-letter : (b : ℕ) → b < 256 → eqb (small b) «ь» ≡ true → (isBreak b ≡ false) × (isMark b ≡ false)
-unfolding everything
-sign-letter b h e = (not-both (λ x. eqb (small x) «ь») isBreak b refl h e, not-both (λ x. eqb (small x) «ь») isMark b refl h e)
-
--- at the start of the message no word ends
-start-hard : hardEnd 0 0 ≡ hardEnd (small pause) (small pause)
-unfolding everything
-start-hard = refl
-
--- е ё ю я are class 11
-iotated-class : (b : ℕ) → b < 256 → among («е» ∷ «ё» ∷ «ю» ∷ «я» ∷ []) (small b) ≡ eqb (classOf b) 11
-unfolding everything
-iotated-class b h = below-same (λ x. among («е» ∷ «ё» ∷ «ю» ∷ «я» ∷ []) (small x)) (λ x. eqb (classOf x) 11) 256 b refl h
-
--- and и is class 12
-i-class : (b : ℕ) → b < 256 → eqb (small b) «и» ≡ eqb (classOf b) 12
-unfolding everything
-i-class b h = below-same (λ x. eqb (small x) «и») (λ x. eqb (classOf x) 12) 256 b refl h
+glide-class b h = (below-same (λ x. among («е» ∷ «ё» ∷ «ю» ∷ «я» ∷ []) (small x)) (λ x. eqb (classOf x) 11) 256 b refl h, below-same (λ x. eqb (small x) «и») (λ x. eqb (classOf x) 12) 256 b refl h)
 
 module _ (m : List ℕ) (steady : Steady m) where
-  -- the byte before a place is a byte
-  before-small : (i : ℕ) → byteBefore m i < 256
-  unfolding byteBefore
-  before-small zero = omega arith
-  before-small (suc i) = steady .bytes i
-
-  -- it tells the last letter of the word
-  pub told-at : (i : ℕ) → i ≤ length m → Told (byteBefore m i) (leftAt m i .p)
-  unfolding leftAt byteBefore letterOf isBreak
+  -- the class of the byte before a place tells the last letter of the word
+  pub told-at : (i : ℕ) → i ≤ length m → Told (classBefore m i) (leftAt m i .p)
+  unfolding leftAt stepLeft byteBefore isBreak
   told-at zero h = told-break pause (omega arith) refl
-  told-at (suc i) h = by (isBreak b) refl (isMark b) refl
-    where
-      b : ℕ
-      b = getD m i 0
+  told-at (suc i) h =
+      let b = getD m i 0 in
+      let t = steady .bytes i in
+      let P : Left → Type 0 = λ l. Told (classOf b) (l .p) in
+      cond-by P (isBreak b) (told-break b t) (λ s. cond-by P (isMark b) (λ k. told-mark b k _ (vowel-before m steady i h k)) (λ k. told-letter b t (letter-class b t s k (steady .named i h))))
 
-      by : (s : Bool) → isBreak b ≡ s → (k : Bool) → isMark b ≡ k → Told b (leftAt m (suc i) .p)
-      by true s k e = rw (left-break m i h s) (told-break b (steady .bytes i) s)
-      by false s true e = rw (left-mark m i h e) (told-mark b e (leftAt m i .p) (vowel-before m steady i h e))
-      by false s false e = rw (left-letter m i h s e) (told-letter b (steady .bytes i) (letter-class b (steady .bytes i) s e (steady .named i h)))
-
-  -- its class tells whether that is a consonant or a sign
-  letters-raw : (i : ℕ) → i ≤ length m → (isConsonant (leftAt m i .p) || isSign (leftAt m i .p)) ≡ between 4 9 (classBefore m i)
-  letters-raw i h = let t = told-at i h in rw (t .consonant, t .sign) (letters-class (byteBefore m i) (before-small i))
-
-  -- so whether a syllable after it is covered
-  pub cover-raw : (i : ℕ) → i ≤ length m → coverAfter (leftAt m i .p) ≡ coverClass (classBefore m i)
-  unfolding coverAfter
-  cover-raw i h = rw (letters-raw i h)
-
-  -- whether it is a sign
-  pub sign-raw : (i : ℕ) → i ≤ length m → isSign (leftAt m i .p) ≡ isSignClass (classBefore m i)
-  unfolding signByte
-  sign-raw i h = told-at i h .sign ∙ by-class (byteBefore m i) (before-small i) .sign
-
-  -- the two bytes before a place tell whether the word before it ends hard
-  end-raw : (i : ℕ) → i ≤ length m → hardEnd (leftAt m i .q) (leftAt m i .p) ≡ hardEnd (small (byteBefore m (i - 1))) (small (byteBefore m i))
+  -- the classes of the two bytes before a place tell whether the word before it ends hard
+  end-raw : (i : ℕ) → i ≤ length m → hardEnd (leftAt m i .q) (leftAt m i .p) ≡ cond (eqb (classBefore m i) 5) (eqb (classBefore m (i - 1)) 6) (between 6 8 (classBefore m i))
   unfolding leftAt byteBefore hardEnd
-  end-raw zero h = start-hard
+  end-raw zero h = rw (← or-assoc, told-at zero h .hard, start-class m)
   end-raw (suc i) h =
+      let b = getD m i 0 in
       let k = told-at (suc i) h in
+      let c = by-class b (steady .bytes i) in
       let e : suc i - 1 ≡ i = omega arith in
-      rw (← or-assoc, ← or-assoc, k .hard, k .softSign, e) (by (eqb (small b) «ь») refl)
-    where
-      b : ℕ
-      b = getD m i 0
-
-      x : Bool
-      x = isHardOrPaired (small b)
-
-      by : (t : Bool) → eqb (small b) «ь» ≡ t → (x || (t && isHardOnly (leftAt m (suc i) .q))) ≡ (x || (t && isHardOnly (small (byteBefore m i))))
-      by true d = let l = sign-letter b (steady .bytes i) d in rw (left-letter m i h (l .0) (l .1), told-at i (omega arith) .hardOnly)
-      by false d = refl
+      rw (← or-assoc, k .hard, k .softSign, e)
+      (⊎-elim (λ d. let f = eqb-true (classOf b) 5 d in rw (f, left-letter m i h (rw f at (c .break)) (rw f at (c .mark)), told-at i (omega arith) .hardOnly))
+      (λ d. rw d (or-false (between 6 8 (classOf b)))) (yes-or (eqb (classOf b) 5)))
 
   -- before a mark stands a vowel, and no boundary
   mark-soft : (i : ℕ) → i < length m → isMark (getD m i 0) ≡ true → leftAt m i .hard ≡ false
@@ -157,38 +117,33 @@ module _ (m : List ℕ) (steady : Steady m) where
 
   -- whether a hard boundary stands before the place
   pub hard-raw : (i : ℕ) → i ≤ length m → leftAt m i .hard ≡ hardBefore m i
-  unfolding leftAt byteBefore hardBefore isGap
-  hard-raw zero h = refl
-  hard-raw (suc i) h = by (isBreak b) refl (isMark b) refl
-    where
-      b : ℕ
-      b = getD m i 0
-
-      by : (s : Bool) → isBreak b ≡ s → (k : Bool) → isMark b ≡ k → leftAt m (suc i) .hard ≡ hardBefore m (suc i)
-      by true s k e =
-          let x : suc i - 1 ≡ i = omega arith in
-          let y : suc i - 2 ≡ i - 1 = omega arith in
-          rw (left-break m i h s, end-raw i (omega arith), x, y)
-      by false s true e = rw (left-mark m i h e, mark-soft i h e, within-gap b (steady .bytes i) s)
-      by false s false e = rw (left-letter m i h s e, within-gap b (steady .bytes i) s)
+  unfolding leftAt stepLeft byteBefore hardBefore
+  hard-raw zero h = rw (start-class m)
+  hard-raw (suc i) h =
+      let b = getD m i 0 in
+      let t = steady .bytes i in
+      let x : suc i - 1 ≡ i = omega arith in
+      let y : suc i - 2 ≡ i - 1 = omega arith in
+      let P : Left → Type 0 = λ l. l .hard ≡ hardBefore m (suc i) in
+      cond-by P (isBreak b) (λ s. rw (gap-class b t, end-raw i (omega arith), x, y)) (λ s. cond-by P (isMark b) (λ k. rw (mark-soft i h k, within-gap b t s)) (λ k. rw (within-gap b t s)))
 
   -- whether a syllable is left incomplete after it
   pub incomplete-raw : (i : ℕ) → i ≤ length m → incomplete (leftAt m i .p) ≡ cond (between 4 9 (classBefore m i)) (7 ∷ []) []
   unfolding incomplete
-  incomplete-raw i h = rw (letters-raw i h)
+  incomplete-raw i h = rw (told-at i h .covers)
 
   -- the syllable of the letter at place i
   pub syllable-raw : (i : ℕ) → i < length m
       → syllableOf (factsAt m i) (leftAt m i .p) (letterOf m i) (wordAt m (suc i))
       ≡ syllableBy (classBefore m i) (levelBy (beginsWithMark (drop (suc i) m)) (nextStressed (wordAt m (suc i))) (markedAt m i))
-  unfolding syllableOf levelOf letterOf levelBy
-  syllable-raw i h = rw (cover-raw i (omega arith))
+  unfolding syllableOf coverAfter levelOf letterOf levelBy
+  syllable-raw i h = rw (told-at i (omega arith) .covers)
 
   -- whether the vowel there has a glide
   pub glide-raw : (i : ℕ) → i < length m → vowelByte (getD m i 0) ≡ true → (cover : Cover)
       → glides (leftAt m i .p) cover (small (getD m i 0)) ≡ glideBy (classOf (getD m i 0)) cover (classBefore m i)
   unfolding glides
-  glide-raw i h v cover = let t = steady .bytes i in rw (sign-raw i (omega arith), iotated-class (getD m i 0) t, i-class (getD m i 0) t)
+  glide-raw i h v cover = let k = glide-class (getD m i 0) (steady .bytes i) in rw (told-at i (omega arith) .sign, k .0, k .1)
 
 -- are the codes of a table at most n?
 abbrev lows : ℕ → List Entry → Bool
@@ -199,23 +154,7 @@ lows n ((x gives c) ∷ es) = leb c n && lows n es
 entry-low : (n : ℕ) (es : List Entry) (b : ℕ) → lows n es ≡ true → leb (entry es b) n ≡ true
 unfolding entry
 entry-low n [] b h = le-leb 0 n (omega arith)
-entry-low n ((x gives c) ∷ es) b h = by (eqb b x) (leb c n) refl h (entry-low n es b)
-  where
-    by : (t k : Bool) → leb c n ≡ k → (k && lows n es) ≡ true → (lows n es ≡ true → leb (entry es b) n ≡ true) → leb (cond t c (entry es b)) n ≡ true
-    by true true e h′ r = e
-    by true false e h′ r = absurd (false≢true h′)
-    by false true e h′ r = r h′
-    by false false e h′ r = absurd (false≢true h′)
-
--- a choice is at most n if both are
-low-cond : (t : Bool) (x y n : ℕ) → leb (cond t x y) n ≡ cond t (leb x n) (leb y n)
-low-cond true x y n = refl
-low-cond false x y n = refl
-
--- a choice of the same
-pub cond-same : {A : Type 0} (t : Bool) (k : A) → cond t k k ≡ k
-cond-same true k = refl
-cond-same false k = refl
+entry-low n ((x gives c) ∷ es) b h = let a = and-eq-true-iff (leb c n) (lows n es) .0 h in cond-both (λ k. leb k n ≡ true) (eqb b x) (a .0) (entry-low n es b (a .1))
 
 -- the vowels' codes are the first 13
 vowel-low : (hard : Bool) (p : ℕ) (s : Syllable) (b : ℕ) → vowelSound hard p s b ≤ 13
@@ -223,9 +162,9 @@ unfolding vowelSound byLevel byStress
 vowel-low hard p s b = by (s .level) refl
   where
     by : (level : Level) → s .level ≡ level → vowelSound hard p s b ≤ 13
-    by Stressed e = rw e (leb-true _ 13 (entry-low 13 _ b (simp (low-cond, cond-same))))
-    by First e = rw e (leb-true _ 13 (entry-low 13 _ b (simp (low-cond, cond-same))))
-    by Second e = rw e (leb-true _ 13 (entry-low 13 _ b (simp (low-cond, cond-same))))
+    by Stressed e = rw e (leb-true _ 13 (entry-low 13 _ b (simp (cond-app (λ (c : ℕ). leb c 13), cond-same))))
+    by First e = rw e (leb-true _ 13 (entry-low 13 _ b (simp (cond-app (λ (c : ℕ). leb c 13), cond-same))))
+    by Second e = rw e (leb-true _ 13 (entry-low 13 _ b (simp (cond-app (λ (c : ℕ). leb c 13), cond-same))))
 
 -- none of which voices or devoices, so that a vowel leaves an obstruent before it as written
 pub vowel-tone : (hard : Bool) (p : ℕ) (s : Syllable) (b : ℕ) → toneBefore (vowelSound hard p s b) ≡ asWritten
@@ -235,7 +174,7 @@ vowel-tone hard p s b = below-same toneBefore (λ _. asWritten) 14 (vowelSound h
 -- every code is below 64, so that it is a place of the table: a consonant's hard one, which has another after it
 hard-low : (tone : Tone) (b : ℕ) → tonedCode tone b ≤ 56
 unfolding tonedCode toned writtenCode voicedCode voicelessCode
-hard-low tone b = leb-true _ _ (rw low-cond (rw (by tone, entry-low 56 _ b refl, cond-same)))
+hard-low tone b = leb-true _ _ (cond-both (λ k. leb k 56 ≡ true) (isObstruent b) (by tone) (entry-low 56 _ b refl))
   where
     by : (t : Tone) → leb (toned t b (writtenCode b)) 56 ≡ true
     by voiced = entry-low 56 _ b refl
@@ -245,36 +184,21 @@ hard-low tone b = leb-true _ _ (rw low-cond (rw (by tone, entry-low 56 _ b refl,
 -- so any
 pub consonant-small : (b : ℕ) (soft : Bool) (tone : Tone) (c : ℕ) → consonantCode b soft tone c < 64
 unfolding consonantCode tonedCode
-consonant-small b soft tone c = by (isSoft (record { letter = b; softened = soft; code = tonedCode tone b }) c) (hard-low tone b)
-  where
-    by : (t : Bool) → tonedCode tone b ≤ 56 → cond t (suc (tonedCode tone b)) (tonedCode tone b) < 64
-    by true h = omega arith
-    by false h = omega arith
+consonant-small b soft tone c =
+    let h = hard-low tone b in
+    let x = tonedCode tone b in
+    cond-both (λ k. k < 64) (isSoft (record { letter = b; softened = soft; code = x }) c) {x = suc x} {y = x} (omega arith) (omega arith)
 
 -- the first of a word
 fused-small : (hard : Bool) (facts : Facts) (next : Bool) (p : ℕ) (w : List Letter) → firstCode (fusedFrom hard facts next p w) < 64
 unfolding fusedFrom firstCode letterCodes vowelCodes
 fused-small hard facts next p [] = omega arith
-fused-small hard facts next p (l ∷ w) = by (elides p (l .byte) w) (isSign (l .byte)) (isVowel (l .byte)) (glides p (s .cover) (l .byte)) (fused-small false facts next (l .byte) w)
-  where
-    s : Syllable
-    s = syllableOf facts p l w
-
-    t : List ℕ
-    t = fusedFrom false facts next (l .byte) w
-
-    v : ℕ
-    v = vowelSound hard p s (l .byte)
-
-    c : ℕ
-    c = consonantCode (l .byte) (softens (firstByte w)) (toneOf next t) (firstCode t)
-
-    by : (e x y g : Bool) → firstCode t < 64 → firstCode (cond e [] (cond x [] (cond y (cond g (J ∷ v ∷ []) (v ∷ [])) (c ∷ []))) ++ t) < 64
-    by true x y g r = r
-    by false true y g r = r
-    by false false true true r = omega arith
-    by false false true false r = omega (arith, vowel-low hard p s (l .byte))
-    by false false false g r = consonant-small (l .byte) (softens (firstByte w)) (toneOf next t) (firstCode t)
+fused-small hard facts next p (l ∷ w) =
+    let t = fusedFrom false facts next (l .byte) w in
+    let r = fused-small false facts next (l .byte) w in
+    let s = syllableOf facts p l w in
+    let P : List ℕ → Type 0 = λ x. firstCode (x ++ t) < 64 in
+    cond-both P (elides p (l .byte) w) r (cond-both P (isSign (l .byte)) r (cond-both P (isVowel (l .byte)) (cond-both P (glides p (s .cover) (l .byte)) (omega arith) (omega (arith, vowel-low hard p s (l .byte)))) (consonant-small (l .byte) (softens (firstByte w)) (toneOf next t) (firstCode t))))
 
 -- that after a place
 pub sound-small : (m : List ℕ) (i : ℕ) → soundAt m i < 64

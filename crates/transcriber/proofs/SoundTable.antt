@@ -2,7 +2,7 @@
 use Rattle.laws.proofs.Kit.{ℕ, _+_, _*_, _%_, _<_, _≤_, _≡_, refl, true, cond, List, [], _∷_, arith, eqb, leb, getD, eqb-true, leb-true}
 use Rattle.spec.specs.{Letters.small, Letters.isConsonant, Refusals.consonantByte, Codes.isSound, Codes.isVoicing}
 use Rattle.message.proofs.{Bytes.below-same, Bytes.pairs-same, Computed.everything}
-use Rattle.transcriber.specs.Sounds.{toneBy, codeBy, codeBefore, Before, alike, rowIn, softRow, soundRow, codeRow, firstRows, soundTable}
+use Rattle.transcriber.specs.Sounds.{toneBy, codeBy, codeBefore, Heard, alike, rowIn, softRow, soundRow, codeRow, firstRows, soundTable}
 use Rattle.transcriber.proofs.Raw.{where-same}
 
 -- every definition of the table
@@ -41,7 +41,7 @@ pub record Read (t : List ℕ) (b s : ℕ) : Type 0 where
   pub sound : isSound (codeBefore (small b) s) ≡ true
 
 -- that is so
-pub code-read : (t : List ℕ) (b s : ℕ) → t ≡ soundTable → b < 256 → Before b s → Read t b s
+pub code-read : (t : List ℕ) (b s : ℕ) → t ≡ soundTable → b < 256 → Heard b s → Read t b s
 unfolding consonantByte
 code-read t b s e h k =
     let l = consonant-letter b h (k .letter) in

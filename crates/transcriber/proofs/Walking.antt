@@ -4,7 +4,7 @@ use Rattle.spec.specs.{Letters.between, Letters.small, Letters.firstByte, Lette
 use Rattle.message.specs.{Classes.classOf, Classes.isBreakClass, Classes.isSignClass, Classes.isConsonantClass, Classes.isVowelClass, Classes.elidedAt, Fused.toneBefore, Fused.vowelCodes, Fused.consonantCode, Fused.letterCodes, Places.Steady, Places.leftAt, Places.letterOf, Places.markBefore, Places.tapeAt, Places.wordAt, Places.toneAt, Places.soundAt, Places.codesAt, Places.toneAfter, Places.soundAfter}
 use Rattle.message.proofs.{Bytes.below, Bytes.by-class, Computed.everything, Left.mark-within, StepTable.class-spoken, Silent.elided-at, Tail.tape-letter, Tail.tape-mark, Tail.tape-break, Tail.word-letter, Tail.word-mark, Tail.word-break, Tail.word-end, Tail.tone-letter, Tail.sound-letter, Tail.tone-mark, Tail.sound-mark, Tail.tone-break, Tail.sound-break, Tail.tone-end, Tail.sound-end}
 use Rattle.laws.proofs.{Classes.cond-same, Codes.vowel-sound, MarkIndex.sound-range}
-use Rattle.transcriber.specs.{Sounds.byteBefore, Sounds.AtBoundary, Sounds.rowOf, Sounds.syllableBy, Sounds.glideBy, Sounds.hardBefore, Sounds.toneBy, Sounds.codeBy, Sounds.Tells, Sounds.codeBefore, Sounds.Before, Sounds.soundTable, Walk.VowelAt, Walk.syllableAt, Walk.Stands, Walk.Sung, Walk.sungCodes, Walk.Put, Walk.pieceAt, Walk.Ready, Walk.ReadyFor, Walk.Stepped, Levels.farLevel, Levels.levelBefore, Levels.LevelsAt, declared.Right.Right, declared.Vowel.Vowel}
+use Rattle.transcriber.specs.{Sounds.byteBefore, Sounds.AtBoundary, Sounds.rowOf, Sounds.syllableBy, Sounds.glideBy, Sounds.hardBefore, Sounds.toneBy, Sounds.codeBy, Sounds.Tells, Sounds.codeBefore, Sounds.Heard, Sounds.soundTable, Walk.VowelAt, Walk.syllableAt, Walk.Stands, Walk.Sung, Walk.sungCodes, Walk.Put, Walk.pieceAt, Walk.Ready, Walk.ReadyFor, Walk.Stepped, Levels.farLevel, Levels.levelBefore, Levels.LevelsAt, declared.Right.Right, declared.Vowel.Vowel}
 use Rattle.transcriber.proofs.{Putting.put-none, Levelling.levels-syllable, Levelling.levels-letter, Levelling.levels-vowel, Levelling.levels-mark, Levelling.levels-break, Levelling.levels-end, SoundTable.code-read, Raw.where-same, Raw.told-at, Raw.hard-raw, Raw.glide-raw}
 
 -- 64 more can be told from less
@@ -196,7 +196,7 @@ module _ {m out : List ℕ} {i c : ℕ} {r : Right} (a : ReadyFor isConsonantCla
   spelt = spelt-by a false false (λ _. false) refl
 
   -- its code can be read
-  pub consonant-before : Before (getD m i 0) (r .sound)
+  pub consonant-before : Heard (getD m i 0) (r .sound)
   consonant-before = record { letter = consonant; sound = a .ready .stands .sound .low }
 
   -- a silent one is not heard

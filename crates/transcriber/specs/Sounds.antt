@@ -14,7 +14,7 @@ use Rattle.spec.specs.Codes.{А*, А1, А2, Э2, Б, Б', В', Г, Г', Х1, Х
 use Rattle.spec.specs.Vowels.{initial, hardEnd, vowelSound, bare, writtenCode}
 use Rattle.message.specs.Fused.{toneBefore, consonantCode}
 use Rattle.spec.specs.Voicing.{Tone, voiced, voiceless, asWritten, toned}
-use Rattle.message.specs.Classes.{classOf, isSignClass, tabulate}
+use Rattle.message.specs.Classes.{classOf, classes, isBreakClass, isSignClass, tabulate}
 use Rattle.spec.specs.declared.Cover.{Cover}
 use Rattle.spec.specs.declared.Cover.the-variants.{Bare, Covered}
 use Rattle.spec.specs.declared.Level.{Level}
@@ -25,47 +25,41 @@ unfoldable pub byteBefore : List ℕ → ℕ → ℕ
 byteBefore m zero = pause
 byteBefore m (suc i) = getD m i 0
 
--- it is p
-pub record ByteBefore (m : List ℕ) (i p : ℕ) : Type 0 where
-  pub within : i ≤ length m
-  pub byte : p ≡ byteBefore m i
-
 -- its class
 abbrev pub classBefore : List ℕ → ℕ → ℕ
 classBefore m i = classOf (byteBefore m i)
+
+-- that is k, by the table t
+pub record Before (t m : List ℕ) (i k : ℕ) : Type 0 where
+  pub table : t ≡ classes
+  pub within : i ≤ length m
+  pub class : k ≡ classBefore m i
 
 -- a letter of class T or P
 abbrev pub isHardOrPaired : ℕ → Bool
 isHardOrPaired q = isHardOnly q || isPaired q
 
--- What the byte p before a place tells of the letter q before it, 0 for none: p is q, small or capital, or a break where there is none, or the mark of a vowel.
-pub record Told (p q : ℕ) : Type 0 where
-  pub first : initial q ≡ isBreak p
-  pub hardOnly : isHardOnly q ≡ isHardOnly (small p)
-  pub softOnly : isSoftOnly q ≡ isSoftOnly (small p)
-  pub consonant : isConsonant q ≡ isConsonant (small p)
-  pub sign : isSign q ≡ isSign (small p)
-  pub hard : isHardOrPaired q ≡ isHardOrPaired (small p)
-  pub softSign : eqb q «ь» ≡ eqb (small p) «ь»
+-- What the class k of the byte before a place tells of the letter q before it, 0 for none: the byte is q, small or capital, or a break where there is none, or the mark of a vowel.
+pub record Told (k q : ℕ) : Type 0 where
+  pub first : initial q ≡ isBreakClass k
+  pub hardOnly : isHardOnly q ≡ eqb k 6
+  pub softOnly : isSoftOnly q ≡ eqb k 9
+  pub covers : (isConsonant q || isSign q) ≡ between 4 9 k
+  pub sign : isSign q ≡ isSignClass k
+  pub hard : isHardOrPaired q ≡ between 6 8 k
+  pub softSign : eqb q «ь» ≡ eqb k 5
 
--- r is what f says of every letter that the byte p before tells
-abbrev pub After : ℕ → (ℕ → ℕ) → ℕ → Type 0
-After p f r = (q : ℕ) → Told p q → r ≡ f q
+-- r is what a row says of syllable s after every letter that the class k tells; where the row's line does not ask for the boundary, hard is all one
+abbrev pub ByRow : (Bool → ℕ → Syllable → ℕ) → Bool → ℕ → Syllable → ℕ → Type 0
+ByRow row hard k s r = (q : ℕ) → Told k q → r ≡ row hard q s
 
--- the sound of a row whose line does not ask for the boundary, and of one whose line does
-abbrev pub Anyway : (Bool → ℕ → Syllable → ℕ) → ℕ → Syllable → ℕ → Type 0
-Anyway row p s r = (hard : Bool) → After p (λ q. row hard q s) r
-
+-- the same after the byte p
 abbrev pub AtBoundary : (Bool → ℕ → Syllable → ℕ) → Bool → ℕ → Syllable → ℕ → Type 0
-AtBoundary row hard p s r = After p (λ q. row hard q s) r
+AtBoundary row hard p s r = ByRow row hard (classOf p) s r
 
 -- the row of the vowel b
 abbrev pub rowOf : ℕ → Bool → ℕ → Syllable → ℕ
 rowOf b hard q s = vowelSound hard q s b
-
--- level 2 of rows а and о
-abbrev pub secondА : ℕ → ℕ
-secondА q = cond (initial q) А1 (cond (isSoftOnly q) Э2 А2)
 
 -- a syllable is covered after a consonant or a sign
 abbrev pub coverClass : ℕ → Cover
@@ -81,7 +75,8 @@ glideBy c cover k = (eqb c 11 && (bare cover || isSignClass k)) || (eqb c 12 && 
 
 -- a hard boundary stands before place i: a gap there, and before it the end of a word, which the two bytes before tell
 unfoldable pub hardBefore : List ℕ → ℕ → Bool
-hardBefore m i = isGap (byteBefore m i) && hardEnd (small (byteBefore m (i - 2))) (small (byteBefore m (i - 1)))
+hardBefore m i =
+    eqb (classBefore m i) 2 && cond (eqb (classBefore m (i - 1)) 5) (eqb (classBefore m (i - 2)) 6) (between 6 8 (classBefore m (i - 1)))
 
 -- How the code says by one number what stands right of a letter: the code of the next sound of its word, or 57 or 0 where it has none and the next word voices an obstruent or does not; and 64 more where the next letter palatalizes.
 -- What an obstruent is before it
@@ -104,7 +99,7 @@ abbrev pub codeBefore : ℕ → ℕ → ℕ
 codeBefore b s = consonantCode b (leb 64 s) (toneBy (s % 64)) (codeBy (s % 64))
 
 -- what a consonant's code is read from
-pub record Before (b s : ℕ) : Type 0 where
+pub record Heard (b s : ℕ) : Type 0 where
   pub letter : consonantByte b ≡ true
   pub sound : s < 128
 

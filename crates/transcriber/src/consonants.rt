@@ -4,7 +4,7 @@ ghost use mathlib.Core.Bool.{cond};
 ghost use Prim.Native.Nat.{_+_, _%_};
 ghost use Rattle.spec.specs.Codes.{isVoicing};
 ghost use Rattle.spec.specs.Letters.{small};
-ghost use Rattle.transcriber.specs.Sounds.{Before, codeBefore, codeBy, soundTable};
+ghost use Rattle.transcriber.specs.Sounds.{Heard, codeBefore, codeBy, soundTable};
 use crate::tables;
 use crate::tables::SoundTable;
 
@@ -18,7 +18,7 @@ pub const PALATALIZING: usize = 64;
 
 // The code of the consonant b, a small letter or a capital, before a sound.
 pub fn consonant_code(b: u8, sound: usize, s: &SoundTable) -> u8
-    requires { ⌜ (now s ≡ soundTable) × Before b sound ⌝ }
+    requires { ⌜ (now s ≡ soundTable) × Heard b sound ⌝ }
     ensures { λ r. ⌜ r ≡ codeBefore (small b) sound ⌝ }
 {
     let row = s[tables::ROWS + sound] as usize;

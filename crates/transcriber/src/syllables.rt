@@ -2,7 +2,7 @@
 ghost use mathlib.Core.Path.{_≡_};
 ghost use Rattle.spec.specs.Letters.{between};
 ghost use Rattle.spec.specs.Syllables.{nameOf};
-ghost use Rattle.transcriber.specs.Sounds.{coverClass, syllableBy};
+ghost use Rattle.transcriber.specs.Sounds.{syllableBy};
 use message::classes;
 use spec::Cover;
 use spec::Level;
@@ -17,22 +17,20 @@ pub fn is_consonant_or_sign(k: usize) -> bool
     (classes::HARD_SIGN <= k) & (k <= classes::SOFT_ONLY)
 }
 
-// A syllable is covered where a consonant or a sign stands before its vowel.
-fn cover_class(k: usize) -> Cover
-    ensures { λ r. ⌜ r ≡ coverClass k ⌝ }
-{
-    if is_consonant_or_sign(k) {
-        return Cover::Covered;
-    }
-    Cover::Bare
-}
-
-// The syllable of a vowel of this level after a byte of class k.
+// The syllable of a vowel of this level after a byte of class k: it is covered where a consonant or a sign stands before the vowel.
 pub fn syllable_by(k: usize, level: Level) -> Syllable
     ensures { λ r. ⌜ r ≡ syllableBy k level ⌝ }
 {
-    let cover = cover_class(k);
-    Syllable { cover, level }
+    if is_consonant_or_sign(k) {
+        return Syllable {
+            cover: Cover::Covered,
+            level,
+        };
+    }
+    Syllable {
+        cover: Cover::Bare,
+        level,
+    }
 }
 
 // The name of a syllable with a vowel.

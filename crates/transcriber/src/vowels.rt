@@ -1,44 +1,29 @@
-// The sounds of vowels (paper 01, pass 3): an arm for each row. A row that asks of the letter before, or of the boundary, is a function that asks only where its line does.
-// The letter before is told by the byte before, p: a break at the start of a word, a mark after a stressed vowel.
+// The sounds of vowels (paper 01, pass 3): an arm for each row. A row that asks of the letter before, or of the boundary, is a function: the answer chooses the sounds, and the level one of them.
+// The letter before is told by the class of the byte before, k: that of a break at the start of a word, of a mark after a stressed vowel.
 ghost use mathlib.Core.Path.{_≡_};
-ghost use mathlib.Core.Bool.{true, cond};
-ghost use Rattle.spec.specs.Letters.{small, isBreak, isSoftOnly};
-ghost use Rattle.spec.specs.Refusals.{vowelByte};
-ghost use Rattle.spec.specs.Vowels.{byStress, rowА, rowО, rowЭ, rowЕ, rowЯ, rowИ};
+ghost use mathlib.Core.Bool.{false, cond};
+ghost use Rattle.spec.specs.Letters.{small};
+ghost use Rattle.spec.specs.Vowels.{byLevel, byStress, rowА, rowО, rowЭ, rowЕ, rowЯ, rowИ};
 ghost use Rattle.spec.specs.Codes.{J};
-ghost use Rattle.message.specs.Classes.{classes, isSignClass};
-ghost use Rattle.transcriber.specs.Sounds.{After, Anyway, AtBoundary, ByteBefore, glideBy, hardBefore, rowOf, secondА};
+ghost use Rattle.message.specs.Classes.{classes, isBreakClass, isSignClass};
+ghost use Rattle.transcriber.specs.Sounds.{Before, ByRow, glideBy, hardBefore, rowOf};
 ghost use Rattle.transcriber.specs.Walk.{VowelAt, Sung};
 use crate::Vowel;
-use crate::before::byte_before;
+use crate::before::class_before;
 use crate::before::hard_before;
-use crate::before::is_hard_only;
 use crate::codes;
 use crate::syllables::syllable_by;
 use message::alphabet;
 use message::classes;
 use message::classes::ClassTable;
-use message::classify::class_of;
 use spec::Cover;
 use spec::Level;
 use spec::Syllable;
 
-fn is_initial(p: u8) -> bool
-    ensures { λ r. ⌜ r ≡ isBreak p ⌝ }
+fn is_initial(k: usize) -> bool
+    ensures { λ r. ⌜ r ≡ isBreakClass k ⌝ }
 {
-    (p == alphabet::GAP) | (p == alphabet::PAUSE)
-}
-
-// Class Q: ч щ й.
-fn is_soft_only(p: u8) -> bool
-    ensures { λ r. ⌜ r ≡ isSoftOnly (small p) ⌝ }
-{
-    match p {
-        alphabet::CHE | alphabet::CAPITAL_CHE => true,
-        alphabet::SHCHA | alphabet::CAPITAL_SHCHA => true,
-        alphabet::SHORT_I | alphabet::CAPITAL_SHORT_I => true,
-        _ => false,
-    }
+    (classes::GAP <= k) & (k <= classes::PAUSE)
 }
 
 // A row that has one sound for level S, and one for levels 1 and 2.
@@ -53,143 +38,108 @@ fn by_stress(s: Syllable, stressed: u8, other: u8) -> u8
     }
 }
 
-// Rows а and о at level 2.
-fn second_a(p: u8) -> u8
-    ensures { λ r. ⌜ After p secondА r ⌝ }
+// A row that has one sound for each level.
+fn by_level(s: Syllable, stressed: u8, first: u8, second: u8) -> u8
+    ensures { λ r. ⌜ r ≡ byLevel (s .level) stressed first second ⌝ }
 {
-    if is_initial(p) {
-        return codes::A1;
+    let level = s.level;
+    match level {
+        Level::Stressed => stressed,
+        Level::First => first,
+        Level::Second => second,
     }
-    if is_soft_only(p) {
-        return codes::E2;
-    }
-    codes::A2
 }
 
 // Row а: of the letters before it only ч щ й change it.
-fn row_a(s: Syllable, p: u8) -> u8
-    ensures { λ r. ⌜ Anyway rowА p s r ⌝ }
+fn row_a(s: Syllable, k: usize) -> u8
+    ensures { λ r. ⌜ ByRow rowА false k s r ⌝ }
 {
-    let level = s.level;
-    match level {
-        Level::Stressed => codes::A_STRESSED,
-        Level::First => {
-            if is_soft_only(p) {
-                return codes::E1;
-            }
-            codes::A1
-        }
-        Level::Second => second_a(p),
+    if k == classes::SOFT_ONLY {
+        return by_level(s, codes::A_STRESSED, codes::E1, codes::E2);
     }
+    if is_initial(k) {
+        return by_level(s, codes::A_STRESSED, codes::A1, codes::A1);
+    }
+    by_level(s, codes::A_STRESSED, codes::A1, codes::A2)
 }
 
 // Row о, which sounds as а where it is not stressed, but for level 1 after ч щ й.
-fn row_o(s: Syllable, p: u8) -> u8
-    ensures { λ r. ⌜ Anyway rowО p s r ⌝ }
+fn row_o(s: Syllable, k: usize) -> u8
+    ensures { λ r. ⌜ ByRow rowО false k s r ⌝ }
 {
-    let level = s.level;
-    match level {
-        Level::Stressed => codes::O_STRESSED,
-        Level::First => codes::A1,
-        Level::Second => second_a(p),
+    if k == classes::SOFT_ONLY {
+        return by_level(s, codes::O_STRESSED, codes::A1, codes::E2);
     }
+    if is_initial(k) {
+        return by_level(s, codes::O_STRESSED, codes::A1, codes::A1);
+    }
+    by_level(s, codes::O_STRESSED, codes::A1, codes::A2)
 }
 
-// Row э: the boundary is asked for only where the vowel is not stressed.
-fn row_e(s: Syllable, p: u8, m: &[u8], i: usize) -> u8
-    requires { ⌜ ByteBefore (now m) i p ⌝ }
-    ensures { λ r. ⌜ AtBoundary rowЭ (hardBefore (now (m .entry)) i) p s r ⌝ }
+// Row э: a hard boundary makes it sound as ы where it is not stressed.
+fn row_e(s: Syllable, k: usize, m: &[u8], i: usize, t: &ClassTable) -> u8
+    requires { ⌜ Before (now t) (now m) i k ⌝ }
+    ensures { λ r. ⌜ ByRow rowЭ (hardBefore (now (m .entry)) i) k s r ⌝ }
 {
-    let level = s.level;
-    match level {
-        Level::Stressed => codes::E_STRESSED,
-        Level::First => {
-            if hard_before(m, i, p) {
-                return codes::Y1;
-            }
-            codes::E1
-        }
-        Level::Second => {
-            if hard_before(m, i, p) {
-                return codes::Y1;
-            }
-            codes::E2
-        }
+    if hard_before(m, i, k, t) {
+        return by_level(s, codes::E_STRESSED, codes::Y1, codes::Y1);
     }
+    by_level(s, codes::E_STRESSED, codes::E1, codes::E2)
 }
 
 // Row е: of the letters before it only ж ш ц change it.
-fn row_ie(s: Syllable, p: u8) -> u8
-    ensures { λ r. ⌜ Anyway rowЕ p s r ⌝ }
+fn row_ie(s: Syllable, k: usize) -> u8
+    ensures { λ r. ⌜ ByRow rowЕ false k s r ⌝ }
 {
-    let level = s.level;
-    match level {
-        Level::Stressed => codes::E_STRESSED,
-        Level::First => {
-            if is_hard_only(p) {
-                return codes::Y1;
-            }
-            codes::E1
-        }
-        Level::Second => {
-            if is_initial(p) {
-                return codes::E1;
-            }
-            if is_hard_only(p) {
-                return codes::A2;
-            }
-            codes::E2
-        }
+    if k == classes::HARD_ONLY {
+        return by_level(s, codes::E_STRESSED, codes::Y1, codes::A2);
     }
+    if is_initial(k) {
+        return by_level(s, codes::E_STRESSED, codes::E1, codes::E1);
+    }
+    by_level(s, codes::E_STRESSED, codes::E1, codes::E2)
 }
 
 // Row я: it matters only whether it is initial.
-fn row_ya(s: Syllable, p: u8) -> u8
-    ensures { λ r. ⌜ Anyway rowЯ p s r ⌝ }
+fn row_ya(s: Syllable, k: usize) -> u8
+    ensures { λ r. ⌜ ByRow rowЯ false k s r ⌝ }
 {
-    let level = s.level;
-    match level {
-        Level::Stressed => codes::A_STRESSED,
-        Level::First => codes::E1,
-        Level::Second => {
-            if is_initial(p) {
-                return codes::E1;
-            }
-            codes::E2
-        }
+    if is_initial(k) {
+        return by_level(s, codes::A_STRESSED, codes::E1, codes::E1);
     }
+    by_level(s, codes::A_STRESSED, codes::E1, codes::E2)
 }
 
 // Row и: ж ш ц before it, or a hard boundary, make it sound as ы.
-fn row_i(s: Syllable, p: u8, m: &[u8], i: usize) -> u8
-    requires { ⌜ ByteBefore (now m) i p ⌝ }
-    ensures { λ r. ⌜ AtBoundary rowИ (hardBefore (now (m .entry)) i) p s r ⌝ }
+fn row_i(s: Syllable, k: usize, m: &[u8], i: usize, t: &ClassTable) -> u8
+    requires { ⌜ Before (now t) (now m) i k ⌝ }
+    ensures { λ r. ⌜ ByRow rowИ (hardBefore (now (m .entry)) i) k s r ⌝ }
 {
-    if is_hard_only(p) {
+    if k == classes::HARD_ONLY {
         return by_stress(s, codes::Y_STRESSED, codes::Y1);
     }
-    if hard_before(m, i, p) {
+    if hard_before(m, i, k, t) {
         return by_stress(s, codes::Y_STRESSED, codes::Y1);
     }
     by_stress(s, codes::I_STRESSED, codes::I1)
 }
 
 // The sound of the vowel b, small or capital, of syllable s at place i: an arm for each row.
-pub fn vowel_sound(b: u8, s: Syllable, p: u8, m: &[u8], i: usize) -> u8
-    requires { ⌜ (vowelByte b ≡ true) × ByteBefore (now m) i p ⌝ }
-    ensures { λ r. ⌜ AtBoundary (rowOf (small b)) (hardBefore (now (m .entry)) i) p s r ⌝ }
+pub fn vowel_sound(b: u8, s: Syllable, k: usize, m: &[u8], i: usize, t: &ClassTable) -> u8
+    requires { ⌜ Before (now t) (now m) i k ⌝ }
+    ensures { λ r. ⌜ ByRow (rowOf (small b)) (hardBefore (now (m .entry)) i) k s r ⌝ }
 {
     match b {
-        alphabet::A | alphabet::CAPITAL_A => row_a(s, p),
-        alphabet::O | alphabet::CAPITAL_O => row_o(s, p),
+        alphabet::A | alphabet::CAPITAL_A => row_a(s, k),
+        alphabet::O | alphabet::CAPITAL_O => row_o(s, k),
         alphabet::U | alphabet::CAPITAL_U => by_stress(s, codes::U_STRESSED, codes::U1),
         alphabet::YERU | alphabet::CAPITAL_YERU => by_stress(s, codes::Y_STRESSED, codes::Y1),
-        alphabet::E | alphabet::CAPITAL_E => row_e(s, p, m, i),
-        alphabet::IE | alphabet::CAPITAL_IE => row_ie(s, p),
+        alphabet::E | alphabet::CAPITAL_E => row_e(s, k, m, i, t),
+        alphabet::IE | alphabet::CAPITAL_IE => row_ie(s, k),
         alphabet::IO | alphabet::CAPITAL_IO => codes::O_STRESSED,
         alphabet::YU | alphabet::CAPITAL_YU => by_stress(s, codes::U_STRESSED, codes::U1),
-        alphabet::YA | alphabet::CAPITAL_YA => row_ya(s, p),
-        alphabet::I | alphabet::CAPITAL_I => row_i(s, p, m, i),
+        alphabet::YA | alphabet::CAPITAL_YA => row_ya(s, k),
+        alphabet::I | alphabet::CAPITAL_I => row_i(s, k, m, i, t),
         _ => 0, // no vowel
     }
 }
@@ -219,10 +169,9 @@ pub fn vowel_at(m: &[u8], i: usize, c: usize, level: Level, t: &ClassTable) -> V
     requires { ⌜ (now t ≡ classes) × VowelAt (now m) i c level ⌝ }
     ensures { λ v. ⌜ Sung (now (m .entry)) i v ⌝ }
 {
-    let p = byte_before(m, i);
-    let k = class_of(p, t);
+    let k = class_before(m, i, t);
     let s = syllable_by(k, level);
-    let sound = vowel_sound(m[i], s, p, m, i);
+    let sound = vowel_sound(m[i], s, k, m, i, t);
     let glide = has_glide(c, s, k);
     Vowel { sound, glide }
 }

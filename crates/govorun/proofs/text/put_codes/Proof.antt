@@ -1,40 +1,15 @@
 -- The codes put so far stand in the text, and each turn puts one more.
-use Rattle.laws.proofs.Kit.{_-_, _≤_, arith, add-one, _≡_, length}
-use Rattle.govorun.proofs.Texts.{codes-size, Printed, printed-none, printed-room, printed-more, printed-all}
+use Rattle.laws.proofs.Kit.{suc, _-_, _≤_, arith, add-one, _≡_, length, length-append}
+use Rattle.govorun.specs.Putting.{Put}
+use Rattle.govorun.proofs.Texts.{put-none, put-over, printedTo, to-size, printed-all}
 use Rattle.govorun.proofs.text.put_codes.Statement.{statement}
 use Rattle.govorun.proofs.text.put_codes.Tie as tie
 
 abbrev Inv-loop : tie.InvT-loop
-Inv-loop codes text₀ at₀ i₀ text at i = (i ≤ length codes) × (length text ≡ length text₀) × Printed codes text at i
+Inv-loop codes text₀ at₀ i₀ text at i = (i ≤ length codes) × (length text ≡ length text₀) × Put (printedTo codes i) text₀ text 0 at
 
 abbrev μ-loop : tie.MeasureT-loop
 μ-loop codes text₀ at₀ i₀ text at i = length codes - i
-
-loop-holds : tie.Need-loop-holds Inv-loop μ-loop
-loop-holds c = (omega arith, omega arith, printed-none _ _)
-
-put-code-requires : tie.Need-put-code-requires Inv-loop μ-loop
-put-code-requires c κs =
-    let i = c .before in
-    let l = i .before in
-    let s = l .before .before .before in
-    let r = printed-room _ _ _ _ (l .loop .inv .2) (i .loop-test .taken) in
-    let z = codes-size (s .args .codes .now) (λ j. omega (arith, l .before .before .shared-slice-known .given j)) in
-    (i .loop-test .taken, omega (arith, r, z, l .loop .inv .1, s .pre))
-
-loop-again : tie.Need-loop-again Inv-loop μ-loop
-loop-again c =
-    let p = c .before .before in
-    let i = p .before .before in
-    let l = i .before in
-    (omega arith, omega arith, rw (add-one (l .loop .i)) (printed-more _ _ _ _ (l .loop .inv .2) _ _ (i .loop-test .taken) (p .put-code .ensures)))
-
-returns : tie.Need-returns Inv-loop μ-loop
-returns c =
-    let l = c .before in
-    let s = l .before .before .before in
-    let p = printed-all _ _ _ _ (l .loop .inv .2) (s .args .text .now) (c .loop-test .left) in
-    (p, omega (arith, p .place, codes-size (s .args .codes .now) (λ j. omega (arith, l .before .before .shared-slice-known .given j))))
 
 pub put-codes-spec : {M : Type 1} → statement M
 put-codes-spec =
@@ -42,10 +17,21 @@ put-codes-spec =
     (tie.spec
     Inv-loop
     μ-loop
-    loop-holds
-    put-code-requires
+    (λ c. (omega arith, omega arith, put-none _ _))
+    (λ c κs.
+    let i = c .before in
+    let l = i .before in
+    let s = l .before .before .before in
+    let z = to-size (s .args .codes .now) (λ j. omega (arith, l .before .before .shared-slice-known .given j)) (suc (l .loop .i)) in
+    (i .loop-test .taken, omega (arith, rw length-append at z, l .loop .inv .1, l .loop .inv .2 .place, s .pre)))
+    (λ c. omega arith) (λ c. omega arith)
+    (λ c.
+    let p = c .before .before in
+    let l = p .before .before .before in
+    (omega arith, omega arith, rw (add-one (l .loop .i)) (put-over (l .loop .inv .2) (p .put-code .ensures))))
     (λ c. omega arith)
-    (λ c. omega arith)
-    loop-again
-    (λ c. omega arith)
-    returns)
+    (λ c.
+    let l = c .before in
+    let s = l .before .before .before in
+    let z = to-size (s .args .codes .now) (λ j. omega (arith, l .before .before .shared-slice-known .given j)) (l .loop .i) in
+    (rw (printed-all (s .args .codes .now) (l .loop .i) (omega arith)) at (l .loop .inv .2), omega (arith, l .loop .inv .2 .place))))

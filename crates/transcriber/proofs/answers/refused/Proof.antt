@@ -6,4 +6,4 @@ use Rattle.transcriber.proofs.answers.refused.Tie as tie
 
 pub refused-spec : {M : Type 1} → statement M
 unfolding afterCheck
-refused-spec = tie.close (tie.spec (search needs) (search needs) (λ c. rw (c .enum-told .given .1)) (λ c. rw (c .before .c .given .1)))
+refused-spec = tie.close (tie.spec (search needs) (search needs) (λ c. cc) (λ c. cc))

@@ -1,6 +1,6 @@
 -- Each arm is a case of the definition.
-use Rattle.spec.specs.Syllables.{nameIn, nameOf}
 use Rattle.laws.proofs.Kit.{needs}
+use Rattle.spec.specs.Syllables.{nameIn, nameOf}
 use Rattle.transcriber.proofs.syllables.name_of.Statement.{statement}
 use Rattle.transcriber.proofs.syllables.name_of.Tie as tie
 
@@ -10,9 +10,4 @@ name-of-spec =
     tie.close
     (tie.spec
     (search needs) (search needs) (search needs) (search needs) (search needs) (search needs) (search needs) (search needs)
-    (λ c. rw (c .before .before .enum-told .given .1, c .enum-told2 .given .1))
-    (λ c. rw (c .before .before .enum-told .given .1, c .enum-told3 .given .1))
-    (λ c. rw (c .before .before .enum-told .given .1, c .enum-told4 .given .1))
-    (λ c. rw (c .before .before .enum-told5 .given .1, c .enum-told6 .given .1))
-    (λ c. rw (c .before .before .enum-told5 .given .1, c .enum-told7 .given .1))
-    (λ c. rw (c .before .before .enum-told5 .given .1, c .enum-told8 .given .1)))
+    (λ c. search needs) (λ c. search needs) (λ c. search needs) (λ c. search needs) (λ c. search needs) (λ c. search needs))

@@ -6,10 +6,4 @@ use Rattle.transcriber.proofs.vowels.by_stress.Tie as tie
 
 pub by-stress-spec : {M : Type 1} → statement M
 unfolding byStress
-by-stress-spec =
-    tie.close
-    (tie.spec
-    (search needs) (λ c. search needs) (λ c. search needs)
-    (λ c. rw (c .enum-told .given .1))
-    (λ c. rw (c .enum-told2 .given .1))
-    (λ c. rw (c .enum-told3 .given .1)))
+by-stress-spec = tie.close (tie.spec (search needs) (search needs) (search needs) (λ c. search needs) (λ c. search needs) (λ c. search needs))

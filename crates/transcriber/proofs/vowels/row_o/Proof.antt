@@ -1,15 +1,14 @@
--- The level is the arm's, and the third is the sound that а has there.
-use Rattle.laws.proofs.Kit.{needs}
-use Rattle.spec.specs.Vowels.{byLevel, rowО}
+-- What the class before tells settles the tests of the row.
+use Rattle.laws.proofs.Kit.{needs, ne-eqb}
+use Rattle.spec.specs.Vowels.{rowО}
 use Rattle.transcriber.proofs.vowels.row_o.Statement.{statement}
 use Rattle.transcriber.proofs.vowels.row_o.Tie as tie
 
 pub row-o-spec : {M : Type 1} → statement M
-unfolding rowО byLevel
+unfolding rowО
 row-o-spec =
     tie.close
     (tie.spec
-    (search needs) (search needs) (search needs) (search needs)
-    (λ c hard q t. rw (c .enum-told .given .1))
-    (λ c hard q t. rw (c .enum-told2 .given .1))
-    (λ c hard q t. rw (c .before .enum-told3 .given .1) (c .second-a .ensures q t)))
+    (search needs) (λ c q t. rw (t .first, t .softOnly, c .before .if1 .taken) (c .by-level .ensures))
+    (search needs) (search needs) (λ c q t. let f = c .before .before in rw (t .softOnly, ne-eqb _ _ (f .before .if1 .left), t .first, ← f .is-initial .ensures, c .before .if2 .taken) (c .by-level2 .ensures))
+    (search needs) (λ c q t. let f = c .before .before in rw (t .softOnly, ne-eqb _ _ (f .before .if1 .left), t .first, ← f .is-initial .ensures, c .before .if2 .left) (c .by-level3 .ensures)))

@@ -1,16 +1,13 @@
--- The level is the arm's, and the byte before tells whether the vowel is initial.
+-- The class before tells whether the vowel is initial.
 use Rattle.laws.proofs.Kit.{needs}
-use Rattle.spec.specs.Vowels.{byLevel, rowЯ}
+use Rattle.spec.specs.Vowels.{rowЯ}
 use Rattle.transcriber.proofs.vowels.row_ya.Statement.{statement}
 use Rattle.transcriber.proofs.vowels.row_ya.Tie as tie
 
 pub row-ya-spec : {M : Type 1} → statement M
-unfolding rowЯ byLevel
+unfolding rowЯ
 row-ya-spec =
     tie.close
     (tie.spec
-    (search needs) (search needs) (search needs) (search needs)
-    (λ c hard q t. rw (c .before .before .enum-told3 .given .1, t .first, ← c .before .is-initial .ensures, c .if1 .taken))
-    (λ c hard q t. rw (c .enum-told .given .1))
-    (λ c hard q t. rw (c .enum-told2 .given .1))
-    (λ c hard q t. rw (c .before .before .enum-told3 .given .1, t .first, ← c .before .is-initial .ensures, c .if1 .left)))
+    (search needs) (search needs) (λ c q t. rw (t .first, ← c .before .before .is-initial .ensures, c .before .if1 .taken) (c .by-level .ensures))
+    (search needs) (λ c q t. rw (t .first, ← c .before .before .is-initial .ensures, c .before .if1 .left) (c .by-level2 .ensures)))

@@ -1,15 +1,11 @@
--- Each arm is its letter's row, by computation at the small letter and at the capital; a vowel has an arm.
-use Rattle.laws.proofs.Kit.{refl, sym, _∙_, Bool, false≢true, ⊎-elim, arith, needs}
-use Rattle.spec.specs.Refusals.{vowelByte}
+-- Each arm is its letter's row, by computation at the small letter and at the capital; another byte has no sound.
+use Rattle.laws.proofs.Kit.{refl, sym, ⊎-elim, arith, needs}
+use Rattle.spec.specs.{Letters.small, Vowels.vowelSound}
 use Rattle.message.proofs.Computed.{everything}
 use Rattle.transcriber.specs.Sounds.{hardBefore}
 use Rattle.transcriber.proofs.Raw.{none, neither, outside}
 use Rattle.transcriber.proofs.vowels.vowel_sound.Statement.{statement}
 use Rattle.transcriber.proofs.vowels.vowel_sound.Tie as tie
-
--- is the boundary before the vowel a hard one?
-abbrev hard : tie.Start → Bool
-hard s = hardBefore (s .args .m .now) (s .args .i)
 
 returns-11 : tie.Need-returns-11
 unfolding everything
@@ -17,22 +13,22 @@ returns-11 c q t =
     let r = c .match .rest in
     let s = c .before .before in
     let other = neither (r .0 .0 .0 .0 .0 .0 .0 .0 .0 .1) (neither (r .0 .0 .0 .0 .0 .0 .0 .0 .1) (neither (r .0 .0 .0 .0 .0 .0 .0 .1) (neither (r .0 .0 .0 .0 .0 .0 .1) (neither (r .0 .0 .0 .0 .0 .1) (neither (r .0 .0 .0 .0 .1) (neither (r .0 .0 .0 .1) (neither (r .0 .0 .1) (neither (r .0 .1) (neither (r .1) none))))))))) in
-    absurd (false≢true (sym (outside vowelByte other refl (omega (arith, s .fits .b))) ∙ s .pre .0))
+    sym (outside (λ x. vowelSound (hardBefore (s .args .m .now) (s .args .i)) q (s .args .s) (small x)) 0 other refl (omega (arith, s .fits .b)))
 
 pub vowel-sound-spec : {M : Type 1} → statement M
 unfolding everything
 vowel-sound-spec =
     tie.close
     (tie.spec
-    (search needs) (search needs) (search needs) (search needs) (search needs) (search needs) (search needs) (search needs) (search needs)
-    (λ c q t. let e = c .row-a .ensures (hard (c .before .before .before)) q t in ⊎-elim (λ k. rw k e) (λ k. rw k e) (c .before .match .keys1))
-    (λ c q t. let e = c .row-o .ensures (hard (c .before .before .before)) q t in ⊎-elim (λ k. rw k e) (λ k. rw k e) (c .before .match .keys2))
+    (search needs) (search needs) (search needs) (search needs) (λ c κs. search needs) (search needs) (search needs) (search needs) (λ c κs. search needs)
+    (λ c q t. ⊎-elim (λ e. rw e (c .row-a .ensures q t)) (λ e. rw e (c .row-a .ensures q t)) (c .before .match .keys1))
+    (λ c q t. ⊎-elim (λ e. rw e (c .row-o .ensures q t)) (λ e. rw e (c .row-o .ensures q t)) (c .before .match .keys2))
     (λ c q t. ⊎-elim (λ e. rw e (c .by-stress .ensures)) (λ e. rw e (c .by-stress .ensures)) (c .before .match .keys3))
     (λ c q t. ⊎-elim (λ e. rw e (c .by-stress2 .ensures)) (λ e. rw e (c .by-stress2 .ensures)) (c .before .match .keys4))
     (λ c q t. ⊎-elim (λ e. rw e (c .row-e .ensures q t)) (λ e. rw e (c .row-e .ensures q t)) (c .before .match .keys5))
-    (λ c q t. let e = c .row-ie .ensures (hard (c .before .before .before)) q t in ⊎-elim (λ k. rw k e) (λ k. rw k e) (c .before .match .keys6))
+    (λ c q t. ⊎-elim (λ e. rw e (c .row-ie .ensures q t)) (λ e. rw e (c .row-ie .ensures q t)) (c .before .match .keys6))
     (λ c q t. ⊎-elim (λ e. rw e) (λ e. rw e) (c .match .keys7))
     (λ c q t. ⊎-elim (λ e. rw e (c .by-stress3 .ensures)) (λ e. rw e (c .by-stress3 .ensures)) (c .before .match .keys8))
-    (λ c q t. let e = c .row-ya .ensures (hard (c .before .before .before)) q t in ⊎-elim (λ k. rw k e) (λ k. rw k e) (c .before .match .keys9))
+    (λ c q t. ⊎-elim (λ e. rw e (c .row-ya .ensures q t)) (λ e. rw e (c .row-ya .ensures q t)) (c .before .match .keys9))
     (λ c q t. ⊎-elim (λ e. rw e (c .row-i .ensures q t)) (λ e. rw e (c .row-i .ensures q t)) (c .before .match .keys10))
     returns-11)
