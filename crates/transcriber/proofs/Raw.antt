@@ -1,11 +1,10 @@
 -- What the code reads off the bytes beside a place is what the left context of the place says: in a steady message the class of the byte before tells the class of the last letter of the word.
-use Rattle.laws.proofs.Kit.{ℕ, zero, suc, _-_, _<_, _≤_, _≡_, refl, ap, Bool, true, false, cond, _&&_, _||_, not, and-eq-true-iff, and-false, or-assoc, or-false, List, [], _∷_, _++_, map, _⊎_, inl, inr, ⊎-elim, arith, eqb, leb, length, getD, drop, eqb-true, ne-eqb, leb-true, le-leb}
-use Rattle.spec.specs.{Alphabet.pause, Alphabet.mark, Alphabet.«ь», Alphabet.«е», Alphabet.«ё», Alphabet.«и», Alphabet.«ю», Alphabet.«я», Tables.among, Tables.Entry, Tables._gives_, Tables.entry, Letters.Letter, Letters.between, Letters.small, Letters.plainVowels, Letters.softeningVowels, Letters.isBreak, Letters.isGap, Letters.isHardOnly, Letters.isSoftOnly, Letters.isConsonant, Letters.isSign, Letters.isVowel, Letters.isObstruent, Letters.isMark, Letters.firstByte, Letters.beginsWithMark, Refusals.vowelByte, Elision.elides, Syllables.Facts, Syllables.coverAfter, Syllables.incomplete, Syllables.levelOf, Syllables.syllableOf, Syllables.nextStressed, Vowels.initial, Vowels.byStress, Vowels.byLevel, Vowels.hardEnd, Vowels.vowelSound, Vowels.glides, Vowels.writtenCode, Vowels.softens, Voicing.Tone, Voicing.voiced, Voicing.voiceless, Voicing.asWritten, Voicing.toneOf, Voicing.toned, Voicing.voicedCode, Voicing.voicelessCode, Palatalization.isSoft, Palatalization.firstCode, declared.Cover.Cover, declared.Level.Level, declared.Level.the-variants.Stressed, declared.Level.the-variants.First, declared.Level.the-variants.Second, declared.Syllable.Syllable}
-use Rattle.message.specs.{Classes.classOf, Classes.isBreakClass, Classes.isSignClass, Classes.isLetterClass, Fused.toneBefore, Fused.vowelCodes, Fused.consonantCode, Fused.letterCodes, Fused.fusedFrom, Places.Steady, Places.Left, Places.stepLeft, Places.leftAt, Places.letterOf, Places.wordAt, Places.markedAt, Places.factsAt, Places.soundAt, Places.tailWord}
+use Rattle.laws.proofs.Kit.{ℕ, zero, suc, _-_, _<_, _≤_, _≡_, refl, ap, Bool, true, false, cond, _&&_, _||_, not, and-false, or-assoc, or-false, List, [], _∷_, _++_, map, _⊎_, inl, inr, ⊎-elim, arith, eqb, length, getD, drop, eqb-true, ne-eqb}
+use Rattle.spec.specs.{Alphabet.pause, Alphabet.mark, Alphabet.«ь», Alphabet.«е», Alphabet.«ё», Alphabet.«и», Alphabet.«ю», Alphabet.«я», Tables.among, Letters.between, Letters.small, Letters.plainVowels, Letters.softeningVowels, Letters.isBreak, Letters.isGap, Letters.isHardOnly, Letters.isSoftOnly, Letters.isConsonant, Letters.isSign, Letters.isVowel, Letters.isMark, Letters.beginsWithMark, Refusals.vowelByte, Syllables.coverAfter, Syllables.incomplete, Syllables.levelOf, Syllables.syllableOf, Syllables.nextStressed, Vowels.initial, Vowels.hardEnd, Vowels.glides, declared.Cover.Cover}
+use Rattle.message.specs.{Classes.classOf, Classes.isBreakClass, Classes.isSignClass, Classes.isLetterClass, Places.Steady, Places.Left, Places.stepLeft, Places.leftAt, Places.letterOf, Places.wordAt, Places.markedAt, Places.factsAt}
 use Rattle.message.proofs.{Bytes.below, Bytes.below-same, Bytes.by-class, Bytes.letter-class, Bytes.not-both, Bytes.vowel-break, Bytes.vowel-mark, Before.vowel-before, Left.left-letter, Computed.everything}
-use Rattle.laws.proofs.Classes.{among-same, cond-both, cond-app, yes-or}
-use Rattle.transcriber.specs.{Levels.levelBy, Sounds.byteBefore, Sounds.Before, Sounds.classBefore, Sounds.isHardOrPaired, Sounds.Told, Sounds.syllableBy, Sounds.glideBy, Sounds.hardBefore, Sounds.tonedCode, Sounds.toneNo}
-pub use Rattle.laws.proofs.Classes.{cond-same}
+use Rattle.laws.proofs.Classes.{among-same, yes-or}
+use Rattle.transcriber.specs.{Levels.levelBy, Sounds.byteBefore, Sounds.Before, Sounds.classBefore, Sounds.isHardOrPaired, Sounds.Told, Sounds.syllableBy, Sounds.glideBy, Sounds.hardBefore}
 
 -- two functions that agree on the bytes that pass a test agree at each of them
 pub where-same : {A : Type 0} (t : ℕ → Bool) (f g : ℕ → A) (d : A) (b : ℕ) → map (λ x. cond (t x) (f x) d) (below 256) ≡ map (λ x. cond (t x) (g x) d) (below 256)
@@ -144,70 +143,3 @@ module _ (m : List ℕ) (steady : Steady m) where
       → glides (leftAt m i .p) cover (small (getD m i 0)) ≡ glideBy (classOf (getD m i 0)) cover (classBefore m i)
   unfolding glides
   glide-raw i h v cover = let k = glide-class (getD m i 0) (steady .bytes i) in rw (told-at i (omega arith) .sign, k .0, k .1)
-
--- are the codes of a table at most n?
-abbrev lows : ℕ → List Entry → Bool
-lows n [] = true
-lows n ((x gives c) ∷ es) = leb c n && lows n es
-
--- then so is what it gives
-entry-low : (n : ℕ) (es : List Entry) (b : ℕ) → lows n es ≡ true → leb (entry es b) n ≡ true
-unfolding entry
-entry-low n [] b h = le-leb 0 n (omega arith)
-entry-low n ((x gives c) ∷ es) b h = let a = and-eq-true-iff (leb c n) (lows n es) .0 h in cond-both (λ k. leb k n ≡ true) (eqb b x) (a .0) (entry-low n es b (a .1))
-
--- the vowels' codes are the first 13
-vowel-low : (hard : Bool) (p : ℕ) (s : Syllable) (b : ℕ) → vowelSound hard p s b ≤ 13
-unfolding vowelSound byLevel byStress
-vowel-low hard p s b = by (s .level) refl
-  where
-    by : (level : Level) → s .level ≡ level → vowelSound hard p s b ≤ 13
-    by Stressed e = rw e (leb-true _ 13 (entry-low 13 _ b (simp (cond-app (λ (c : ℕ). leb c 13), cond-same))))
-    by First e = rw e (leb-true _ 13 (entry-low 13 _ b (simp (cond-app (λ (c : ℕ). leb c 13), cond-same))))
-    by Second e = rw e (leb-true _ 13 (entry-low 13 _ b (simp (cond-app (λ (c : ℕ). leb c 13), cond-same))))
-
--- none of which voices or devoices, so that a vowel leaves an obstruent before it as written
-pub vowel-tone : (hard : Bool) (p : ℕ) (s : Syllable) (b : ℕ) → toneBefore (vowelSound hard p s b) ≡ asWritten
-unfolding everything
-vowel-tone hard p s b = below-same toneBefore (λ _. asWritten) 14 (vowelSound hard p s b) refl (omega (arith, vowel-low hard p s b))
-
--- every code is below 64, so that it is a place of the table: a consonant's hard one, which has another after it
-hard-low : (tone : Tone) (b : ℕ) → tonedCode tone b ≤ 56
-unfolding tonedCode toned writtenCode voicedCode voicelessCode
-hard-low tone b = leb-true _ _ (cond-both (λ k. leb k 56 ≡ true) (isObstruent b) (by tone) (entry-low 56 _ b refl))
-  where
-    by : (t : Tone) → leb (toned t b (writtenCode b)) 56 ≡ true
-    by voiced = entry-low 56 _ b refl
-    by voiceless = entry-low 56 _ b refl
-    by asWritten = entry-low 56 _ b refl
-
--- so any
-pub consonant-small : (b : ℕ) (soft : Bool) (tone : Tone) (c : ℕ) → consonantCode b soft tone c < 64
-unfolding consonantCode tonedCode
-consonant-small b soft tone c =
-    let h = hard-low tone b in
-    let x = tonedCode tone b in
-    cond-both (λ k. k < 64) (isSoft (record { letter = b; softened = soft; code = x }) c) {x = suc x} {y = x} (omega arith) (omega arith)
-
--- the first of a word
-fused-small : (hard : Bool) (facts : Facts) (next : Bool) (p : ℕ) (w : List Letter) → firstCode (fusedFrom hard facts next p w) < 64
-unfolding fusedFrom firstCode letterCodes vowelCodes
-fused-small hard facts next p [] = omega arith
-fused-small hard facts next p (l ∷ w) =
-    let t = fusedFrom false facts next (l .byte) w in
-    let r = fused-small false facts next (l .byte) w in
-    let s = syllableOf facts p l w in
-    let P : List ℕ → Type 0 = λ x. firstCode (x ++ t) < 64 in
-    cond-both P (elides p (l .byte) w) r (cond-both P (isSign (l .byte)) r (cond-both P (isVowel (l .byte)) (cond-both P (glides p (s .cover) (l .byte)) (omega arith) (omega (arith, vowel-low hard p s (l .byte)))) (consonant-small (l .byte) (softens (firstByte w)) (toneOf next t) (firstCode t))))
-
--- that after a place
-pub sound-small : (m : List ℕ) (i : ℕ) → soundAt m i < 64
-unfolding soundAt tailWord
-sound-small m i = fused-small _ _ _ _ _
-
--- a tone's number is at most 64
-pub tone-small : (t : Tone) → toneNo t ≤ 64
-unfolding toneNo
-tone-small voiced = omega arith
-tone-small voiceless = omega arith
-tone-small asWritten = omega arith

@@ -4,7 +4,7 @@ use Rattle.spec.specs.{Letters.between, Letters.small, Letters.firstByte, Lette
 use Rattle.message.specs.{Classes.classOf, Classes.isBreakClass, Classes.isSignClass, Classes.isConsonantClass, Classes.isVowelClass, Classes.elidedAt, Fused.toneBefore, Fused.vowelCodes, Fused.consonantCode, Fused.letterCodes, Places.Steady, Places.leftAt, Places.letterOf, Places.markBefore, Places.tapeAt, Places.wordAt, Places.toneAt, Places.soundAt, Places.codesAt, Places.toneAfter, Places.soundAfter}
 use Rattle.message.proofs.{Bytes.below, Bytes.by-class, Computed.everything, Left.mark-within, StepTable.class-spoken, Silent.elided-at, Tail.tape-letter, Tail.tape-mark, Tail.tape-break, Tail.word-letter, Tail.word-mark, Tail.word-break, Tail.word-end, Tail.tone-letter, Tail.sound-letter, Tail.tone-mark, Tail.sound-mark, Tail.tone-break, Tail.sound-break, Tail.tone-end, Tail.sound-end}
 use Rattle.laws.proofs.{Classes.cond-same, Codes.vowel-sound, MarkIndex.sound-range}
-use Rattle.transcriber.specs.{Sounds.byteBefore, Sounds.AtBoundary, Sounds.rowOf, Sounds.syllableBy, Sounds.glideBy, Sounds.hardBefore, Sounds.toneBy, Sounds.codeBy, Sounds.Tells, Sounds.codeBefore, Sounds.Heard, Sounds.soundTable, Walk.VowelAt, Walk.syllableAt, Walk.Stands, Walk.Sung, Walk.sungCodes, Walk.Put, Walk.pieceAt, Walk.Ready, Walk.ReadyFor, Walk.Stepped, Levels.farLevel, Levels.levelBefore, Levels.LevelsAt, declared.Right.Right, declared.Vowel.Vowel}
+use Rattle.transcriber.specs.{Sounds.classBefore, Sounds.ByRow, Sounds.rowOf, Sounds.syllableBy, Sounds.glideBy, Sounds.hardBefore, Sounds.toneBy, Sounds.codeBy, Sounds.Tells, Sounds.codeBefore, Sounds.Heard, Sounds.soundTable, Walk.VowelAt, Walk.syllableAt, Walk.Stands, Walk.Sung, Walk.sungCodes, Walk.Put, Walk.pieceAt, Walk.Ready, Walk.ReadyFor, Walk.Stepped, Levels.farLevel, Levels.levelBefore, Levels.LevelsAt, declared.Right.Right, declared.Vowel.Vowel}
 use Rattle.transcriber.proofs.{Putting.put-none, Levelling.levels-syllable, Levelling.levels-letter, Levelling.levels-vowel, Levelling.levels-mark, Levelling.levels-break, Levelling.levels-end, SoundTable.code-read, Raw.where-same, Raw.told-at, Raw.hard-raw, Raw.glide-raw}
 
 -- 64 more can be told from less
@@ -219,19 +219,19 @@ module _ {m out : List ℕ} {i c : ℕ} {r : Right} (a : ReadyFor isConsonantCla
         let z : code + 0 ≡ code = omega arith in
         letter-steps (a .ready) spelt codes (rw z at (tells-sound code false x)) (plain-levels (a .ready) spelt) q
 
--- what is found of a vowel by the byte before it, its class, and the level is what the passes make of it
-module _ (m : List ℕ) (i c : ℕ) (level : Level) (a : VowelAt m i c level) where
+-- what is found of a vowel by the class of the byte before it, its own class, and the level is what the passes make of it
+module _ {m : List ℕ} {i c : ℕ} {level : Level} (a : VowelAt m i c level) where
   pub vowel-sings : vowelByte (getD m i 0) ≡ true
   vowel-sings = by-class (getD m i 0) (a .steady .bytes i) .vowel ∙ ap isVowelClass (sym (a .class)) ∙ a .vowel
 
-  pub sung-by : (p k : ℕ) (s : Syllable) (v : Vowel) → p ≡ byteBefore m i → k ≡ classOf p → s ≡ syllableBy k level
-      → AtBoundary (rowOf (small (getD m i 0))) (hardBefore m i) p s (v .sound) → v .glide ≡ glideBy c (s .cover) k → Sung m i v
-  sung-by p k s v e f y o g =
+  pub sung-by : {k : ℕ} {s : Syllable} {v : Vowel} → k ≡ classBefore m i → s ≡ syllableBy k level
+      → ByRow (rowOf (small (getD m i 0))) (hardBefore m i) k s (v .sound) → v .glide ≡ glideBy c (s .cover) k → Sung m i v
+  sung-by {s = s} e y o g =
       let h : i ≤ length m = omega (arith, a .within) in
-      let z : syllableAt m i ≡ s = rw (y, f, e) (levels-syllable m (a .steady) i (a .within) vowel-sings (a .level)) in
+      let z : syllableAt m i ≡ s = rw (y, e) (levels-syllable m (a .steady) i (a .within) vowel-sings (a .level)) in
       record {
         sound = rw (z, hard-raw m (a .steady) i h) (o (leftAt m i .p) (rw e (told-at m (a .steady) i h)));
-        glide = rw (z, glide-raw m (a .steady) i (a .within) vowel-sings (s .cover), ← a .class, ← e, ← f) g;
+        glide = rw (z, glide-raw m (a .steady) i (a .within) vowel-sings (s .cover), ← a .class, ← e) g;
       }
 
 module _ {m out : List ℕ} {i c : ℕ} {r : Right} (a : ReadyFor isVowelClass m out i c r) where

@@ -9,11 +9,11 @@ use lib.ListN.{length, getD}
 use Rattle.spec.specs.Alphabet.{pause, «ь»}
 use Rattle.spec.specs.Refusals.{consonantByte}
 use Rattle.spec.specs.Tables.{among}
-use Rattle.spec.specs.Letters.{between, small, isBreak, isGap, isHardOnly, isPaired, isSoftOnly, isConsonant, isSign, isObstruent}
-use Rattle.spec.specs.Codes.{А*, А1, А2, Э2, Б, Б', В', Г, Г', Х1, Х1', Д, Д', Ж, Ж', З, З', К, К', Л', М', Н', П, П', Р', С, С', Т, Т', Ф, Ф', Х, Х', Ц, Ц1, Ч, Ч1, Ш, Щ}
-use Rattle.spec.specs.Vowels.{initial, hardEnd, vowelSound, bare, writtenCode}
+use Rattle.spec.specs.Letters.{between, isHardOnly, isPaired, isSoftOnly, isConsonant, isSign}
+use Rattle.spec.specs.Codes.{А*, Б, Б', В', Г, Г', Х1, Х1', Д, Д', Ж, Ж', З, З', К, К', Л', М', Н', П, П', Р', С, С', Т, Т', Ф, Ф', Х, Х', Ц, Ц1, Ч, Ч1, Ш, Щ}
+use Rattle.spec.specs.Vowels.{initial, vowelSound, bare}
 use Rattle.message.specs.Fused.{toneBefore, consonantCode}
-use Rattle.spec.specs.Voicing.{Tone, voiced, voiceless, asWritten, toned}
+use Rattle.spec.specs.Voicing.{Tone, voiced, voiceless, asWritten}
 use Rattle.message.specs.Classes.{classOf, classes, isBreakClass, isSignClass, tabulate}
 use Rattle.spec.specs.declared.Cover.{Cover}
 use Rattle.spec.specs.declared.Cover.the-variants.{Bare, Covered}
@@ -52,10 +52,6 @@ pub record Told (k q : ℕ) : Type 0 where
 -- r is what a row says of syllable s after every letter that the class k tells; where the row's line does not ask for the boundary, hard is all one
 abbrev pub ByRow : (Bool → ℕ → Syllable → ℕ) → Bool → ℕ → Syllable → ℕ → Type 0
 ByRow row hard k s r = (q : ℕ) → Told k q → r ≡ row hard q s
-
--- the same after the byte p
-abbrev pub AtBoundary : (Bool → ℕ → Syllable → ℕ) → Bool → ℕ → Syllable → ℕ → Type 0
-AtBoundary row hard p s r = ByRow row hard (classOf p) s r
 
 -- the row of the vowel b
 abbrev pub rowOf : ℕ → Bool → ℕ → Syllable → ℕ
@@ -138,12 +134,3 @@ firstRows ((s ∷ ss) ∷ xs) = codeRow s ++ firstRows xs
 -- the table: the rows, and the row of each sound
 unfoldable pub soundTable : List ℕ
 soundTable = firstRows alike ++ tabulate soundRow 0 128
-
--- tones by number, and a consonant's code under a tone, not palatalized
-unfoldable pub toneNo : Tone → ℕ
-toneNo asWritten = 0
-toneNo voiced = 32
-toneNo voiceless = 64
-
-unfoldable pub tonedCode : Tone → ℕ → ℕ
-tonedCode tone b = cond (isObstruent b) (toned tone b (writtenCode b)) (writtenCode b)
