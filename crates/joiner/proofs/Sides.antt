@@ -1,22 +1,22 @@
 -- The two sides of a cut's mark: the codes beside it are the whole tape's, which tell the bits that come from over the cut, and the word after it begins with the letter of the next byte.
-use Rattle.laws.proofs.Kit.{ℕ, zero, suc, _+_, _-_, _≡_, refl, sym, ap, _∙_, true, false, _&&_, ⊎-elim, List, [], _∷_, arith, add-one, eqb, getD, drop, eqb-true}
+use Rattle.laws.proofs.Kit.{ℕ, zero, suc, _+_, _-_, _≡_, refl, sym, ap, _∙_, true, false, _&&_, List, [], _∷_, arith, add-one, eqb, getD, drop, eqb-true}
 use Rattle.spec.specs.{Alphabet.gap, Alphabet.pause, Letters.read, Letters.firstByte, Letters.firstWord, Letters.small, Letters.isMark, Letters.isBreak, Tape.tape, Joints.markIndex, Joints.wordAfter}
 use Rattle.message.specs.Classes.{letterAt}
 use Rattle.message.proofs.Left.{word-put, unmarked-after}
-use Rattle.laws.proofs.{Classes.yes-or, Classes.break-vowel, Parts.changedAfter, Parts.changedBefore, Beside.isVoiced, Beside.isHigh, Beside.isIOrE, MarkIndex.before-told, MarkIndex.after-told}
+use Rattle.laws.proofs.{Classes.either, Classes.break-vowel, Parts.changedAfter, Parts.changedBefore, Beside.isVoiced, Beside.isHigh, Beside.isIOrE, MarkIndex.before-told, MarkIndex.after-told}
 use Rattle.joiner.specs.Writing.{Beside}
 
 -- a break is neither и nor э
 break-other : (b : ℕ) → isBreak b ≡ true → isIOrE (small b) ≡ false
 unfolding isBreak small
-break-other b e = ⊎-elim (λ q. rw (eqb-true b gap q)) (λ q. rw (eqb-true b pause (rw q at e))) (yes-or (eqb b gap))
+break-other b e = either (eqb b gap) (λ q. rw (eqb-true b gap q)) (λ q. rw (eqb-true b pause (rw q at e)))
 
 -- the first letter from a place on where no mark stands
 first-told : (m : List ℕ) (i : ℕ) → isMark (getD m i 0) ≡ false → isIOrE (firstByte (firstWord (read (drop i m)))) ≡ isIOrE (letterAt m i)
 unfolding read firstWord firstByte letterAt small
 first-told [] zero k = refl
 first-told [] (suc i) k = refl
-first-told (b ∷ m) zero k = ⊎-elim (λ s. rw s (sym (break-other b s))) (λ (s : isBreak b ≡ false). rw (s, k, word-put _ (read m))) (yes-or (isBreak b))
+first-told (b ∷ m) zero k = either (isBreak b) (λ s. rw s (sym (break-other b s))) (λ s. rw (s, k, word-put _ (read m)))
 first-told (b ∷ m) (suc i) k = first-told m i k
 
 module _ {m t : List ℕ} {c at : ℕ} (s : Beside m t c at) where

@@ -23,12 +23,7 @@ pub cond-same : {A : Type 0} (t : Bool) (x : A) → cond t x x ≡ x
 cond-same true x = refl
 cond-same false x = refl
 
--- a test holds or fails
-pub yes-or : (t : Bool) → (t ≡ true) ⊎ (t ≡ false)
-yes-or true = inl refl
-yes-or false = inr refl
-
--- so what follows from either follows
+-- what follows from either outcome of a test follows
 pub either : {P : Type 0} (t : Bool) → (t ≡ true → P) → (t ≡ false → P) → P
 either true f g = f refl
 either false f g = g refl

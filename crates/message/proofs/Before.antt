@@ -1,10 +1,10 @@
 -- What stands before a place is told in three ways: by the last letter of the word, by the byte before, and by the kind. They agree in all that elision and the syllables ask: which consonant it is, if any, and
 -- whether it is a sign. Only a break and a mark are no letters, and a mark stands right after a vowel.
-use Rattle.laws.proofs.Kit.{ℕ, zero, suc, _<_, _≤_, _≡_, refl, sym, _∙_, ⊎-elim, true, false, false≢true, List, [], _∷_, _++_, eqb, length, getD, eqb-true, arith}
+use Rattle.laws.proofs.Kit.{ℕ, zero, suc, _<_, _≤_, _≡_, refl, sym, _∙_, true, false, false≢true, List, [], _∷_, _++_, eqb, length, getD, eqb-true, arith}
 use Rattle.spec.specs.{Alphabet.mark, Letters.small, Letters.hardOnly, Letters.paired, Letters.softOnly, Letters.plainVowels, Letters.softeningVowels, Letters.isMark, Letters.isBreak, Letters.isVowel, Letters.isSign, Letters.isConsonant, Refusals.vowelByte}
 use Rattle.message.specs.{Classes.isConsonantClass, Steps.isSignKind, Steps.kindAt, Places.leftAt, Places.letterOf, Places.Steady}
 use Rattle.message.proofs.{Bytes.by-class, Bytes.vowel-break, Bytes.vowel-mark, Faults.entry-at, Left.left-letter, Left.left-mark, Left.left-break, Computed.everything}
-use Rattle.laws.proofs.Classes.{yes-or, among-same, among-none, break-sign, break-consonant}
+use Rattle.laws.proofs.Classes.{either, among-same, among-none, break-sign, break-consonant}
 
 -- no test of consonants tells two letters apart, 0 for none
 abbrev pub Same : ℕ → ℕ → Type 0
@@ -49,13 +49,10 @@ module _ (m : List ℕ) (steady : Steady m) where
   -- the last letter of the word after a byte, and the byte
   pub alike-before : (i : ℕ) → i < length m → Alike (leftAt m (suc i) .p) (small (getD m i 0))
   unfolding everything letterOf
-  alike-before i h = ⊎-elim
-      (λ s. rw (left-break m i h s) (alike-break (getD m i 0) s))
-      (λ s. ⊎-elim
-      (λ k. rw (left-mark m i h k, eqb-true (getD m i 0) mark k)
+  alike-before i h = either (isBreak (getD m i 0)) (λ s. rw (left-break m i h s) (alike-break (getD m i 0) s))
+      (λ s. either (isMark (getD m i 0)) (λ k. rw (left-mark m i h k, eqb-true (getD m i 0) mark k)
       (alike-other (leftAt m i .p) mark (among-same (λ x. isConsonant x ∷ isSign x ∷ []) (λ _. false ∷ false ∷ []) (plainVowels ++ softeningVowels) (leftAt m i .p) refl (vowel-before i h k)) refl))
-      (λ k. rw (left-letter m i h s k) (alike-same (small (getD m i 0)))) (yes-or (isMark (getD m i 0))))
-      (yes-or (isBreak (getD m i 0)))
+      (λ k. rw (left-letter m i h s k) (alike-same (small (getD m i 0)))))
 
   -- The kind tells the same.
   pub record Kind (i : ℕ) : Type 0 where

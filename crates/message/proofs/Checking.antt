@@ -2,7 +2,7 @@
 use Rattle.laws.proofs.Kit.{ℕ, zero, suc, _+_, _-_, _*_, _/_, _%_, _<_, _≤_, _≡_, refl, sym, _∙_, ⊎-elim, Bool, true, false, cond, _&&_, and-false, List, arith, eqb, leb, length, getD, eqb-false, le-leb, lt-leb, eq-eqb, ne-eqb}
 use Rattle.spec.specs.Refusals.{checkOf}
 use Rattle.message.specs.{Classes.isBreakClass, Classes.isLetterClass, Classes.classAt, Classes.silentAt, Steps.nextKind, Steps.faultIn, Steps.stopIn, Steps.packed, Steps.kindAt, Steps.codesTo, Steps.namesTo, Steps.lettersAt, Steps.faultHere, Steps.Sees, Steps.fourAt, Steps.silentFour, Steps.Counted, Steps.finishOf, Steps.nameUnit, Steps.askUnit, Steps.stopUnit, declared.Seen.Seen}
-use Rattle.laws.proofs.{Accepted.countsOf, Classes.cond-both, Classes.yes-or, Classes.below-or}
+use Rattle.laws.proofs.{Accepted.countsOf, Classes.cond-both, Classes.either, Classes.below-or}
 use Rattle.message.proofs.{Steadiness.accepted-steady, StepTable.Entry, StepTable.unpacks, StepTable.silent-asks, Lengths.codes-all, Lengths.names-all, Faults.here-clear, Faults.kind-small, Faults.entry-at, Faults.counts-up, Faults.last-refused, Faults.all-accepted}
 
 -- the end of the walk is the check's answer
@@ -13,12 +13,11 @@ seen-all m s z w e =
     let sum : s .sum ≡ codesTo m n + nameUnit * namesTo m n = rw e at (w .sum) in
     let codes : s .sum % nameUnit ≡ codesTo m n = omega (arith, sum, up .0) in
     let names : s .sum / nameUnit ≡ namesTo m n = omega (arith, sum, up .0) in
-    rw (rw e at (w .kind), codes, names) (⊎-elim
-    (λ (d : isBreakClass (kindAt m n) ≡ true). rw d (sym (last-refused m (w .bytes) (n - 1) (omega (arith, z)) (w .short) (rw e at (w .clear)) d)))
-    (λ (d : isBreakClass (kindAt m n) ≡ false).
+    rw (rw e at (w .kind), codes, names) (either (isBreakClass (kindAt m n)) (λ d. rw d (sym (last-refused m (w .bytes) (n - 1) (omega (arith, z)) (w .short) (rw e at (w .clear)) d)))
+    (λ d.
     let q = all-accepted m (w .bytes) (n - 1) (omega (arith, z)) (w .short) (rw e at (w .clear)) d in
     let y = accepted-steady m (countsOf m) q (w .bytes) in
-    rw d (sym (q ∙ rw (codes-all m y, names-all m y)))) (yes-or (isBreakClass (kindAt m n))))
+    rw d (sym (q ∙ rw (codes-all m y, names-all m y)))))
 
 -- n bytes have n letters at most
 letters-up : (m : List ℕ) (i n : ℕ) → lettersAt m (n + i) ≤ n + lettersAt m i

@@ -1,10 +1,10 @@
 -- All five passes of a word as one recursion over its letters as written, from the right: a letter's codes are settled by the letter before it,
 -- the letters after it as written, and the finished codes after it. Equal to the passes one after the other, because elision changes nothing that
 -- the letters around it go by (Elided.antt), and palatalization does not change whether a sound voices or devoices the one before it.
-use Rattle.laws.proofs.Kit.{ℕ, _≡_, refl, ⊎-elim, Bool, true, false, cond, List, [], _∷_, _++_}
+use Rattle.laws.proofs.Kit.{ℕ, _≡_, refl, Bool, true, false, cond, List, [], _∷_, _++_}
 use Rattle.spec.specs.{Letters.Letter, Letters.paired, Letters.firstByte, Letters.isPaired, Letters.isSign, Letters.isVowel, Letters.isObstruent, Codes.palatalized, Elision.elideFrom, Elision.elide, Syllables.Facts, Syllables.factsOf, Syllables.syllableOf, Vowels.Phone, Vowels.glides, Vowels.writtenCode, Vowels.softens, Vowels.vowelPhones, Vowels.phonesOf, Vowels.phonesFrom, Voicing.Tone, Voicing.voiced, Voicing.voiceless, Voicing.asWritten, Voicing.voices, Voicing.toneOf, Voicing.toned, Voicing.codesOf, Voicing.voiceOne, Voicing.voice, Palatalization.isSoft, Palatalization.firstCode, Palatalization.palatalize, Tape.wordTape}
 use Rattle.message.specs.Fused.{toneBefore, vowelCodes, consonantCode, letterCodes, fusedFrom}
-use Rattle.laws.proofs.Classes.{cond-app, cond-same, yes-or, among-same, vowel-quiet, vowel-single}
+use Rattle.laws.proofs.Classes.{cond-app, cond-same, either, among-same, vowel-quiet, vowel-single}
 use Rattle.message.proofs.{Elided.elide-cases, Elided.soft-elide, Elided.syllable-elide, Elided.phones-free, Computed.everything}
 
 -- the code of a consonant b after pass 4
@@ -21,9 +21,7 @@ tone-kept asWritten b h = among-same (λ x. toneBefore (palatalized (spoken asWr
 -- so a consonant's finished code voices or devoices what its code after pass 4 does
 pub consonant-tone : (b : ℕ) (soft : Bool) (tone : Tone) (c : ℕ) → toneBefore (spoken tone b) ≡ toneBefore (consonantCode b soft tone c)
 unfolding consonantCode isSoft
-consonant-tone b soft tone c = ⊎-elim
-    (λ (h : isPaired b ≡ true). rw h (simp (cond-app toneBefore, tone-kept tone b h, cond-same)))
-    (λ (h : isPaired b ≡ false). rw h) (yes-or (isPaired b))
+consonant-tone b soft tone c = either (isPaired b) (λ h. rw h (simp (cond-app toneBefore, tone-kept tone b h, cond-same))) (λ h. rw h)
 
 -- passes 4 and 5 make the codes t of the sounds xs, and for an obstruent before them t is as good as the sounds after pass 4
 record Same (next : Bool) (xs : List Phone) (t : List ℕ) : Type 0 where

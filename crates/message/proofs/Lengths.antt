@@ -1,9 +1,9 @@
 -- The counts of the check are the lengths of the tape and of the names: each byte is counted as many codes and names as it puts before what comes after it, told by its class and the kind before it.
-use Rattle.laws.proofs.Kit.{ℕ, zero, suc, _+_, _<_, _≤_, _≡_, refl, sym, ap, _∙_, ⊎-elim, Bool, true, false, cond, _&&_, _||_, true≢false, List, [], _∷_, eqb, length, getD, length-append, eqb-true, arith}
+use Rattle.laws.proofs.Kit.{ℕ, zero, suc, _+_, _<_, _≤_, _≡_, refl, sym, ap, _∙_, Bool, true, false, cond, _&&_, _||_, true≢false, List, [], _∷_, eqb, length, getD, length-append, eqb-true, arith}
 use Rattle.spec.specs.{Alphabet.«е», Alphabet.«ё», Alphabet.«и», Alphabet.«ю», Alphabet.«я», Tables.among, Letters.Letter, Letters.isMark, Letters.isBreak, Letters.isVowel, Letters.isSign, Letters.isConsonant, Elision.elides, Syllables.Facts, Syllables.coverAfter, Syllables.syllableOf, Syllables.incomplete, Vowels.bare, Vowels.glides, Voicing.Tone, Tape.tape, Tape.names, Refusals.vowelByte, Refusals.signByte, declared.Cover.the-variants.Bare, declared.Cover.the-variants.Covered}
 use Rattle.message.specs.{Classes.classOf, Classes.isBreakClass, Classes.isSignClass, Classes.isConsonantClass, Classes.isVowelClass, Classes.isLetterClass, Steps.isSignKind, Steps.kindAt, Steps.widthIn, Steps.widthAt, Steps.codesTo, Steps.namesIn, Steps.namesTo, Steps.tailNames, Fused.vowelCodes, Fused.letterCodes, Places.leftAt, Places.factsAt, Places.toneAt, Places.soundAt, Places.tapeAt, Places.wordAt, Places.letterOf, Places.codesAt, Places.namesAt, Places.Steady}
 use Rattle.message.proofs.{Bytes.pairs-same, Bytes.by-class, Bytes.letter-class, Tail.tape-start, Tail.tape-end, Tail.tape-letter, Tail.tape-mark, Tail.tape-break, Tail.names-start, Tail.names-end, Tail.names-vowel, Tail.names-other, Tail.names-break, Before.kind-at, Silent.elided-at, StepTable.class-spoken, Faults.kind-small, Computed.everything}
-use Rattle.laws.proofs.Classes.{cond-app, yes-or}
+use Rattle.laws.proofs.Classes.{cond-app, either}
 
 -- how many codes a letter makes, elision apart: k and g say that a consonant or a sign stands before it, s, v, e and i that it is a sign, a vowel, one of е ё ю я, or и
 abbrev heard : Bool → Bool → Bool → Bool → Bool → Bool → ℕ
@@ -52,9 +52,8 @@ module _ (m : List ℕ) (steady : Steady m) where
 
   -- each byte is counted as many codes as it puts before the rest's
   pub codes-step : (i : ℕ) → i < length m → length (tapeAt m i) ≡ widthAt m i (kindAt m i) + length (tapeAt m (suc i))
-  codes-step i h = ⊎-elim (λ s. rw (tape-break m steady i h s, width-break i (kindAt m i) s) (omega arith))
-      (λ (s : isBreak (getD m i 0) ≡ false). ⊎-elim (λ e. rw (tape-mark m steady i h e, width-mark i (kindAt m i) e) (omega arith)) (λ e. rw (tape-letter m steady i h s e, length-append, width-letter i h s e)) (yes-or (isMark (getD m i 0))))
-      (yes-or (isBreak (getD m i 0)))
+  codes-step i h = either (isBreak (getD m i 0)) (λ s. rw (tape-break m steady i h s, width-break i (kindAt m i) s) (omega arith))
+      (λ s. either (isMark (getD m i 0)) (λ e. rw (tape-mark m steady i h e, width-mark i (kindAt m i) e) (omega arith)) (λ e. rw (tape-letter m steady i h s e, length-append, width-letter i h s e)))
 
   -- the codes of the bytes before a place and from it on are the tape's
   pub codes-from : (i : ℕ) → i ≤ length m → codesTo m i + length (tapeAt m i) ≡ length (tape m)

@@ -3,7 +3,7 @@ use Rattle.laws.proofs.Kit.{ℕ, zero, suc, _+_, _<_, _≤_, _≡_, refl, sym, 
 use Rattle.spec.specs.{Alphabet.«д», Alphabet.«з», Alphabet.«к», Alphabet.«н», Alphabet.«р», Alphabet.«с», Alphabet.«т», Alphabet.«ц», Alphabet.«ч», Alphabet.«ш», Tables.among, Letters.read, Letters.firstWord, Letters.firstByte, Letters.small, Letters.hardOnly, Letters.paired, Letters.softOnly, Letters.isMark, Letters.isBreak, Letters.isConsonant, Elision.secondByte, Elision.elides, Elision.elidesT, Elision.elidesD, Elision.elidesAmong}
 use Rattle.message.specs.{Classes.letterAt, Classes.letterBefore, Classes.elidedAt, Places.leftAt, Places.wordAt, Places.letterOf, Places.Steady}
 use Rattle.message.proofs.{Bytes.consonant-vowel, Left.unmarked-after, Tail.word-letter, Tail.word-break, Before.Same, Before.Alike, Before.alike-same, Before.alike-break, Before.alike-before, Computed.everything}
-use Rattle.laws.proofs.Classes.{yes-or, below-or, among-none}
+use Rattle.laws.proofs.Classes.{either, below-or, among-none}
 
 -- a letter that is no consonant is never silent
 plain-stays : (p b c d : ℕ) → isConsonant b ≡ false → elidesAmong p b c d ≡ false
@@ -43,24 +43,22 @@ module _ (m : List ℕ) (steady : Steady m) where
   alike-at : (j : ℕ) → isMark (getD m j 0) ≡ false → Alike (firstByte (wordAt m j)) (letterAt m j)
   unfolding firstByte letterAt letterOf
   alike-at j k = ⊎-elim
-      (λ h. ⊎-elim (λ s. rw (word-break m steady j h s) (alike-break (getD m j 0) s)) (λ s. rw (word-letter m steady j h s k) (alike-same (small (getD m j 0)))) (yes-or (isBreak (getD m j 0))))
+      (λ h. either (isBreak (getD m j 0)) (λ s. rw (word-break m steady j h s) (alike-break (getD m j 0) s)) (λ s. rw (word-letter m steady j h s k) (alike-same (small (getD m j 0)))))
       (λ o. rw (past j o .0, past j o .1) (alike-same 0)) (below-or j (length m))
 
   -- the second letter from a place on, and the byte after it, where the first is a consonant
   alike-second : (j : ℕ) → isMark (getD m j 0) ≡ false → isConsonant (firstByte (wordAt m j)) ≡ true → Alike (secondByte (wordAt m j)) (letterAt m (suc j))
   unfolding everything letterOf
   alike-second j k c = ⊎-elim
-      (λ h. ⊎-elim (λ s. absurd (false≢true (rw (word-break m steady j h s) at c)))
-      (λ s. rw (word-letter m steady j h s k) (alike-at (suc j) (unmarked j (rw (word-letter m steady j h s k) at c)))) (yes-or (isBreak (getD m j 0))))
+      (λ h. either (isBreak (getD m j 0)) (λ s. absurd (false≢true (rw (word-break m steady j h s) at c)))
+      (λ s. rw (word-letter m steady j h s k) (alike-at (suc j) (unmarked j (rw (word-letter m steady j h s k) at c)))))
       (λ o. absurd (false≢true (rw (past j o .0) at c))) (below-or j (length m))
 
   -- which letters are silent can be told from the bytes beside them
   pub elided-at : (i : ℕ) → i < length m → isBreak (getD m i 0) ≡ false → isMark (getD m i 0) ≡ false → elides (leftAt m i .p) (small (getD m i 0)) (wordAt m (suc i)) ≡ elidedAt m i
   unfolding elides elidedAt letterAt
-  elided-at i h b k = ⊎-elim
-      (λ c.
+  elided-at i h b k = either (isConsonant (small (getD m i 0))) (λ c.
       let two : i + 2 ≡ suc (suc i) = omega arith in
       let a = alike-left i (omega arith) in
       rw (add-one i, two) (alike-elides _ _ (small (getD m i 0)) _ _ _ _ (a .each) (alike-at (suc i) (unmarked i c) .each) (λ q. alike-second (suc i) (unmarked i c) q .each)))
       (λ c. plain-stays (leftAt m i .p) (small (getD m i 0)) _ _ c ∙ sym (plain-stays (letterBefore m i) (small (getD m i 0)) (letterAt m (i + 1)) (letterAt m (i + 2)) c))
-      (yes-or (isConsonant (small (getD m i 0))))

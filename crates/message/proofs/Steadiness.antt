@@ -1,7 +1,7 @@
 -- An accepted message is steady: each of its bytes has a class, and a mark stands right after a vowel.
-use Rattle.laws.proofs.Kit.{ℕ, suc, _<_, _≡_, sym, _∙_, ⊎-elim, true, false, true≢false, false≢true, List, [], getD, drop}
+use Rattle.laws.proofs.Kit.{ℕ, suc, _<_, _≡_, sym, _∙_, true, true≢false, false≢true, List, [], getD, drop}
 use Rattle.spec.specs.{Letters.isMark, Refusals.vowelByte, Refusals.first, Refusals.row3, Refusals.row5, Refusals.rows, Refusals.fitsIn, Refusals.beforeAt, Refusals.checkOf, declared.Counts.Counts, declared.Checked.the-variants.Accepted}
-use Rattle.laws.proofs.{Accepted.Clear, Accepted.accepted-passes, Classes.yes-or, Classes.refuted}
+use Rattle.laws.proofs.{Accepted.Clear, Accepted.accepted-passes, Classes.either, Classes.refuted}
 use Rattle.message.specs.{Classes.classOf, Places.Steady}
 use Rattle.message.proofs.Bytes.{ByClass, by-class}
 
@@ -13,7 +13,7 @@ clear-named before b after k c e = false≢true (sym (c 3) ∙ rw (k .letter, k 
 -- a clear mark stands right after a vowel
 clear-mark : (before : List ℕ) (b : ℕ) (after : List ℕ) → Clear before b after → isMark b ≡ true → first vowelByte before ≡ true
 unfolding fitsIn rows row5
-clear-mark before b after c e = ⊎-elim (λ v. v) (λ (v : first vowelByte before ≡ false). absurd (true≢false (rw (e, v) at (c 5)))) (yes-or (first vowelByte before))
+clear-mark before b after c e = either (first vowelByte before) (λ v. v) (λ v. absurd (true≢false (rw (e, v) at (c 5))))
 
 -- an accepted message is steady
 pub accepted-steady : (m : List ℕ) (counts : Counts) → checkOf m ≡ Accepted counts → ((i : ℕ) → getD m i 0 < 256) → Steady m

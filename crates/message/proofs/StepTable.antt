@@ -1,9 +1,9 @@
 -- The check's tables by their rules: each entry is what specs/Steps.antt says, by one computation over all of them.
-use Rattle.laws.proofs.Kit.{ℕ, zero, suc, _+_, _-_, _*_, _/_, _%_, _<_, _≤_, _≡_, refl, ap, _∙_, ⊎-elim, true, false, cond, not, and-false, List, [], _∷_, map, arith, eqb, leb, getD, eqb-true, eqb-false, leb-true, ne-eqb}
+use Rattle.laws.proofs.Kit.{ℕ, zero, suc, _+_, _-_, _*_, _/_, _%_, _<_, _≤_, _≡_, refl, ap, _∙_, true, false, cond, not, and-false, List, [], _∷_, map, arith, eqb, leb, getD, eqb-true, eqb-false, leb-true, ne-eqb}
 use Rattle.spec.specs.{Alphabet.«з», Alphabet.«н», Alphabet.«р», Alphabet.«с», Tables.among, Letters.small, Elision.elidesT, Elision.elidesD, Elision.elidesAmong}
 use Rattle.message.specs.{Classes.classOf, Classes.classAt, Classes.isBreakClass, Classes.isConsonantClass, Classes.isSignClass, Classes.tabulate, Classes.classes, Classes.letterAt, Classes.letterBefore, Classes.elidedAt, Classes.silentAt, Steps.isSignKind, Steps.nextKind, Steps.faultIn, Steps.widthIn, Steps.namesIn, Steps.askIn, Steps.stopIn, Steps.packed, Steps.pairs, Steps.kindAt, Steps.widthAt, Steps.nameUnit, Steps.askUnit, Steps.stopUnit}
 use Rattle.message.proofs.{Bytes.below, Bytes.pairs-same, Bytes.by-class, Bytes.not-both, Elided.other-stays, Elided.only-where, Computed.everything}
-use Rattle.laws.proofs.Classes.{among-none, yes-or}
+use Rattle.laws.proofs.Classes.{among-none, either}
 
 -- past the start, the letter before place i is the one at i - 1
 pub before-at : (m : List ℕ) (i : ℕ) → (i ≡ 0 → ⊥) → letterAt m (i - 1) ≡ letterBefore m i
@@ -114,9 +114,8 @@ pairs-read t k c e h l =
 pub silent-asks : (m : List ℕ) (i : ℕ) → ((j : ℕ) → getD m j 0 < 256)
     → (silentAt m i ≤ askIn (kindAt m i) (classAt m i)) × (widthAt m i (kindAt m i) + silentAt m i ≡ widthIn (kindAt m i) (classAt m i))
 unfolding askIn widthIn widthAt kindAt nextKind
-silent-asks m i bytes = ⊎-elim
-    (λ (e : elidedAt m i ≡ true).
+silent-asks m i bytes = either (elidedAt m i) (λ e.
     let c = eqb-true (classAt m i) 8 (only-where _ _ (λ q. class-spoken m i (bytes i) (eqb-false (classAt m i) 8 q)) e) in
     let k = eqb-true (kindAt m i) 7 (only-where _ _ (λ q. before-spoken m i bytes (λ j z y. eqb-false (kindAt m i) 7 q (rw (z, y)))) e) in
     rw (e, k, c) (omega arith, omega arith))
-    (λ (e : elidedAt m i ≡ false). rw e (omega arith, omega arith)) (yes-or (elidedAt m i))
+    (λ e. rw e (omega arith, omega arith))

@@ -1,8 +1,8 @@
 -- The tape and the names from a place on: what the byte there puts before what comes after it. A place's tape is what the walk from the right has written when it stands there.
-use Rattle.laws.proofs.Kit.{ℕ, suc, _<_, _≡_, refl, sym, ap, ⊎-elim, Bool, true, false, cond, _&&_, or-assoc, or-comm, or-false, List, [], _∷_, _++_, append-assoc, append-nil, length, getD, drop, drop-cons, drop-length}
+use Rattle.laws.proofs.Kit.{ℕ, suc, _<_, _≡_, refl, sym, ap, Bool, true, false, cond, _&&_, or-assoc, or-comm, or-false, List, [], _∷_, _++_, append-assoc, append-nil, length, getD, drop, drop-cons, drop-length}
 use Rattle.spec.specs.{Elision.elide, Letters.Letter, Letters.Message, Letters.last, Letters.more, Letters.putLetter, Letters.read, Letters.firstWord, Letters.isMark, Letters.isBreak, Letters.isGap, Letters.isVowel, Codes.markOf, Codes.isVoicing, Syllables.Facts, Syllables.factsOf, Syllables.hasMark, Syllables.namesFrom, Syllables.incomplete, Syllables.nameOf, Syllables.syllableOf, Vowels.endsHardFrom, Vowels.endsHard, Voicing.voiced, Voicing.voiceless, Voicing.voices, Voicing.toneOf, Palatalization.firstCode, Tape.segment, Tape.tape, Tape.namesOf, Tape.names, Tape.wordNames, Refusals.vowelByte}
 use Rattle.message.proofs.{Bytes.vowel-break, Bytes.vowel-mark, Fused.word-fused, Elided.names-elide, Left.mark-within, Left.word-put, Left.afterLetter, Left.begins-at, Left.mark-first, Left.read-letter, Left.read-mark, Left.read-break, Left.read-end, Left.left-letter, Left.left-mark, Left.left-break, Left.unmarked-after}
-use Rattle.laws.proofs.{Classes.cond-app, Classes.yes-or, Classes.break-vowel, Stretch.voices-over, Stretch.voices-first}
+use Rattle.laws.proofs.{Classes.cond-app, Classes.either, Classes.break-vowel, Stretch.voices-over, Stretch.voices-first}
 use Rattle.message.specs.{Fused.toneBefore, Fused.letterCodes, Fused.fusedFrom, Places.Left, Places.leftAt, Places.markBefore, Places.markFrom, Places.markedAt, Places.factsAt, Places.tailTape, Places.tailNext, Places.tailWord, Places.tapeAt, Places.wordAt, Places.toneAt, Places.soundAt, Places.letterOf, Places.codesAt, Places.toneAfter, Places.soundAfter, Places.tailNamesOf, Places.namesAt, Places.Steady}
 
 -- the left context at the start of a word
@@ -224,7 +224,7 @@ module _ (m : List ℕ) (steady : Steady m) where
   pub names-other : (i : ℕ) → i < length m → isBreak (getD m i 0) ≡ false → vowelByte (getD m i 0) ≡ false → namesAt m i ≡ namesAt m (suc i)
   unfolding namesAt
   names-other i h b v =
-      ⊎-elim (λ k. rw (← marked-within i h b, left-mark m i h k, read-mark m i h k)) (λ k. rw v at (names-letter i h b k)) (yes-or (isMark (getD m i 0)))
+      either (isMark (getD m i 0)) (λ k. rw (← marked-within i h b, left-mark m i h k, read-mark m i h k)) (λ k. rw v at (names-letter i h b k))
 
   -- at a break an incomplete syllable is named
   pub names-break : (i : ℕ) → i < length m → isBreak (getD m i 0) ≡ true → namesAt m i ≡ incomplete (leftAt m i .p) ++ namesAt m (suc i)

@@ -1,9 +1,9 @@
 -- What the code reads off the bytes beside a place is what the left context of the place says: in a steady message the class of the byte before tells the class of the last letter of the word.
-use Rattle.laws.proofs.Kit.{ℕ, zero, suc, _-_, _<_, _≤_, _≡_, refl, ap, Bool, true, false, cond, _&&_, _||_, not, and-false, or-assoc, or-false, List, [], _∷_, _++_, map, _⊎_, inl, inr, ⊎-elim, arith, eqb, length, getD, drop, eqb-true, ne-eqb}
+use Rattle.laws.proofs.Kit.{ℕ, zero, suc, _-_, _<_, _≤_, _≡_, refl, ap, Bool, true, false, cond, _&&_, _||_, not, and-false, or-assoc, or-false, List, [], _∷_, _++_, map, _⊎_, inl, inr, arith, eqb, length, getD, drop, eqb-true, ne-eqb}
 use Rattle.spec.specs.{Alphabet.pause, Alphabet.mark, Alphabet.«ь», Alphabet.«е», Alphabet.«ё», Alphabet.«и», Alphabet.«ю», Alphabet.«я», Tables.among, Letters.between, Letters.small, Letters.plainVowels, Letters.softeningVowels, Letters.isBreak, Letters.isGap, Letters.isHardOnly, Letters.isSoftOnly, Letters.isConsonant, Letters.isSign, Letters.isVowel, Letters.isMark, Letters.beginsWithMark, Refusals.vowelByte, Syllables.coverAfter, Syllables.incomplete, Syllables.levelOf, Syllables.syllableOf, Syllables.nextStressed, Vowels.initial, Vowels.hardEnd, Vowels.glides, declared.Cover.Cover}
 use Rattle.message.specs.{Classes.classOf, Classes.isBreakClass, Classes.isSignClass, Classes.isLetterClass, Places.Steady, Places.Left, Places.stepLeft, Places.leftAt, Places.letterOf, Places.wordAt, Places.markedAt, Places.factsAt}
 use Rattle.message.proofs.{Bytes.below, Bytes.below-same, Bytes.by-class, Bytes.letter-class, Bytes.not-both, Bytes.vowel-break, Bytes.vowel-mark, Before.vowel-before, Left.left-letter, Computed.everything}
-use Rattle.laws.proofs.Classes.{among-same, yes-or}
+use Rattle.laws.proofs.Classes.{among-same, either}
 use Rattle.transcriber.specs.{Levels.levelBy, Sounds.byteBefore, Sounds.Before, Sounds.classBefore, Sounds.isHardOrPaired, Sounds.Told, Sounds.syllableBy, Sounds.glideBy, Sounds.hardBefore}
 
 -- two functions that agree on the bytes that pass a test agree at each of them
@@ -74,7 +74,7 @@ start-class m = refl
 -- a hard boundary stands only before a word's first letter
 pub boundary-initial : {t m : List ℕ} {i k q : ℕ} → Before t m i k → Told k q → (initial q && hardBefore m i) ≡ hardBefore m i
 unfolding hardBefore
-boundary-initial {k = k} e w = rw (w .first, ← e .class) (⊎-elim (λ d. rw (eqb-true k 2 d)) (λ d. rw d (and-false (isBreakClass k))) (yes-or (eqb k 2)))
+boundary-initial {k = k} e w = rw (w .first, ← e .class) (either (eqb k 2) (λ d. rw (eqb-true k 2 d)) (λ d. rw d (and-false (isBreakClass k))))
 
 -- е ё ю я are class 11, and и is class 12
 glide-class : (b : ℕ) → b < 256 → (among («е» ∷ «ё» ∷ «ю» ∷ «я» ∷ []) (small b) ≡ eqb (classOf b) 11) × (eqb (small b) «и» ≡ eqb (classOf b) 12)
@@ -102,8 +102,8 @@ module _ (m : List ℕ) (steady : Steady m) where
       let c = by-class b (steady .bytes i) in
       let e : suc i - 1 ≡ i = omega arith in
       rw (← or-assoc, k .hard, k .softSign, e)
-      (⊎-elim (λ d. let f = eqb-true (classOf b) 5 d in rw (f, left-letter m i h (rw f at (c .break)) (rw f at (c .mark)), told-at i (omega arith) .hardOnly))
-      (λ d. rw d (or-false (between 6 8 (classOf b)))) (yes-or (eqb (classOf b) 5)))
+      (either (eqb (classOf b) 5) (λ d. let f = eqb-true (classOf b) 5 d in rw (f, left-letter m i h (rw f at (c .break)) (rw f at (c .mark)), told-at i (omega arith) .hardOnly))
+      (λ d. rw d (or-false (between 6 8 (classOf b)))))
 
   -- before a mark stands a vowel, and no boundary
   mark-soft : (i : ℕ) → i < length m → isMark (getD m i 0) ≡ true → leftAt m i .hard ≡ false
