@@ -1,6 +1,7 @@
 -- The program never prints number 11: a message that the check accepts is short, so its tape has room in the codes that the transcriber is lent.
 use Rattle.laws.proofs.Kit.{ℕ, _≤_, arith, _≡_, refl, List, length, le-leb}
-use Rattle.spec.specs.{Tape.tape, Refusals.checkOf, Answers.numberOf, Answers.checkedNumber, Answers.within, Answers.afterCheck, Answers.tapeAnswer, declared.Checked.Checked, declared.Checked.the-variants.Accepted, declared.Checked.the-variants.Refused}
+use Rattle.spec.specs.Answers.{numberOf, checkedNumber, within, afterCheck, tapeAnswer}
+use Rattle.spec.specs.{Tape.tape, Refusals.checkOf, declared.Checked.Checked, declared.Checked.the-variants.Accepted, declared.Checked.the-variants.Refused}
 use Rattle.laws.proofs.{Accepted.accepted-counts, Sizes.tape-size, Bounds.check-small}
 
 pub room-for-all : (m : List ℕ) → numberOf (tapeAnswer m 8192) ≤ 10

@@ -1,6 +1,8 @@
 -- What is answered where the check does not refuse: number 12, then 11, and else the tape and then the output's own bytes.
 use Rattle.laws.proofs.Kit.{ℕ, _<_, _≤_, _≡_, refl, sym, _∙_, List, _++_, arith, eq-eqb, ne-eqb, le-leb, lt-leb, length, take, drop, getD, length-take-le}
-use Rattle.spec.specs.{Refusals.refusal, Refusals.checkOf, Joints.Rising, Joints.joined, Joints.liveCount, Joints.badCut, Answers.within, Answers.afterCheck, Answers.outputAfter, Answers.joinAnswer, Answers.JoinPromise, declared.Counts.Counts, declared.Checked.the-variants.Accepted, declared.Answer.the-variants.Written, declared.Answer.the-variants.Refused}
+use Rattle.spec.specs.Joints.{Rising, joined, liveCount, badCut}
+use Rattle.spec.specs.Answers.{within, afterCheck, outputAfter, joinAnswer, JoinPromise}
+use Rattle.spec.specs.{Refusals.refusal, Refusals.checkOf, declared.Counts.Counts, declared.Checked.the-variants.Accepted, declared.Answer.the-variants.Written, declared.Answer.the-variants.Refused}
 use Rattle.message.proofs.Steadiness.{accepted-steady}
 use Rattle.laws.proofs.{Accepted.accepted-counts, Cuts.rising-of, Cutting.equal-lengths, Promises.promised}
 use Rattle.joiner.specs.Writing.{TapeDue}

@@ -1,12 +1,16 @@
 -- The second tape is laid from the right over the whole message's: a part's codes there are as many as its own, and they are its own where no cut changes the first or the last of them.
 use Rattle.laws.proofs.Kit.{ℕ, zero, suc, _+_, _-_, _<_, _≤_, _≡_, refl, sym, ap, _∙_, Bool, true, false, cond, _||_, inl, inr, ⊎-elim, List, [], _∷_, _++_, append-nil, append-assoc, arith, add-one, length, take, drop, getD, length-append, length-take, length-drop, List·getD-append, List·getD-eq-default, take-all, take-length, take-at, take-suc, take-take, take-append-le, drop-at, drop-length, drop-cons, append-snoc, getD-take, length-take-le}
-use Rattle.spec.specs.{Tape.tape, Refusals.checkOf, Joints.RisingFrom, Joints.joinedFrom, Joints.joined, Joints.liveCount, Joints.markIndex, Joints.leastAt, declared.Checked.the-variants.Accepted}
+use Rattle.spec.specs.Joints.{RisingFrom, joinedFrom, joined, liveCount, markIndex, leastAt}
+use Rattle.spec.specs.{Tape.tape, Refusals.checkOf, declared.Checked.the-variants.Accepted}
 use Rattle.message.specs.Places.{Steady}
 use Rattle.message.proofs.Steadiness.{accepted-steady}
 use Rattle.transcriber.specs.Walk.{Put}
 use Rattle.transcriber.proofs.Putting.{put-first}
-use Rattle.laws.proofs.{Accepted.countsOf, Accepted.accepted-passes, Classes.below-or, Cuts.rising-length, Cuts.break-within, Cutting.equal-lengths, Parts.part, Parts.Begins, Parts.changedAfter, Parts.or-false, Parts.live-here, Parts.mark-there, Parts.part-first, Parts.first-own, PartsAccepted.part-at, PartsAccepted.part-accepted, Bounds.live-bound, Heard.tape-heard, Marks.mark-first, Marks.mark-next, Marks.mark-last, MarkIndex.Ends, MarkIndex.Placed, MarkIndex.stretch, MarkIndex.end-own, MarkIndex.placed, MarkIndex.own-length, MarkIndex.own-codes}
-use Rattle.joiner.specs.{Writing.Valid, Writing.TapeDue, Writing.PutBefore, Writing.PartDue, Writing.Whole, Writing.Reach, Writing.Beside, Writing.Changing, Writing.endOf, Writing.restOf, Writing.Laid, declared.Changes.Changes, declared.Progress.Progress}
+use Rattle.laws.proofs.Parts.{part, Begins, changedAfter, or-false, live-here, mark-there, part-first, first-own}
+use Rattle.laws.proofs.MarkIndex.{Ends, Placed, stretch, end-own, placed, own-length, own-codes}
+use Rattle.laws.proofs.{Accepted.countsOf, Accepted.accepted-passes, Classes.below-or, Cuts.rising-length, Cuts.break-within, Cutting.equal-lengths, PartsAccepted.part-at, PartsAccepted.part-accepted, Bounds.live-bound, Heard.tape-heard, Marks.mark-first, Marks.mark-next, Marks.mark-last}
+use Rattle.joiner.specs.Writing.{Valid, TapeDue, PutBefore, PartDue, Whole, Reach, Beside, Changing, endOf, restOf, Laid}
+use Rattle.joiner.specs.{declared.Changes.Changes, declared.Progress.Progress}
 use Rattle.joiner.proofs.Looking.{whole-less}
 use mir.Val.{boolByte}
 

@@ -1,6 +1,7 @@
 -- The two sides of a cut's mark: the codes beside it are the whole tape's, which tell the bits that come from over the cut, and the word after it begins with the letter of the next byte.
 use Rattle.laws.proofs.Kit.{ℕ, zero, suc, _+_, _-_, _≡_, refl, sym, ap, _∙_, true, false, _&&_, List, [], _∷_, arith, add-one, eqb, getD, drop, eqb-true}
-use Rattle.spec.specs.{Alphabet.gap, Alphabet.pause, Letters.read, Letters.firstByte, Letters.firstWord, Letters.small, Letters.isMark, Letters.isBreak, Tape.tape, Joints.markIndex, Joints.wordAfter}
+use Rattle.spec.specs.Letters.{read, firstByte, firstWord, small, isMark, isBreak}
+use Rattle.spec.specs.{Alphabet.gap, Alphabet.pause, Tape.tape, Joints.markIndex, Joints.wordAfter}
 use Rattle.message.specs.Classes.{letterAt}
 use Rattle.message.proofs.Left.{word-put, unmarked-after}
 use Rattle.laws.proofs.{Classes.either, Classes.break-vowel, Parts.changedAfter, Parts.changedBefore, Beside.isVoiced, Beside.isHigh, Beside.isIOrE, MarkIndex.before-told, MarkIndex.after-told}

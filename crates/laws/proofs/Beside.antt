@@ -1,9 +1,13 @@
 -- What the codes at the two ends of a stretch tell of the bits that come from its neighbours: the last one is voiced just where the bit of what follows voices an obstruent, and at the
 -- start и and э sound Ы just behind a hard boundary. Why: only pass 4's last step looks at what follows, and only the first letter's row at what stands before.
 use Rattle.laws.proofs.Kit.{ℕ, suc, _≡_, refl, sym, _∙_, Bool, true, false, cond, not, _&&_, and-true, and-false, and-eq-true-iff, true≢false, List, [], _∷_, _++_, append-assoc, not-true}
-use Rattle.spec.specs.{Letters.Letter, Letters.Message, Letters.last, Letters.more, Letters.firstByte, Letters.firstWord, Letters.lastWord, Letters.obstruents, Letters.isObstruent, Codes.markOf, Codes.isSound, Vowels.Phone, Voicing.voiced, Voicing.voiceless, Voicing.voicedCode, Voicing.voicelessCode, Voicing.toneOf, Voicing.toned, Voicing.voiceOne, Voicing.voice, Palatalization.isSoft, Palatalization.firstCode, Palatalization.palatalize, Tape.wordTape, Tape.segment, Joints.endsInObstruent, Joints.beginsWithIOrE}
+use Rattle.spec.specs.Letters.{Letter, Message, last, more, firstByte, firstWord, lastWord, obstruents, isObstruent}
+use Rattle.spec.specs.Voicing.{voiced, voiceless, voicedCode, voicelessCode, toneOf, toned, voiceOne, voice}
+use Rattle.spec.specs.{Codes.markOf, Codes.isSound, Vowels.Phone, Palatalization.isSoft, Palatalization.firstCode, Palatalization.palatalize, Tape.wordTape, Tape.segment, Joints.endsInObstruent, Joints.beginsWithIOrE}
 use Rattle.spec.proofs.Computed.{everything}
-use Rattle.laws.proofs.{Codes.Spells, Codes.isVoiced, Codes.both, Codes.fine, Codes.Fine, Codes.word-fine, Codes.soft-both, Classes.mark-both, Classes.either, Classes.among-same, Word.lastCodeFrom, Word.endsToned, Word.word-toned, Word.word-starts, Stretch.last-append}
+use Rattle.laws.proofs.Codes.{Spells, isVoiced, both, fine, Fine, word-fine, soft-both}
+use Rattle.laws.proofs.Word.{lastCodeFrom, endsToned, word-toned, word-starts}
+use Rattle.laws.proofs.{Classes.mark-both, Classes.either, Classes.among-same, Stretch.last-append}
 pub use Rattle.laws.proofs.{Word.isHigh, Word.isIOrE, Codes.isVoiced}
 
 -- a test that has this answer

@@ -1,7 +1,10 @@
 -- How large an answer's numbers can be, whatever the bytes and the cuts: no place is past 4,096 bytes, a byte makes at most two codes and one name, and each good cut takes a break of its own.
 use Rattle.laws.proofs.Kit.{ℕ, suc, _≤_, ⊎-elim, List, [], _∷_, arith, leb, length, eq-eqb, ne-eqb}
-use Rattle.spec.specs.{Tape.tape, Tape.names, Refusals.checkOf, Joints.joined, Joints.isLive, Joints.liveCount, Joints.badCut, Answers.numberOf, Answers.placeOf, Answers.lengthOf, Answers.liveOf, Answers.checkedNumber, Answers.checkedPlace, Answers.checkedCodes, Answers.checkedNames, Answers.within, Answers.afterCheck, Answers.nameAnswer, Answers.tapeAnswer, Answers.joinAnswer, declared.Checked.Checked, declared.Answer.Answer}
-use Rattle.laws.proofs.{Accepted.check-finds, Accepted.given-range, Classes.cond-both, Cuts.judged, Cuts.rising-to, Cuts.bad-bound, Cuts.rising-length, Cutting.equal-lengths, Sizes.tape-size, Sizes.names-size}
+use Rattle.spec.specs.Joints.{joined, isLive, liveCount, badCut}
+use Rattle.spec.specs.Answers.{numberOf, placeOf, lengthOf, liveOf, checkedNumber, checkedPlace, checkedCodes, checkedNames, within, afterCheck, nameAnswer, tapeAnswer, joinAnswer}
+use Rattle.spec.specs.{Tape.tape, Tape.names, Refusals.checkOf, declared.Checked.Checked, declared.Answer.Answer}
+use Rattle.laws.proofs.Cuts.{judged, rising-to, bad-bound, rising-length}
+use Rattle.laws.proofs.{Accepted.check-finds, Accepted.given-range, Classes.cond-both, Cutting.equal-lengths, Sizes.tape-size, Sizes.names-size}
 use Rattle.spec.specs.declared.Answer.the-variants as answer
 
 -- the check's answer in numbers that are small

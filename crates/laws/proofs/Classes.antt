@@ -1,6 +1,8 @@
 -- A test has two outcomes, so what holds in both holds; and a class is a list of bytes, so what holds of all its letters is one computation over that list.
 use Rattle.laws.proofs.Kit.{ℕ, suc, _<_, _≤_, _≡_, refl, sym, ap, _∙_, Bool, true, false, cond, _||_, true≢false, false≢true, _⊎_, inl, inr, List, [], _∷_, _++_, map, arith, eqb, leb, eqb-true, leb-true, leb-false}
-use Rattle.spec.specs.{Tables.among, Alphabet.gap, Alphabet.pause, Codes.markOf, Letters.isBreak, Letters.isMark, Letters.plainVowels, Letters.softeningVowels, Letters.isVowel, Letters.isObstruent, Letters.isPaired, Refusals.vowelByte, Refusals.signByte, Refusals.hardSignByte, Refusals.consonantByte}
+use Rattle.spec.specs.Letters.{isBreak, isMark, plainVowels, softeningVowels, isVowel, isObstruent, isPaired}
+use Rattle.spec.specs.Refusals.{vowelByte, signByte, hardSignByte, consonantByte}
+use Rattle.spec.specs.{Tables.among, Alphabet.gap, Alphabet.pause, Codes.markOf}
 use Rattle.spec.proofs.Computed.{everything}
 
 -- what holds of both choices holds of what a test chooses

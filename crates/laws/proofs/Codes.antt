@@ -1,9 +1,18 @@
 -- The codes of a tape. Every letter of an accepted message is one of the alphabet, so each code of its words is a sound, 1 to 13 or 16 to 56,
 -- and the marks on its tape are those of its breaks.
 use Rattle.laws.proofs.Kit.{ℕ, zero, suc, _+_, _-_, _<_, _≡_, refl, sym, ap, _∙_, Bool, true, false, cond, not, _&&_, _||_, and-eq-true-iff, and-true, or-false, true≢false, List, [], _∷_, _++_, arith, eqb, length, take, drop, getD, length-take, length-drop, take-length, getD-take, getD-drop, not-false}
-use Rattle.spec.specs.{Tables.among, Letters.Letter, Letters.Message, Letters.last, Letters.more, Letters.read, Letters.putLetter, Letters.hardOnly, Letters.paired, Letters.softOnly, Letters.plainVowels, Letters.softeningVowels, Letters.obstruents, Letters.between, Letters.isGap, Letters.isBreak, Letters.isMark, Letters.isPaired, Letters.isConsonant, Letters.isSign, Letters.isVowel, Letters.isObstruent, Codes.Б, Codes.З', Codes.J, Codes.Ц1, Codes.Ч1, Codes.markOf, Codes.isMarkCode, Codes.isSound, Codes.isCode, Elision.elides, Elision.elideFrom, Elision.elide, Syllables.Facts, Syllables.factsOf, Syllables.syllableOf, Syllables.nameIn, Syllables.nameOf, Syllables.isName, Syllables.incomplete, Syllables.namesFrom, Vowels.Phone, Vowels.vowelSound, Vowels.writtenCode, Vowels.phonesFrom, Vowels.endsHard, Voicing.Tone, Voicing.voiced, Voicing.voiceless, Voicing.asWritten, Voicing.voicedCode, Voicing.voicelessCode, Voicing.voices, Voicing.toneOf, Voicing.toned, Voicing.codesOf, Voicing.voiceOne, Voicing.voice, Palatalization.isSoft, Palatalization.palatalize, Tape.wordTape, Tape.segment, Tape.tape, Tape.wordNames, Tape.namesOf, Tape.names, Refusals.consonantByte, Refusals.signByte, Refusals.vowelByte, Refusals.letterByte, Refusals.row3, Refusals.rows, Refusals.fitsIn, Refusals.NoneFits, Joints.joinedFrom, Joints.joined, Joints.marksOf, Joints.breakMarks, declared.Cover.Cover, declared.Cover.the-variants.Bare, declared.Cover.the-variants.Covered, declared.Syllable.Syllable, declared.Level.Level, declared.Level.the-variants.Stressed, declared.Level.the-variants.First, declared.Level.the-variants.Second}
+use Rattle.spec.specs.Letters.{Letter, Message, last, more, read, putLetter, hardOnly, paired, softOnly, plainVowels, softeningVowels, obstruents, between, isGap, isBreak, isMark, isPaired, isConsonant, isSign, isVowel, isObstruent}
+use Rattle.spec.specs.Codes.{Б, З', J, Ц1, Ч1, markOf, isMarkCode, isSound, isCode}
+use Rattle.spec.specs.Syllables.{Facts, factsOf, syllableOf, nameIn, nameOf, isName, incomplete, namesFrom}
+use Rattle.spec.specs.Vowels.{Phone, vowelSound, writtenCode, phonesFrom, endsHard}
+use Rattle.spec.specs.Voicing.{Tone, voiced, voiceless, asWritten, voicedCode, voicelessCode, voices, toneOf, toned, codesOf, voiceOne, voice}
+use Rattle.spec.specs.Tape.{wordTape, segment, tape, wordNames, namesOf, names}
+use Rattle.spec.specs.Refusals.{consonantByte, signByte, vowelByte, letterByte, row3, rows, fitsIn, NoneFits}
+use Rattle.spec.specs.Joints.{joinedFrom, joined, marksOf, breakMarks}
+use Rattle.spec.specs.{Tables.among, Elision.elides, Elision.elideFrom, Elision.elide, Palatalization.isSoft, Palatalization.palatalize, declared.Cover.Cover, declared.Cover.the-variants.Bare, declared.Cover.the-variants.Covered, declared.Syllable.Syllable, declared.Level.Level, declared.Level.the-variants.Stressed, declared.Level.the-variants.First, declared.Level.the-variants.Second}
 use Rattle.spec.proofs.Computed.{everything}
-use Rattle.laws.proofs.{Classes.cond-both, Classes.mark-both, Classes.cond-app, Classes.cond-same, Classes.either, Classes.refuted, Classes.among-same, Classes.vowel-single, Classes.vowel-quiet, Word.phones-cases, Accepted.Passes, Accepted.none-passes}
+use Rattle.laws.proofs.Classes.{cond-both, mark-both, cond-app, cond-same, either, refuted, among-same, vowel-single, vowel-quiet}
+use Rattle.laws.proofs.{Word.phones-cases, Accepted.Passes, Accepted.none-passes}
 
 -- a claim on each code of a tape, or on each name
 abbrev pub Each : (ℕ → Bool) → List ℕ → Type 0

@@ -1,6 +1,7 @@
 -- A list of cuts: number 12 lets through just the strictly rising lists of places of breaks, since past its end a message has no break.
 use Rattle.laws.proofs.Kit.{ℕ, zero, suc, _+_, _-_, _<_, _≤_, _≡_, refl, sym, ap, _∙_, true, false, not, false≢true, true≢false, _⊎_, inl, inr, ⊎-elim, List, [], _∷_, arith, leb-true, le-leb, not-false, length, drop, getD, length-drop, List·getD-eq-default}
-use Rattle.spec.specs.{Letters.isBreak, Joints.RisingFrom, Joints.Rising, Joints.CutOf, Joints.breaksFrom, Joints.breaks, Joints.row12, Joints.badCutFrom, Joints.badCut, Joints.leastAt, Joints.FirstBad}
+use Rattle.spec.specs.Joints.{RisingFrom, Rising, CutOf, breaksFrom, breaks, row12, badCutFrom, badCut, leastAt, FirstBad}
+use Rattle.spec.specs.Letters.{isBreak}
 use Rattle.laws.proofs.{Accepted.rest-first, Classes.cond-app, Classes.cond-both, Classes.either, Classes.or-false, Classes.below-or}
 
 -- a break stands within the message

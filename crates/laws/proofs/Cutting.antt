@@ -1,7 +1,12 @@
 -- The two tapes of a message, for every list of cuts: each cut splits both tapes at one index, and a cut is live just when a bit from over it changes a code beside its mark.
 use Rattle.laws.proofs.Kit.{ℕ, zero, suc, _+_, _-_, _≤_, _&&_, _++_, append-assoc, length-append, _<_, _≡_, refl, sym, ap, _∙_, true, false, true≢false, inl, inr, ⊎-elim, _≢_, _↔_, List, [], _∷_, arith, length, getD, take, drop}
-use Rattle.spec.specs.{Letters.isBreak, Letters.read, Letters.firstByte, Tape.tape, Refusals.NoneFits, Joints.RisingFrom, Joints.Rising, Joints.joinedFrom, Joints.marksOf, Joints.breakMarks, Joints.wordAfter, Joints.CutOf, Joints.DiffersAt, Joints.joined, Joints.isLive, Joints.NoneLive, Joints.liveCount, Joints.markIndex, Codes.markOf, Palatalization.firstCode, Demands.TwoTapes}
-use Rattle.laws.proofs.{Accepted.none-passes, Accepted.none-accepted, Classes.either, Classes.refuted, Codes.Spells, Codes.bytes-marks, Codes.part-spells, Codes.marks-mark, Codes.marks-append, Codes.breaks-append, Beside.segment-ends, Beside.isVoiced, Beside.isHigh, Beside.isIOrE, Beside.mark-unvoiced, Cuts.cut-good, Cuts.break-within, PartsAccepted.parts-none, Parts.onward, Parts.voicedAt, Parts.changedBefore, Parts.part, Parts.Begins, Parts.part-split, Parts.part-first, Parts.last-at, Parts.after-mark, Parts.joined-low, Parts.tape-cut, Parts.mark-index, Parts.live-here, Parts.onward-first, Parts.first-own, Parts.joined-length, Parts.joined-dead, Word.lastCodeFrom, Stretch.last-append, Marks.mark-first, Marks.mark-next, MarkIndex.placed, MarkIndex.own-length, MarkIndex.before-told, MarkIndex.after-told}
+use Rattle.spec.specs.Joints.{RisingFrom, Rising, joinedFrom, marksOf, breakMarks, wordAfter, CutOf, DiffersAt, joined, isLive, NoneLive, liveCount, markIndex}
+use Rattle.spec.specs.{Letters.isBreak, Letters.read, Letters.firstByte, Tape.tape, Refusals.NoneFits, Codes.markOf, Palatalization.firstCode, Demands.TwoTapes}
+use Rattle.laws.proofs.Codes.{Spells, bytes-marks, part-spells, marks-mark, marks-append, breaks-append}
+use Rattle.laws.proofs.Beside.{segment-ends, isVoiced, isHigh, isIOrE, mark-unvoiced}
+use Rattle.laws.proofs.Parts.{onward, voicedAt, changedBefore, part, Begins, part-split, part-first, last-at, after-mark, joined-low, tape-cut, mark-index, live-here, onward-first, first-own, joined-length, joined-dead}
+use Rattle.laws.proofs.MarkIndex.{placed, own-length, before-told, after-told}
+use Rattle.laws.proofs.{Accepted.none-passes, Accepted.none-accepted, Classes.either, Classes.refuted, Cuts.cut-good, Cuts.break-within, PartsAccepted.parts-none, Word.lastCodeFrom, Stretch.last-append, Marks.mark-first, Marks.mark-next}
 
 -- the count is 0 exactly when no cut is live
 pub counts-none : (m cuts : List ℕ) → (liveCount m cuts ≡ 0) ↔ NoneLive m cuts

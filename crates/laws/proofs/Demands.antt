@@ -1,7 +1,12 @@
 -- The operator's three demands, from the promises alone: every operation answers the check's refusal, then number 12, then 11, and else its text, so each way of ending is one case.
 use Rattle.laws.proofs.Kit.{ℕ, _≤_, _≡_, refl, sym, ap, _∙_, cond, _⊎_, inl, inr, ⊎-elim, _↔_, List, [], arith, eqb, length, length-append, length-drop, eq-eqb, ne-eqb, le-leb, lt-leb}
-use Rattle.spec.specs.{Tape.tape, Tape.names, Refusals.refusal, Refusals.checkOf, Refusals.NoneFits, Joints.Rising, Joints.joined, Joints.liveCount, Joints.badCutFrom, Joints.badCut, Answers.numberOf, Answers.placeOf, Answers.lengthOf, Answers.liveOf, Answers.checkedNumber, Answers.checkedPlace, Answers.checkedCodes, Answers.checkedNames, Answers.within, Answers.afterCheck, Answers.outputAfter, Answers.nameAnswer, Answers.tapeAnswer, Answers.joinAnswer, Answers.Promise, Demands.Due, Demands.turnedAway, Demands.wrongCut, Demands.tooShort, Demands.CarriedOut, Demands.Settled, Demands.Exactly, Demands.Demand1, Demands.Demand2, Demands.Demand3, declared.Answer.Answer, declared.Answer.the-variants.Written, declared.Answer.the-variants.Refused}
-use Rattle.laws.proofs.{Accepted.check-finds, Accepted.passes-none, Accepted.none-accepted, Accepted.given-range, Accepted.given-refused, Classes.below-or, Cuts.judged, Cuts.first-bad, Cuts.rising-to, Cuts.full-rising, Cuts.full-every, Cutting.counts-none, Cutting.two-tapes}
+use Rattle.spec.specs.Joints.{Rising, joined, liveCount, badCutFrom, badCut}
+use Rattle.spec.specs.Answers.{numberOf, placeOf, lengthOf, liveOf, checkedNumber, checkedPlace, checkedCodes, checkedNames, within, afterCheck, outputAfter, nameAnswer, tapeAnswer, joinAnswer, Promise}
+use Rattle.spec.specs.Demands.{Due, turnedAway, wrongCut, tooShort, CarriedOut, Settled, Exactly, Demand1, Demand2, Demand3}
+use Rattle.spec.specs.{Tape.tape, Tape.names, Refusals.refusal, Refusals.checkOf, Refusals.NoneFits, declared.Answer.Answer, declared.Answer.the-variants.Written, declared.Answer.the-variants.Refused}
+use Rattle.laws.proofs.Accepted.{check-finds, passes-none, none-accepted, given-range, given-refused}
+use Rattle.laws.proofs.Cuts.{judged, first-bad, rising-to, full-rising, full-every}
+use Rattle.laws.proofs.{Classes.below-or, Cutting.counts-none, Cutting.two-tapes}
 
 -- what is due after the check and the list of cuts
 abbrev dueAfter : List ℕ → List ℕ → List ℕ → ℕ → List ℕ → Answer

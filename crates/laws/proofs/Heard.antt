@@ -1,6 +1,8 @@
 -- An accepted message is heard: its first letter is no sign and is not elided, so it has a sound.
 use Rattle.laws.proofs.Kit.{ℕ, _<_, _≡_, sym, _∙_, Bool, false, and-true, true≢false, List, [], _∷_, arith, length, length-append}
-use Rattle.spec.specs.{Letters.Letter, Letters.Message, Letters.last, Letters.more, Letters.read, Letters.putLetter, Letters.isSign, Elision.elideFrom, Elision.elide, Syllables.factsOf, Vowels.phonesFrom, Tape.wordTape, Tape.segment, Tape.tape, Refusals.none, Refusals.first, Refusals.signByte, Refusals.row4, Refusals.row5, Refusals.row6, Refusals.rows, Refusals.fitsIn, Refusals.beforeAt}
+use Rattle.spec.specs.Letters.{Letter, Message, last, more, read, putLetter, isSign}
+use Rattle.spec.specs.Refusals.{none, first, signByte, row4, row5, row6, rows, fitsIn, beforeAt}
+use Rattle.spec.specs.{Elision.elideFrom, Elision.elide, Syllables.factsOf, Vowels.phonesFrom, Tape.wordTape, Tape.segment, Tape.tape}
 use Rattle.laws.proofs.{Accepted.Passes, Word.first-kept, Word.phones-cases, Word.sounds-length}
 
 -- a word that begins with a letter that is no sign; its first letter is not elided

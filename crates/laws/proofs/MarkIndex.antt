@@ -1,8 +1,13 @@
 -- Where the codes of a part and the marks of breaks stand on a tape: before a place as many codes stand as the bytes before it make, so a part's codes in the whole tape are as many
 -- as its own, and since each code of a word is a sound the last mark before that of a place is that of the last break before it.
 use Rattle.laws.proofs.Kit.{ℕ, suc, _+_, _-_, _<_, _≤_, _≡_, refl, sym, ap, _∙_, Bool, true, false, not, _&&_, and-eq-true-iff, true≢false, _⊎_, ⊎-elim, List, [], _∷_, _++_, append-nil, arith, leb, length, take, drop, getD, length-append, length-drop, List·getD-append, List·getD-eq-default, take-all, getD-append-add, leb-true, le-leb}
-use Rattle.spec.specs.{Letters.between, Letters.read, Letters.firstByte, Letters.isGap, Letters.isBreak, Codes.А*, Codes.Щ, Codes.markOf, Codes.isSound, Tape.segment, Tape.tape, Refusals.checkOf, Joints.markIndex, Joints.wordBefore, Joints.wordAfter, declared.Counts.Counts, declared.Checked.the-variants.Accepted}
-use Rattle.laws.proofs.{Accepted.accepted-passes, Classes.mark-both, Classes.either, Classes.below-or, Stretch.segment-length, PartsAccepted.part-length, PartsAccepted.part-at, Codes.Each, Codes.part-spells, Codes.read-marks, Codes.segment-sounds, Codes.unbroken, Codes.each-at, Parts.part, Parts.Begins, Parts.hardAt, Parts.onward, Parts.voicedAt, Parts.changedAfter, Parts.changedBefore, Parts.last-at, Parts.onward-cut, Parts.part-own, Parts.tape-cut, Parts.mark-index, Parts.mark-there, Parts.code-after, Parts.onward-alone, Marks.tape-from, Marks.mark-next, Marks.mark-last, Beside.isVoiced, Beside.isHigh, Beside.isIOrE, Beside.segment-ends, Beside.segment-starts}
+use Rattle.spec.specs.Letters.{between, read, firstByte, isGap, isBreak}
+use Rattle.spec.specs.Codes.{А*, Щ, markOf, isSound}
+use Rattle.spec.specs.{Tape.segment, Tape.tape, Refusals.checkOf, Joints.markIndex, Joints.wordBefore, Joints.wordAfter, declared.Counts.Counts, declared.Checked.the-variants.Accepted}
+use Rattle.laws.proofs.Codes.{Each, part-spells, read-marks, segment-sounds, unbroken, each-at}
+use Rattle.laws.proofs.Parts.{part, Begins, hardAt, onward, voicedAt, changedAfter, changedBefore, last-at, onward-cut, part-own, tape-cut, mark-index, mark-there, code-after, onward-alone}
+use Rattle.laws.proofs.Beside.{isVoiced, isHigh, isIOrE, segment-ends, segment-starts}
+use Rattle.laws.proofs.{Accepted.accepted-passes, Classes.mark-both, Classes.either, Classes.below-or, Stretch.segment-length, PartsAccepted.part-length, PartsAccepted.part-at, Marks.tape-from, Marks.mark-next, Marks.mark-last}
 
 -- a part may end at e: at the message's end, or at a break
 abbrev pub Ends : List ℕ → ℕ → Type 0

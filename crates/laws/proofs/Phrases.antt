@@ -1,8 +1,14 @@
 -- Two messages with a break between them: a pause splits the tape, any break the names, since nothing crosses them; and accepted messages with a break between, short enough, are an accepted one.
 use Rattle.laws.proofs.Kit.{ℕ, _<_, _≤_, _≡_, refl, sym, _∙_, true, false, List, [], _∷_, _++_, append-assoc, arith, length}
-use Rattle.spec.specs.{Alphabet.pause, Letters.Message, Letters.last, Letters.more, Letters.read, Letters.isBreak, Tape.tape, Tape.wordNames, Tape.namesOf, Tape.names, Refusals.letterByte, Refusals.first, Refusals.none, Refusals.row3, Refusals.row4, Refusals.row5, Refusals.row6, Refusals.row7, Refusals.row8, Refusals.row9, Refusals.row10, Refusals.rows, Refusals.fitsIn, Refusals.beforeAt, Refusals.NoneFits}
+use Rattle.spec.specs.Letters.{Message, last, more, read, isBreak}
+use Rattle.spec.specs.Tape.{tape, wordNames, namesOf, names}
+use Rattle.spec.specs.Refusals.{letterByte, first, none, row3, row4, row5, row6, row7, row8, row9, row10, rows, fitsIn, beforeAt, NoneFits}
+use Rattle.spec.specs.Alphabet.{pause}
 use Rattle.spec.proofs.Computed.{everything}
-use Rattle.laws.proofs.{Accepted.Clear, Accepted.ClearFrom, Accepted.places-clear, Accepted.clear-places, Accepted.Passes, Accepted.passes-none, Accepted.none-passes, Stretch.meet, Stretch.read-join, Stretch.segment-join, Classes.cond-same, Classes.break-mark, Classes.break-vowel, Classes.break-sign, Classes.break-consonant, PartsAccepted.Opens, PartsAccepted.rows-over, PartsAccepted.rows-after, PartsAccepted.clear-followed, PartsAccepted.last-firm}
+use Rattle.laws.proofs.Accepted.{Clear, ClearFrom, places-clear, clear-places, Passes, passes-none, none-passes}
+use Rattle.laws.proofs.Classes.{cond-same, break-mark, break-vowel, break-sign, break-consonant}
+use Rattle.laws.proofs.PartsAccepted.{Opens, rows-over, rows-after, clear-followed, last-firm}
+use Rattle.laws.proofs.Stretch.{meet, read-join, segment-join}
 
 -- A pause splits a tape.
 pub tape-pause : (a b : List ℕ) → tape (a ++ (pause ∷ b)) ≡ tape a ++ (63 ∷ tape b)

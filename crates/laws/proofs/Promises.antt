@@ -1,6 +1,7 @@
 -- A promise is kept by the answer that is due: its numbers are then the answer's.
 use Rattle.laws.proofs.Kit.{_≡_, ap, List, ℕ}
-use Rattle.spec.specs.{Refusals.checkOf, Answers.numberOf, Answers.placeOf, Answers.lengthOf, Answers.liveOf, Answers.checkedNumber, Answers.checkedPlace, Answers.checkedCodes, Answers.checkedNames, Answers.outputAfter, Answers.Promise, Answers.CheckPromise, declared.Checked.Checked, declared.Answer.Answer}
+use Rattle.spec.specs.Answers.{numberOf, placeOf, lengthOf, liveOf, checkedNumber, checkedPlace, checkedCodes, checkedNames, outputAfter, Promise, CheckPromise}
+use Rattle.spec.specs.{Refusals.checkOf, declared.Checked.Checked, declared.Answer.Answer}
 
 -- an operation that answers what is due, and leaves in the output what it must
 pub promised : (due : Answer) (text out out′ : List ℕ) (r : Answer) → r ≡ due → out′ ≡ outputAfter due text out → Promise due text out out′ r

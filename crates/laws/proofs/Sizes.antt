@@ -1,6 +1,9 @@
 -- How long a tape and a naming can be: a letter makes at most two codes and one name, a break one code, and a message has no more letters and breaks than bytes.
 use Rattle.laws.proofs.Kit.{ℕ, suc, _+_, _*_, _≤_, _≡_, refl, ap, Bool, true, false, _&&_, _||_, List, [], _∷_, _++_, arith, length, length-append}
-use Rattle.spec.specs.{Letters.Letter, Letters.Message, Letters.last, Letters.more, Letters.read, Letters.putLetter, Letters.isGap, Letters.isBreak, Letters.isMark, Letters.isSign, Letters.isVowel, Letters.isConsonant, Letters.plainVowels, Letters.softeningVowels, Elision.elides, Elision.elideFrom, Elision.elide, Syllables.Facts, Syllables.factsOf, Syllables.incomplete, Syllables.namesFrom, Vowels.phonesFrom, Vowels.endsHard, Voicing.voices, Tape.wordTape, Tape.segment, Tape.tape, Tape.wordNames, Tape.namesOf, Tape.names}
+use Rattle.spec.specs.Letters.{Letter, Message, last, more, read, putLetter, isGap, isBreak, isMark, isSign, isVowel, isConsonant, plainVowels, softeningVowels}
+use Rattle.spec.specs.Syllables.{Facts, factsOf, incomplete, namesFrom}
+use Rattle.spec.specs.Tape.{wordTape, segment, tape, wordNames, namesOf, names}
+use Rattle.spec.specs.{Elision.elides, Elision.elideFrom, Elision.elide, Vowels.phonesFrom, Vowels.endsHard, Voicing.voices}
 use Rattle.spec.proofs.Computed.{everything}
 use Rattle.laws.proofs.{Classes.cond-both, Classes.either, Classes.among-same, Word.phones-cases, Word.sounds-length}
 

@@ -1,6 +1,7 @@
 -- The tape of a stretch of a message: a break splits it in two, since nothing but the two bits crosses a break; and what the bits change, by its first and last word.
 use Rattle.laws.proofs.Kit.{ℕ, _≡_, refl, ap, Bool, true, false, _&&_, List, [], _∷_, _++_, append-assoc, arith, length, length-append}
-use Rattle.spec.specs.{Tables.among, Letters.Letter, Letters.Message, Letters.last, Letters.more, Letters.read, Letters.putLetter, Letters.beginsWithMark, Letters.firstWord, Letters.lastWord, Letters.isGap, Letters.isBreak, Codes.markOf, Codes.isVoicing, Vowels.endsHard, Palatalization.firstCode, Voicing.voices, Tape.segment, Joints.endsInObstruent, Joints.beginsWithIOrE}
+use Rattle.spec.specs.Letters.{Letter, Message, last, more, read, putLetter, beginsWithMark, firstWord, lastWord, isGap, isBreak}
+use Rattle.spec.specs.{Tables.among, Codes.markOf, Codes.isVoicing, Vowels.endsHard, Palatalization.firstCode, Voicing.voices, Tape.segment, Joints.endsInObstruent, Joints.beginsWithIOrE}
 use Rattle.laws.proofs.{Classes.mark-both, Classes.cond-app, Classes.break-mark, Word.lastCodeFrom, Word.word-length, Word.word-quiet, Word.word-firm}
 
 -- the message a, the break x, and the message b, read as one

@@ -1,7 +1,12 @@
 -- The tape of a word and the two bits that come from its neighbours: what each bit changes, for a word and a letter in general.
 -- Why: pass 4 reads the bit of what follows only at the last sound, and pass 3 reads the bit of what stands before only at the first letter, in the rows of э and и.
 use Rattle.laws.proofs.Kit.{ℕ, suc, _≡_, refl, sym, ap, subst, _∙_, Bool, true, false, cond, not, _&&_, _||_, true≢false, and-true, and-false, List, [], _∷_, _++_, append-nil, map, length, length-append, eqb, eqb-true}
-use Rattle.spec.specs.{Alphabet.«и», Alphabet.«н», Alphabet.«с», Alphabet.«ц», Alphabet.«ч», Alphabet.«ш», Alphabet.«э», Tables.among, Tables.entry, Letters.Letter, Letters.firstByte, Letters.signs, Letters.isSign, Letters.isVowel, Letters.isObstruent, Codes.Ы*, Codes.Ы1, Codes.J, Elision.elidesT, Elision.elidesD, Elision.elides, Elision.elideFrom, Elision.elide, Elision.elidesAmong, Syllables.Facts, Syllables.factsOf, Syllables.coverAfter, Syllables.hasMark, Syllables.nextStressed, Syllables.levelOf, Syllables.syllableOf, Vowels.Phone, Vowels.byStress, Vowels.byLevel, Vowels.glides, Vowels.vowelSound, Vowels.softens, Vowels.writtenCode, Vowels.vowelPhones, Vowels.phonesOf, Vowels.phonesFrom, Voicing.toneOf, Voicing.voiceOne, Voicing.voice, Palatalization.firstCode, Palatalization.palatalize, Tape.wordTape, Joints.endsInObstruent, Joints.endsInObstruentFrom, Joints.beginsWithIOrE, declared.Cover.Cover, declared.Level.the-variants.Stressed, declared.Level.the-variants.First, declared.Level.the-variants.Second}
+use Rattle.spec.specs.Alphabet.{«и», «н», «с», «ц», «ч», «ш», «э»}
+use Rattle.spec.specs.Letters.{Letter, firstByte, signs, isSign, isVowel, isObstruent}
+use Rattle.spec.specs.Elision.{elidesT, elidesD, elides, elideFrom, elide, elidesAmong}
+use Rattle.spec.specs.Syllables.{Facts, factsOf, coverAfter, hasMark, nextStressed, levelOf, syllableOf}
+use Rattle.spec.specs.Vowels.{Phone, byStress, byLevel, glides, vowelSound, softens, writtenCode, vowelPhones, phonesOf, phonesFrom}
+use Rattle.spec.specs.{Tables.among, Tables.entry, Codes.Ы*, Codes.Ы1, Codes.J, Voicing.toneOf, Voicing.voiceOne, Voicing.voice, Palatalization.firstCode, Palatalization.palatalize, Tape.wordTape, Joints.endsInObstruent, Joints.endsInObstruentFrom, Joints.beginsWithIOrE, declared.Cover.Cover, declared.Level.the-variants.Stressed, declared.Level.the-variants.First, declared.Level.the-variants.Second}
 use Rattle.spec.proofs.Computed.{everything}
 use Rattle.laws.proofs.Classes.{cond-app, cond-both, either, or-false, among-same}
 

@@ -1,9 +1,11 @@
 -- Examples of syllable names (paper 01, pass 2): one list, one proof, by computing the passes.
-use Rattle.spec.specs.{Alphabet.gap, Alphabet.mark, Alphabet.«а», Alphabet.«б», Alphabet.«в», Alphabet.«г», Alphabet.«д», Alphabet.«и», Alphabet.«й», Alphabet.«к», Alphabet.«л», Alphabet.«м», Alphabet.«о», Alphabet.«п», Alphabet.«р», Alphabet.«с», Alphabet.«т», Alphabet.«у», Alphabet.«ы», Alphabet.«ь», Alphabet.«э», Alphabet.«ю», Alphabet.«ё», Tape.names}
-use Rattle.spec.proofs.Computed.{everything}
+-- Assumes nothing.
 use Prim.Native.Nat.{ℕ}
 use mathlib.Core.Path.{_≡_, refl}
 use mathlib.Core.List.{List, [], _∷_, map}
+use Rattle.spec.specs.Alphabet.{gap, mark, «а», «б», «в», «г», «д», «и», «й», «к», «л», «м», «о», «п», «р», «с», «т», «у», «ы», «ь», «э», «ю», «ё»}
+use Rattle.spec.specs.Tape.{names}
+use Rattle.spec.proofs.Computed.{everything}
 
 pub record Named : Type 0 where
   pub message : List ℕ

@@ -1,10 +1,12 @@
 -- Texts of the program (paper 01, 'Joints'): one list, one proof, by computing the definitions.
-use Rattle.spec.specs.{Alphabet.gap, Alphabet.mark, Alphabet.«а», Alphabet.«б», Alphabet.«д», Alphabet.«р», Alphabet.«у», Printed.ascii, Printed.lastDigits, Printed.decimal, Printed.printedCodes, Printed.printedAnswer, Printed.printed}
-use Rattle.spec.proofs.Computed.{everything}
+-- Assumes nothing.
 use Prim.Native.Nat.{ℕ}
 use Prim.Native.String.{String}
 use mathlib.Core.Path.{_≡_, refl}
 use mathlib.Core.List.{List, [], _∷_, map}
+use Rattle.spec.specs.Alphabet.{gap, mark, «а», «б», «д», «р», «у»}
+use Rattle.spec.specs.Printed.{ascii, lastDigits, decimal, printedCodes, printedAnswer, printed}
+use Rattle.spec.proofs.Computed.{everything}
 
 pub record Example : Type 0 where
   pub message : List ℕ

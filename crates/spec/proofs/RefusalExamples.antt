@@ -1,10 +1,14 @@
 -- The examples of the refusal table (paper 01, 'Turned-away messages'): one list, one proof, by computing the rows.
-use Rattle.spec.specs.{Alphabet.gap, Alphabet.pause, Alphabet.mark, Alphabet.«а», Alphabet.«б», Alphabet.«к», Alphabet.«ъ», Alphabet.«ь», Alphabet.«я», Refusals.refusal, Answers.joinAnswer, declared.Answer.the-variants.Refused}
-use Rattle.spec.proofs.Computed.{everything}
+-- Assumes nothing.
 use Prim.Native.Nat.{ℕ}
 use mathlib.Core.Path.{_≡_, refl}
 use mathlib.Core.List.{List, [], _∷_, _++_, map}
 use lib.ListN.{replicate}
+use Rattle.spec.specs.Alphabet.{gap, pause, mark, «а», «б», «к», «ъ», «ь», «я»}
+use Rattle.spec.specs.Refusals.{refusal}
+use Rattle.spec.specs.Answers.{joinAnswer}
+use Rattle.spec.specs.declared.Answer.the-variants.{Refused}
+use Rattle.spec.proofs.Computed.{everything}
 
 -- what is handed in, and how it is turned away
 pub record TurnedAway : Type 0 where

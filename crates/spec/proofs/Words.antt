@@ -1,10 +1,17 @@
 -- Paper 01, 'Words to prove', and the program's example: one list, one proof, by computing the passes.
-use Rattle.spec.specs.{Alphabet.gap, Alphabet.pause, Alphabet.mark, Alphabet.«й», Alphabet.«а», Alphabet.«б», Alphabet.«в», Alphabet.«г», Alphabet.«д», Alphabet.«е», Alphabet.«ж», Alphabet.«з», Alphabet.«и», Alphabet.«к», Alphabet.«л», Alphabet.«м», Alphabet.«н», Alphabet.«о», Alphabet.«п», Alphabet.«р», Alphabet.«с», Alphabet.«т», Alphabet.«у», Alphabet.«ъ», Alphabet.«ы», Alphabet.«ь», Codes.J, Codes.И*, Codes.А*, Codes.А1, Codes.А2, Codes.Б, Codes.В, Codes.Г, Codes.Д, Codes.Ж, Codes.З, Codes.З', Codes.К, Codes.Л, Codes.М, Codes.Н, Codes.О*, Codes.П, Codes.Р, Codes.С, Codes.С', Codes.Т, Codes.Т', Codes.У*, Codes.У1, Codes.Ы*, Codes.Ы1, Codes.Э*, Tape.tape, Joints.joined, Answers.tapeAnswer, Answers.joinAnswer, declared.Answer.Answer, declared.Answer.the-variants.Written}
-use Rattle.spec.proofs.Computed.{everything}
+-- Assumes nothing.
 use Prim.Native.Nat.{ℕ}
 use mathlib.Core.Path.{_≡_, refl}
 use mathlib.Core.List.{List, [], _∷_, map}
 use lib.ListN.{length}
+use Rattle.spec.specs.Alphabet.{gap, pause, mark, «й», «а», «б», «в», «г», «д», «е», «ж», «з», «и», «к», «л», «м», «н», «о», «п», «р», «с», «т», «у», «ъ», «ы», «ь»}
+use Rattle.spec.specs.Codes.{J, И*, А*, А1, А2, Б, В, Г, Д, Ж, З, З', К, Л, М, Н, О*, П, Р, С, С', Т, Т', У*, У1, Ы*, Ы1, Э*}
+use Rattle.spec.specs.Tape.{tape}
+use Rattle.spec.specs.Joints.{joined}
+use Rattle.spec.specs.Answers.{tapeAnswer, joinAnswer}
+use Rattle.spec.specs.declared.Answer.{Answer}
+use Rattle.spec.specs.declared.Answer.the-variants.{Written}
+use Rattle.spec.proofs.Computed.{everything}
 
 -- what is heard of a message, whole and cut: the tapes, and what transcriber and joiner answer with room enough
 pub record Heard : Type 0 where

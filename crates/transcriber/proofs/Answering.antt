@@ -1,6 +1,7 @@
 -- What an operation answers after the check, and what it leaves in the lent output, in its three cases: refused, too little room, written.
 use Rattle.laws.proofs.Kit.{ℕ, _<_, _≤_, _≡_, refl, List, _++_, length, drop, le-leb, lt-leb}
-use Rattle.spec.specs.{Refusals.refusal, Answers.within, Answers.afterCheck, Answers.outputAfter, Answers.Promise, declared.Refusal.Refusal, declared.Counts.Counts, declared.Checked.Checked, declared.Answer.Answer, declared.Answer.the-variants.Written, declared.Answer.the-variants.Refused}
+use Rattle.spec.specs.Answers.{within, afterCheck, outputAfter, Promise}
+use Rattle.spec.specs.{Refusals.refusal, declared.Refusal.Refusal, declared.Counts.Counts, declared.Checked.Checked, declared.Answer.Answer, declared.Answer.the-variants.Written, declared.Answer.the-variants.Refused}
 use Rattle.laws.proofs.Promises.{promised}
 use Rattle.spec.specs.declared.Checked.the-variants as checked
 

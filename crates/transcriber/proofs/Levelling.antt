@@ -2,9 +2,11 @@
 use Rattle.laws.proofs.Kit.{ℕ, suc, _<_, _≡_, refl, sym, ap, _∙_, Bool, true, false, List, length, getD, drop, drop-length}
 use Rattle.spec.specs.{Letters.isBreak, Letters.isMark, Letters.beginsWithMark, Refusals.vowelByte, Syllables.nextStressed, declared.Level.Level, declared.Level.the-variants.Stressed}
 use Rattle.message.specs.Places.{Steady, letterOf, wordAt, markBefore, markedAt}
-use Rattle.message.proofs.{Bytes.vowel-break, Bytes.vowel-mark, Left.begins-at, Left.mark-within, Left.unmarked-after, Tail.word-letter, Tail.word-break, Tail.word-end, Tail.marked-within, Tail.marked-break, Tail.marked-end}
+use Rattle.message.proofs.Tail.{word-letter, word-break, word-end, marked-within, marked-break, marked-end}
+use Rattle.message.proofs.{Bytes.vowel-break, Bytes.vowel-mark, Left.begins-at, Left.mark-within, Left.unmarked-after}
 use Rattle.laws.proofs.Classes.{break-mark}
-use Rattle.transcriber.specs.{Levels.levelBy, Levels.farLevel, Levels.levelBefore, Levels.nearLevel, Levels.LevelsAt, Sounds.classBefore, Sounds.syllableBy, Walk.syllableAt}
+use Rattle.transcriber.specs.Levels.{levelBy, farLevel, levelBefore, nearLevel, LevelsAt}
+use Rattle.transcriber.specs.{Sounds.classBefore, Sounds.syllableBy, Walk.syllableAt}
 use Rattle.transcriber.proofs.Raw.{syllable-raw}
 
 -- the level before a vowel that is stressed or not

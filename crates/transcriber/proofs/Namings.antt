@@ -2,9 +2,12 @@
 use Rattle.laws.proofs.Kit.{ℕ, suc, _<_, _≡_, refl, ap, _∙_, Bool, true, false, List, [], _∷_, _++_, arith, length, getD, eq-eqb}
 use Rattle.spec.specs.{Letters.between, Letters.isBreak, Letters.isMark, Refusals.vowelByte, Syllables.incomplete, Syllables.nameOf, declared.Level.Level, declared.Level.the-variants.Stressed}
 use Rattle.message.specs.{Classes.classOf, Classes.isBreakClass, Classes.isVowelClass, Places.Steady, Places.leftAt, Places.markBefore, Places.namesAt}
-use Rattle.message.proofs.{Bytes.by-class, Bytes.vowel-break, Computed.everything, Left.mark-within, Tail.names-end, Tail.names-vowel, Tail.names-other, Tail.names-break, Lengths.names-from}
-use Rattle.transcriber.specs.{declared.NameState.NameState, Levels.farLevel, Levels.levelBefore, Levels.LevelsAt, Sounds.classBefore, Sounds.syllableBy, Walk.Put, Walk.namePiece, Walk.NameReady, Walk.Named, Walk.NamesDue, Walk.WordEnd}
-use Rattle.transcriber.proofs.{Filling.Writing, Levelling.levels-syllable, Levelling.levels-vowel, Levelling.levels-letter, Levelling.levels-mark, Levelling.levels-break, Levelling.levels-end, Putting.put-none, Putting.put-length, Putting.put-again, Raw.where-same}
+use Rattle.message.proofs.Tail.{names-end, names-vowel, names-other, names-break}
+use Rattle.message.proofs.{Bytes.by-class, Bytes.vowel-break, Computed.everything, Left.mark-within, Lengths.names-from}
+use Rattle.transcriber.specs.Walk.{Put, namePiece, NameReady, Named, NamesDue, WordEnd}
+use Rattle.transcriber.specs.{declared.NameState.NameState, Levels.farLevel, Levels.levelBefore, Levels.LevelsAt, Sounds.classBefore, Sounds.syllableBy}
+use Rattle.transcriber.proofs.Levelling.{levels-syllable, levels-vowel, levels-letter, levels-mark, levels-break, levels-end}
+use Rattle.transcriber.proofs.{Filling.Writing, Putting.put-none, Putting.put-length, Putting.put-again, Raw.where-same}
 
 -- a letter that is no vowel is no break and no mark
 plain : (b : ℕ) → b < 256 → between 4 9 (classOf b) ≡ true → (isBreak b ∷ isMark b ∷ vowelByte b ∷ []) ≡ (false ∷ false ∷ false ∷ [])

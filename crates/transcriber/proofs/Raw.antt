@@ -1,10 +1,16 @@
 -- What the code reads off the bytes beside a place is what the left context of the place says: in a steady message the class of the byte before tells the class of the last letter of the word.
 use Rattle.laws.proofs.Kit.{ℕ, zero, suc, _-_, _<_, _≤_, _≡_, refl, ap, Bool, true, false, cond, _&&_, _||_, not, and-false, or-assoc, or-false, List, [], _∷_, _++_, map, _⊎_, inl, inr, arith, eqb, length, getD, drop, eqb-true, ne-eqb}
-use Rattle.spec.specs.{Alphabet.pause, Alphabet.mark, Alphabet.«ь», Alphabet.«е», Alphabet.«ё», Alphabet.«и», Alphabet.«ю», Alphabet.«я», Tables.among, Letters.between, Letters.small, Letters.plainVowels, Letters.softeningVowels, Letters.isBreak, Letters.isGap, Letters.isHardOnly, Letters.isSoftOnly, Letters.isConsonant, Letters.isSign, Letters.isVowel, Letters.isMark, Letters.beginsWithMark, Refusals.vowelByte, Syllables.coverAfter, Syllables.incomplete, Syllables.levelOf, Syllables.syllableOf, Syllables.nextStressed, Vowels.initial, Vowels.hardEnd, Vowels.glides, declared.Cover.Cover}
-use Rattle.message.specs.{Classes.classOf, Classes.isBreakClass, Classes.isSignClass, Classes.isLetterClass, Places.Steady, Places.Left, Places.stepLeft, Places.leftAt, Places.letterOf, Places.wordAt, Places.markedAt, Places.factsAt}
-use Rattle.message.proofs.{Bytes.below, Bytes.below-same, Bytes.by-class, Bytes.letter-class, Bytes.not-both, Bytes.vowel-break, Bytes.vowel-mark, Before.vowel-before, Left.left-letter, Computed.everything}
+use Rattle.spec.specs.Alphabet.{pause, mark, «ь», «е», «ё», «и», «ю», «я»}
+use Rattle.spec.specs.Letters.{between, small, plainVowels, softeningVowels, isBreak, isGap, isHardOnly, isSoftOnly, isConsonant, isSign, isVowel, isMark, beginsWithMark}
+use Rattle.spec.specs.Syllables.{coverAfter, incomplete, levelOf, syllableOf, nextStressed}
+use Rattle.spec.specs.{Tables.among, Refusals.vowelByte, Vowels.initial, Vowels.hardEnd, Vowels.glides, declared.Cover.Cover}
+use Rattle.message.specs.Classes.{classOf, isBreakClass, isSignClass, isLetterClass}
+use Rattle.message.specs.Places.{Steady, Left, stepLeft, leftAt, letterOf, wordAt, markedAt, factsAt}
+use Rattle.message.proofs.Bytes.{below, below-same, by-class, letter-class, not-both, vowel-break, vowel-mark}
+use Rattle.message.proofs.{Before.vowel-before, Left.left-letter, Computed.everything}
 use Rattle.laws.proofs.Classes.{among-same, either}
-use Rattle.transcriber.specs.{Levels.levelBy, Sounds.byteBefore, Sounds.Before, Sounds.classBefore, Sounds.isHardOrPaired, Sounds.Told, Sounds.syllableBy, Sounds.glideBy, Sounds.hardBefore}
+use Rattle.transcriber.specs.Sounds.{byteBefore, Before, classBefore, isHardOrPaired, Told, syllableBy, glideBy, hardBefore}
+use Rattle.transcriber.specs.Levels.{levelBy}
 
 -- two functions that agree on the bytes that pass a test agree at each of them
 pub where-same : {A : Type 0} (t : ℕ → Bool) (f g : ℕ → A) (d : A) (b : ℕ) → map (λ x. cond (t x) (f x) d) (below 256) ≡ map (λ x. cond (t x) (g x) d) (below 256)

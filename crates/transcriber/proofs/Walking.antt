@@ -1,11 +1,20 @@
 -- The walk from the right, one byte at a time: what a break, a mark and a letter put on the tape, and what then stands right of their place.
 use Rattle.laws.proofs.Kit.{ℕ, suc, _+_, _%_, _<_, _≤_, arith, _≡_, refl, sym, ap, _∙_, Bool, true, false, cond, _&&_, not, true≢false, List, [], _∷_, _++_, map, eqb, length, getD, le-leb, lt-leb, eq-eqb, ne-eqb}
-use Rattle.spec.specs.{Letters.between, Letters.small, Letters.firstByte, Letters.isBreak, Letters.isGap, Letters.isMark, Codes.J, Codes.markOf, Codes.isSound, Codes.isVoicing, Vowels.softens, Voicing.Tone, Voicing.voiced, Voicing.voiceless, Refusals.vowelByte, Refusals.signByte, Refusals.consonantByte, declared.Level.Level, declared.Level.the-variants.Stressed, declared.Syllable.Syllable}
-use Rattle.message.specs.{Classes.classOf, Classes.isBreakClass, Classes.isSignClass, Classes.isConsonantClass, Classes.isVowelClass, Classes.elidedAt, Fused.toneBefore, Fused.vowelCodes, Fused.consonantCode, Fused.letterCodes, Places.Steady, Places.leftAt, Places.letterOf, Places.markBefore, Places.tapeAt, Places.wordAt, Places.toneAt, Places.soundAt, Places.codesAt, Places.toneAfter, Places.soundAfter}
-use Rattle.message.proofs.{Bytes.below, Bytes.by-class, Computed.everything, Left.mark-within, StepTable.class-spoken, Silent.elided-at, Tail.tape-letter, Tail.tape-mark, Tail.tape-break, Tail.word-letter, Tail.word-mark, Tail.word-break, Tail.word-end, Tail.tone-letter, Tail.sound-letter, Tail.tone-mark, Tail.sound-mark, Tail.tone-break, Tail.sound-break, Tail.tone-end, Tail.sound-end}
+use Rattle.spec.specs.Letters.{between, small, firstByte, isBreak, isGap, isMark}
+use Rattle.spec.specs.Codes.{J, markOf, isSound, isVoicing}
+use Rattle.spec.specs.{Vowels.softens, Voicing.Tone, Voicing.voiced, Voicing.voiceless, Refusals.vowelByte, Refusals.signByte, Refusals.consonantByte, declared.Level.Level, declared.Level.the-variants.Stressed, declared.Syllable.Syllable}
+use Rattle.message.specs.Classes.{classOf, isBreakClass, isSignClass, isConsonantClass, isVowelClass, elidedAt}
+use Rattle.message.specs.Fused.{toneBefore, vowelCodes, consonantCode, letterCodes}
+use Rattle.message.specs.Places.{Steady, leftAt, letterOf, markBefore, tapeAt, wordAt, toneAt, soundAt, codesAt, toneAfter, soundAfter}
+use Rattle.message.proofs.Tail.{tape-letter, tape-mark, tape-break, word-letter, word-mark, word-break, word-end, tone-letter, sound-letter, tone-mark, sound-mark, tone-break, sound-break, tone-end, sound-end}
+use Rattle.message.proofs.{Bytes.below, Bytes.by-class, Computed.everything, Left.mark-within, StepTable.class-spoken, Silent.elided-at}
 use Rattle.laws.proofs.{Classes.cond-same, Codes.vowel-sound, MarkIndex.sound-range}
-use Rattle.transcriber.specs.{Sounds.classBefore, Sounds.ByRow, Sounds.rowOf, Sounds.syllableBy, Sounds.glideBy, Sounds.hardBefore, Sounds.toneBy, Sounds.codeBy, Sounds.Tells, Sounds.codeBefore, Sounds.Heard, Sounds.soundTable, Walk.VowelAt, Walk.syllableAt, Walk.Stands, Walk.Sung, Walk.sungCodes, Walk.Put, Walk.pieceAt, Walk.Ready, Walk.ReadyFor, Walk.Stepped, Levels.farLevel, Levels.levelBefore, Levels.LevelsAt, declared.Right.Right, declared.Vowel.Vowel}
-use Rattle.transcriber.proofs.{Putting.put-none, Levelling.levels-syllable, Levelling.levels-letter, Levelling.levels-vowel, Levelling.levels-mark, Levelling.levels-break, Levelling.levels-end, SoundTable.code-read, Raw.where-same, Raw.told-at, Raw.hard-raw, Raw.glide-raw}
+use Rattle.transcriber.specs.Sounds.{classBefore, ByRow, rowOf, syllableBy, glideBy, hardBefore, toneBy, codeBy, Tells, codeBefore, Heard, soundTable}
+use Rattle.transcriber.specs.Walk.{VowelAt, syllableAt, Stands, Sung, sungCodes, Put, pieceAt, Ready, ReadyFor, Stepped}
+use Rattle.transcriber.specs.{Levels.farLevel, Levels.levelBefore, Levels.LevelsAt, declared.Right.Right, declared.Vowel.Vowel}
+use Rattle.transcriber.proofs.Levelling.{levels-syllable, levels-letter, levels-vowel, levels-mark, levels-break, levels-end}
+use Rattle.transcriber.proofs.Raw.{where-same, told-at, hard-raw, glide-raw}
+use Rattle.transcriber.proofs.{Putting.put-none, SoundTable.code-read}
 
 -- 64 more can be told from less
 tells : (n : ℕ) (soft : Bool) → n < 64 → Tells (n + cond soft 64 0) soft (toneBy n) (codeBy n)

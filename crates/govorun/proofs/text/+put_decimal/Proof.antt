@@ -1,6 +1,7 @@
 -- A number below ten is its one digit; a larger one is a tenth of it, which is smaller, and its last digit.
 use Rattle.laws.proofs.Kit.{ℕ, _<_, arith, ap, length}
-use Rattle.govorun.proofs.{Texts.put-over, Texts.decimal-small, Texts.decimal-large, Texts.decimal-longer, text.+put_decimal.statement, text.+put_decimal.Tie.close}
+use Rattle.govorun.proofs.Texts.{put-over, decimal-small, decimal-large, decimal-longer}
+use Rattle.govorun.proofs.{text.+put_decimal.statement, text.+put_decimal.Tie.close}
 use borrow.Fn.PlainCycle.{Measures, is, falls, and}
 use Rattle.govorun.proofs.text.put_decimal.Reads as reads
 use Rattle.govorun.proofs.text.put_decimal.Kinds as kinds

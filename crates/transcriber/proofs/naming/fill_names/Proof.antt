@@ -3,7 +3,8 @@ use Rattle.laws.proofs.Kit.{_≡_, _∙_, arith, needs}
 use Rattle.message.specs.Places.{namesAt}
 use Rattle.message.proofs.Tail.{names-start}
 use Rattle.transcriber.specs.{Levels.LevelsAt, Walk.namePiece}
-use Rattle.transcriber.proofs.{Putting.put-length, Putting.put-rest, Putting.put-first, Filling.Writing, Filling.writing-length, Filling.writing-ready, Filling.writing-more, Namings.end-ends, Namings.naming-none}
+use Rattle.transcriber.proofs.Filling.{Writing, writing-length, writing-ready, writing-more}
+use Rattle.transcriber.proofs.{Putting.put-length, Putting.put-rest, Putting.put-first, Namings.end-ends, Namings.naming-none}
 use Rattle.transcriber.proofs.naming.fill_names.Statement.{statement}
 use Rattle.transcriber.proofs.naming.fill_names.Tie as tie
 

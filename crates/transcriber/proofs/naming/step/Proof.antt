@@ -1,7 +1,8 @@
 -- Each class of byte settles its names, and a byte of an accepted message has one.
 use Rattle.laws.proofs.Kit.{_≡_, true, sym, _∙_, arith, getD, needs}
 use Rattle.message.specs.Classes.{classOf, isBreakClass}
-use Rattle.transcriber.proofs.{Walking.between-true, Walking.vowel-class, Walking.break-class, Namings.named-letter, Namings.named-mark, Namings.word-ends, Namings.named-break}
+use Rattle.transcriber.proofs.Namings.{named-letter, named-mark, word-ends, named-break}
+use Rattle.transcriber.proofs.Walking.{between-true, vowel-class, break-class}
 use Rattle.transcriber.proofs.naming.step.Statement.{statement}
 use Rattle.transcriber.proofs.naming.step.Tie as tie
 

@@ -4,7 +4,8 @@ use Rattle.spec.specs.Tape.{tape}
 use Rattle.message.specs.Places.{tapeAt}
 use Rattle.message.proofs.{Lengths.codes-from, Tail.tape-start, Tail.tape-end}
 use Rattle.transcriber.specs.Walk.{Stands, pieceAt}
-use Rattle.transcriber.proofs.{Putting.put-none, Filling.Writing, Filling.writing-length, Filling.writing-ready, Filling.writing-more, Walking.piece-step, Walking.stands-end}
+use Rattle.transcriber.proofs.Filling.{Writing, writing-length, writing-ready, writing-more}
+use Rattle.transcriber.proofs.{Putting.put-none, Walking.piece-step, Walking.stands-end}
 use Rattle.transcriber.proofs.tape.write_tape.Statement.{statement}
 use Rattle.transcriber.proofs.tape.write_tape.Tie as tie
 
