@@ -12,5 +12,5 @@ check-spec =
     (tie.spec
     (λ c. check-promised _ _ (rw (eq-eqb (length (c .before .before .args .m .now)) 0 (c .if1 .taken))))
     (λ c. let n = length (c .before .before .before .args .m .now) in check-promised _ _ (rw (ne-eqb n 0 (c .before .if1 .left), lt-leb n 4096 (c .if2 .taken))))
-    (search needs) (search needs) (λ c κs. search needs)
+    (λ c κs. search needs) (λ c κs. search needs) (λ c κs. search needs)
     (λ c. check-promised _ _ (c .walk .ensures)))

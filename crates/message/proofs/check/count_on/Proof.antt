@@ -8,6 +8,6 @@ pub count-on-spec : {M : Type 1} → statement M
 count-on-spec =
     tie.close
     (tie.spec
-    (search needs) (λ c. search needs) (λ c κs. search needs) (search needs)
+    (λ c. search needs) (λ c. search needs) (λ c κs. search needs) (λ c. search needs)
     (λ c. let s = c .before .before .before .before in let l = letters-all (s .args .m .now) (s .args .seen .at) in search needs)
     (λ c. let s = c .before .before .before .before in sees-counted (s .args .m .now) (s .args .seen) (c .letters-at .result) (s .pre .1) (c .letters-at .ensures)))

@@ -16,6 +16,6 @@ pub entry-at-spec : {M : Type 1} → statement M
 entry-at-spec =
     tie.close
     (tie.spec
-    (search needs) (λ c κs. search needs) (search needs)
+    (λ c. search needs) (λ c κs. search needs) (λ c. search needs)
     (λ c. let r = read c in search needs) (λ c. let r = read c in search needs) (λ c. let r = read c in search needs)
     (λ c. let r = read (c .before) in search needs) (λ c. let r = read (c .before) in search needs))

@@ -41,11 +41,11 @@ pub letters-at-spec : {M : Type 1} → statement M
 letters-at-spec =
     tie.close
     (tie.spec
-    Inv-loop μ-loop (search needs) (search needs) (search needs) (λ c κs. search needs) (search needs) (search needs)
+    Inv-loop μ-loop (λ c. search needs) (λ c. search needs) (λ c. search needs) (λ c κs. search needs) (λ c. search needs) (λ c. search needs)
     (λ c. let e = here (c .before) .letter (c .if1 .taken) in search needs)
     (λ c. let e = here (c .before .before) .break (c .if2 .taken) (c .before .if1 .left) in search needs)
-    (search needs)
+    (λ c. search needs)
     (λ c. let e = here (c .before .before) .other (c .if2 .left) in search needs)
-    (search needs) (search needs) (search needs)
+    (λ c. search needs) (λ c. search needs) (λ c. search needs)
     (λ c. let l = c .before .before in let e : l .loop .j ≡ l .before .before .args .seen .from = omega (arith, c .before .loop-test .left, l .loop .inv .above) in
     let q = rw e at (l .loop .inv .same) in search needs))

@@ -6,4 +6,4 @@ use Rattle.message.proofs.check.next_kind.Tie as tie
 
 pub next-kind-spec : {M : Type 1} → statement M
 unfolding nextKind
-next-kind-spec = tie.close (tie.spec (search needs) (λ c. rw (c .if1 .taken)) (λ c. rw (c .if1 .left)))
+next-kind-spec = tie.close (tie.spec (λ c. search needs) (λ c. rw (c .if1 .taken)) (λ c. rw (c .if1 .left)))

@@ -33,6 +33,6 @@ pass-fours-spec =
     (λ c κs. let b = sees-small (c .before .loop .inv .0) in search needs)
     (λ c. search needs) (λ c κs. let f = four c in search needs)
     (λ c. let b = sees-small (c .before .before .before .before .loop .inv .0) in search needs)
-    (search needs) (search needs) (λ c κs. search needs) (search needs) (search needs)
+    (λ c. search needs) (λ c. search needs) (λ c κs. search needs) (λ c. search needs) (λ c. search needs)
     (λ c. let w = c .before .before in (rw (c .class-of .ensures) (four (w .before) .seen _ (omega (arith, w .weigh-four .ensures))), search needs))
     (λ c. search needs))

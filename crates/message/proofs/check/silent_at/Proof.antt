@@ -8,7 +8,7 @@ pub silent-at-spec : {M : Type 1} → statement M
 silent-at-spec =
     tie.close
     (tie.spec
-    (search needs) (search needs) (search needs)
+    (λ c. search needs) (λ c κs. search needs) (λ c κs. search needs)
     (λ c. (rw (← c .before .is-elided .ensures, c .if2 .taken), omega arith))
     (λ c. (rw (← c .before .is-elided .ensures, c .if2 .left), omega arith))
     (λ c. let s = c .before .before .before .before in let h : getD (s .args .m .now) (s .args .i) 0 < 256 = omega (arith, c .before .before .before .shared-slice-known .given (s .args .i)) in

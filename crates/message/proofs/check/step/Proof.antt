@@ -34,14 +34,14 @@ pub step-spec : {M : Type 1} → statement M
 step-spec =
     tie.close
     (tie.spec
-    (λ c κs. search needs) (search needs) (λ c κs. search needs)
+    (λ c κs. search needs) (λ c. search needs) (λ c κs. search needs)
     (λ c κs. let b = sees-small (c .before .before .count-on .ensures .sees) in let h = byte c in search needs)
-    (search needs) (search needs) (search needs)
+    (λ c. search needs) (λ c. search needs) (λ c. search needs)
     (λ c. let k = c .before .before in let r = k .before .before .count-on .ensures in rw (← r .place) (stop-here (r .sees) (byte k) (k .class-of .ensures) (c .before .entry-at .ensures .0) (c .if1 .taken)))
-    (search needs)
+    (λ c κs. search needs)
     (λ c. (rw (← c .before .before .before .before .before .before .count-on .ensures .place, fault (c .before), c .if2 .taken), search needs))
     (λ c κs. let r = c .before .before .before .before .before .before .count-on in let b = by-class _ (r .ensures .sees .bytes (r .result .at)) in search needs)
     (λ c. let k = c .before .before .before .before .before .before in let b = sees-small (k .before .before .count-on .ensures .sees) in let h = byte k in search needs)
-    (search needs)
+    (λ c κs. search needs)
     (λ c. let g = here (c .before .before .before .before .before .before) in search needs)
-    (search needs) returns-3)
+    (λ c. search needs) returns-3)

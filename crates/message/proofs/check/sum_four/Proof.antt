@@ -13,13 +13,13 @@ pub sum-four-spec : {M : Type 1} → statement M
 sum-four-spec =
     tie.close
     (tie.spec
-    (search needs) (λ c κs. search needs) (search needs) (search needs) (λ c κs. search needs) (search needs) (search needs) (λ c κs. search needs)
-    (λ c κs. search needs) (search needs)
+    (λ c. search needs) (λ c κs. search needs) (λ c. search needs) (λ c. search needs) (λ c κs. search needs) (λ c. search needs) (λ c. search needs) (λ c κs. search needs)
+    (λ c κs. search needs) (λ c. search needs)
     (λ c κs. let a = c .before .before .before .before .before in let k = small a (a .before .before .before .args .i) in search needs)
-    (search needs) (search needs)
+    (λ c. search needs) (λ c. search needs)
     (λ c κs. let a = c .before .before .before .before .before .before in let k = small a (a .before .before .before .args .i + 1) in search needs)
-    (search needs) (search needs)
+    (λ c. search needs) (λ c. search needs)
     (λ c κs. let a = c .before .before .before .before .before .before .before in let k = small a (a .before .before .before .args .i + 2) in search needs)
-    (search needs)
+    (λ c. search needs)
     (λ c. let a = c .before .before .before in let k = a .before in
     rw (a .entry-at .ensures .0, c .before .before .entry-at2 .ensures .0, c .before .entry-at3 .ensures .0, c .entry-at4 .ensures .0, k .before .before .before .before .class-of .ensures, k .before .before .class-of2 .ensures, k .class-of3 .ensures)))

@@ -24,8 +24,8 @@ walk-spec =
     (tie.spec
     Inv-loop μ-loop
     (λ c. sees-none _ (λ j. omega (arith, c .shared-slice-known .given j)) (c .before .pre .short))
-    (search needs) (search needs) (λ c κs. search needs) (λ c κs. search needs) (search needs) returns (search needs)
+    (λ c κs. search needs) (λ c κs. search needs) (λ c κs. search needs) (λ c κs. search needs) (λ c. search needs) returns (λ c. search needs)
     (λ c. let q = rw (c .before .next .given .1) at (c .before .before .before .step .ensures) in search needs)
     (λ c. let q = rw (c .before .next .given .1) at (c .before .before .before .step .ensures) in search needs)
-    (search needs) (λ c. search needs) (search needs)
+    (λ c. search needs) (λ c. search needs) (λ c κs. search needs)
     (λ c. let l = c .before .before .before in c .finish .ensures ∙ seen-all _ (l .loop .seen) (l .before .before .pre .some) (l .loop .inv) (omega (arith, l .loop .inv .within, c .before .if1 .left))))

@@ -8,6 +8,6 @@ pub class-of-spec : {M : Type 1} → statement M
 class-of-spec =
     tie.close
     (tie.spec
-    (search needs)
+    (λ c. search needs)
     (λ c. let s = c .before in let h : s .args .b < 256 = omega (arith, s .fits .b) in rw (class-read _ _ (s .pre) h) (omega (arith, by-class (s .args .b) h .class)))
     (λ c. let s = c .before in class-read _ _ (s .pre) (omega (arith, s .fits .b))))

@@ -28,6 +28,6 @@ unfolding among
 elides-byte-spec =
     tie.close
     (tie.spec
-    (search needs) (search needs) (search needs) (search needs) (search needs) (search needs)
+    (λ c κs. search needs) (λ c κs. search needs) (λ c κs. search needs) (λ c κs. search needs) (λ c κs. search needs) (λ c κs. search needs)
     (λ c. let f = folds (c .before .before .before .before .before .before) in cc)
     (λ c. let k = c .before .before in sym (before-other _ _ _ _ (simp or-false (rw (k .fold-case .ensures) at (sym (c .before .follows-elided .ensures) ∙ c .if1 .left)))) ∙ folds k))

@@ -20,8 +20,8 @@ is-elided-spec =
     tie.close
     (tie.spec
     (λ c. rw (c .if1 .taken) (simp and-false))
-    (search needs)
+    (λ c. search needs)
     (λ c. rw (List·getD-eq-default {A = ℕ} _ 0 (c .if2 .taken)) (simp and-false))
-    (search needs) (search needs) (search needs) (search needs) (search needs) (search needs) (search needs) returns-3 (search needs) (search needs)
-    (search needs) (search needs) (search needs) (search needs) (search needs) (search needs)
+    (λ c. search needs) (λ c. search needs) (λ c. search needs) (λ c. search needs) (λ c. search needs) (λ c. search needs) (λ c κs. search needs) returns-3
+    (λ c. search needs) (λ c. search needs) (λ c. search needs) (λ c. search needs) (λ c. search needs) (λ c. search needs) (λ c. search needs) (λ c κs. search needs)
     (λ c. rw (← before-at _ _ (c .before .before .before .before .before .before .before .if1 .left)) (c .elides-byte2 .ensures)))

@@ -7,4 +7,4 @@ use Rattle.message.proofs.letters.letter_at.Tie as tie
 
 pub letter-at-spec : {M : Type 1} → statement M
 unfolding letterAt small
-letter-at-spec = tie.close (tie.spec (search needs) (search needs) (search needs) (λ c. rw (List·getD-eq-default {A = ℕ} _ 0 (c .if1 .left))))
+letter-at-spec = tie.close (tie.spec (λ c. search needs) (λ c κs. search needs) (λ c. search needs) (λ c. rw (List·getD-eq-default {A = ℕ} _ 0 (c .if1 .left))))

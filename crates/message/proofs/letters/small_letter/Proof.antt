@@ -9,7 +9,7 @@ unfolding small
 small-letter-spec =
     tie.close
     (tie.spec
-    (search needs)
+    (λ c. search needs)
     (λ c. rw (c .match .keys1))
     (λ c. rw (le-leb _ _ (c .before .if1 .left), le-leb (c .before .before .before .args .b) 0xDF (omega arith)))
     (λ c. rw (lt-leb _ _ (c .if1 .taken), ne-eqb _ _ (c .before .match .rest .1)))
