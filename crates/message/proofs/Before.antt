@@ -1,7 +1,8 @@
 -- What stands before a place is told in three ways: by the last letter of the word, by the byte before, and by the kind. They agree in all that elision and the syllables ask: which consonant it is, if any, and
 -- whether it is a sign. Only a break and a mark are no letters, and a mark stands right after a vowel.
 use Rattle.laws.proofs.Kit.{ℕ, zero, suc, _<_, _≤_, _≡_, refl, sym, _∙_, true, false, false≢true, List, [], _∷_, _++_, eqb, length, getD, eqb-true, arith}
-use Rattle.spec.specs.{Alphabet.mark, Letters.small, Letters.hardOnly, Letters.paired, Letters.softOnly, Letters.plainVowels, Letters.softeningVowels, Letters.isMark, Letters.isBreak, Letters.isVowel, Letters.isSign, Letters.isConsonant, Refusals.vowelByte}
+use Rattle.spec.specs.Letters.{small, hardOnly, paired, softOnly, plainVowels, softeningVowels, isMark, isBreak, isVowel, isSign, isConsonant}
+use Rattle.spec.specs.{Alphabet.mark, Refusals.vowelByte}
 use Rattle.message.specs.{Classes.isConsonantClass, Steps.isSignKind, Steps.kindAt, Places.leftAt, Places.letterOf, Places.Steady}
 use Rattle.message.proofs.{Bytes.by-class, Bytes.vowel-break, Bytes.vowel-mark, Faults.entry-at, Left.left-letter, Left.left-mark, Left.left-break, Computed.everything}
 use Rattle.laws.proofs.Classes.{either, among-same, among-none, break-sign, break-consonant}

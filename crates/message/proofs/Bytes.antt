@@ -1,6 +1,9 @@
 -- What holds of every number below a bound is one computation, so a byte's tests go by its class.
 use Rattle.laws.proofs.Kit.{ℕ, zero, suc, _<_, _≡_, refl, Bool, true, false, _&&_, _||_, List, [], _∷_, map, arith, eqb, leb, eqb-true, eqb-false, leb-true, ne-eqb}
-use Rattle.spec.specs.{Alphabet.«д», Alphabet.«е», Alphabet.«ё», Alphabet.«и», Alphabet.«т», Alphabet.«ю», Alphabet.«я», Tables.among, Letters.small, Letters.isMark, Letters.isBreak, Letters.isConsonant, Refusals.vowelByte, Refusals.signByte, Refusals.hardSignByte, Refusals.consonantByte, Refusals.letterByte}
+use Rattle.spec.specs.Alphabet.{«д», «е», «ё», «и», «т», «ю», «я»}
+use Rattle.spec.specs.Letters.{small, isMark, isBreak, isConsonant}
+use Rattle.spec.specs.Refusals.{vowelByte, signByte, hardSignByte, consonantByte, letterByte}
+use Rattle.spec.specs.Tables.{among}
 use Rattle.message.specs.Classes.{classOf, isBreakClass, isSignClass, isConsonantClass, isVowelClass, isLetterClass, isTOrD}
 use Rattle.message.proofs.Computed.{everything}
 

@@ -1,9 +1,12 @@
 -- What the check has seen stays true, over a byte and over any number of bytes that need only be added; at the end it is the answer.
 use Rattle.laws.proofs.Kit.{ℕ, zero, suc, _+_, _-_, _*_, _/_, _%_, _<_, _≤_, _≡_, refl, sym, _∙_, ⊎-elim, Bool, true, false, cond, _&&_, and-false, List, arith, eqb, leb, length, getD, eqb-false, le-leb, lt-leb, eq-eqb, ne-eqb}
 use Rattle.spec.specs.Refusals.{checkOf}
-use Rattle.message.specs.{Classes.isBreakClass, Classes.isLetterClass, Classes.classAt, Classes.silentAt, Steps.nextKind, Steps.faultIn, Steps.stopIn, Steps.packed, Steps.kindAt, Steps.codesTo, Steps.namesTo, Steps.lettersAt, Steps.faultHere, Steps.Sees, Steps.fourAt, Steps.silentFour, Steps.Counted, Steps.finishOf, Steps.nameUnit, Steps.askUnit, Steps.stopUnit, declared.Seen.Seen}
+use Rattle.message.specs.Classes.{isBreakClass, isLetterClass, classAt, silentAt}
+use Rattle.message.specs.Steps.{nextKind, faultIn, stopIn, packed, kindAt, codesTo, namesTo, lettersAt, faultHere, Sees, fourAt, silentFour, Counted, finishOf, nameUnit, askUnit, stopUnit}
+use Rattle.message.specs.declared.Seen.{Seen}
 use Rattle.laws.proofs.{Accepted.countsOf, Classes.cond-both, Classes.either, Classes.below-or}
-use Rattle.message.proofs.{Steadiness.accepted-steady, StepTable.Entry, StepTable.unpacks, StepTable.silent-asks, Lengths.codes-all, Lengths.names-all, Faults.here-clear, Faults.kind-small, Faults.entry-at, Faults.counts-up, Faults.last-refused, Faults.all-accepted}
+use Rattle.message.proofs.Faults.{here-clear, kind-small, entry-at, counts-up, last-refused, all-accepted}
+use Rattle.message.proofs.{Steadiness.accepted-steady, StepTable.Entry, StepTable.unpacks, StepTable.silent-asks, Lengths.codes-all, Lengths.names-all}
 
 -- the end of the walk is the check's answer
 pub seen-all : (m : List ℕ) (s : Seen) → 0 < length m → Sees m s → s .at ≡ length m → finishOf (length m) s ≡ checkOf m

@@ -1,6 +1,10 @@
 -- Only т and д are elided, and only before с н ч ц ш: none of these is a vowel or a sign or softens, so elision changes no syllable and no softness.
 use Rattle.laws.proofs.Kit.{ℕ, _≡_, refl, sym, _∙_, Bool, true, false, cond, and-false, false≢true, List, [], _∷_, eqb}
-use Rattle.spec.specs.{Alphabet.«д», Alphabet.«н», Alphabet.«с», Alphabet.«т», Alphabet.«ц», Alphabet.«ч», Alphabet.«ш», Tables.among, Letters.Letter, Letters.firstByte, Letters.isSign, Letters.isVowel, Elision.elidesT, Elision.elidesD, Elision.elides, Elision.elideFrom, Elision.elidesAmong, Syllables.Facts, Syllables.levelOf, Syllables.nextStressed, Syllables.syllableOf, Syllables.namesFrom, Vowels.softens, Vowels.phonesOf, Vowels.phonesFrom}
+use Rattle.spec.specs.Alphabet.{«д», «н», «с», «т», «ц», «ч», «ш»}
+use Rattle.spec.specs.Letters.{Letter, firstByte, isSign, isVowel}
+use Rattle.spec.specs.Elision.{elidesT, elidesD, elides, elideFrom, elidesAmong}
+use Rattle.spec.specs.Syllables.{Facts, levelOf, nextStressed, syllableOf, namesFrom}
+use Rattle.spec.specs.{Tables.among, Vowels.softens, Vowels.phonesOf, Vowels.phonesFrom}
 use Rattle.laws.proofs.Classes.{among-same, among-none}
 use Rattle.message.proofs.Computed.{everything}
 

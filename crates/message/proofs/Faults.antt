@@ -1,8 +1,11 @@
 -- The walk of the message check finds the paper's faults: a kind tells all that the rows ask of the bytes before, so a fault goes by kind and class.
 use Rattle.laws.proofs.Kit.{ℕ, zero, suc, _*_, _<_, _≤_, _≡_, refl, sym, _∙_, ⊎-elim, Bool, true, false, cond, _&&_, _||_, not, and-false, or-assoc, or-comm, false≢true, List, [], _∷_, arith, eqb, length, getD, drop, drop-cons, drop-length, eqb-true, ne-eqb}
-use Rattle.spec.specs.{Letters.isMark, Letters.isBreak, Refusals.vowelByte, Refusals.signByte, Refusals.hardSignByte, Refusals.first, Refusals.none, Refusals.adjacent, Refusals.vowelSign, Refusals.lettersBefore, Refusals.row3, Refusals.row4, Refusals.row5, Refusals.row6, Refusals.row7, Refusals.row8, Refusals.row9, Refusals.row10, Refusals.rows, Refusals.firstFit, Refusals.faultAt, Refusals.beforeAt, Refusals.refusal, Refusals.checkOf, declared.Checked.the-variants.Accepted, declared.Checked.the-variants.Refused}
-use Rattle.message.specs.{Classes.classOf, Classes.isBreakClass, Classes.isSignClass, Classes.isConsonantClass, Classes.isVowelClass, Classes.isLetterClass, Classes.classAt, Steps.isVowelKind, Steps.isHardSignKind, Steps.isVowelSignKind, Steps.isSignKind, Steps.nextKind, Steps.faultIn, Steps.kindAt, Steps.codesTo, Steps.namesTo, Steps.lettersAt, Steps.faultHere}
-use Rattle.laws.proofs.{Accepted.countsOf, Accepted.ClearAt, Accepted.fault-clear, Accepted.first-refused, Accepted.passes-accepted, Classes.refuted, Classes.below-or}
+use Rattle.spec.specs.Refusals.{vowelByte, signByte, hardSignByte, first, none, adjacent, vowelSign, lettersBefore, row3, row4, row5, row6, row7, row8, row9, row10, rows, firstFit, faultAt, beforeAt, refusal, checkOf}
+use Rattle.spec.specs.{Letters.isMark, Letters.isBreak, declared.Checked.the-variants.Accepted, declared.Checked.the-variants.Refused}
+use Rattle.message.specs.Classes.{classOf, isBreakClass, isSignClass, isConsonantClass, isVowelClass, isLetterClass, classAt}
+use Rattle.message.specs.Steps.{isVowelKind, isHardSignKind, isVowelSignKind, isSignKind, nextKind, faultIn, kindAt, codesTo, namesTo, lettersAt, faultHere}
+use Rattle.laws.proofs.Accepted.{countsOf, ClearAt, fault-clear, first-refused, passes-accepted}
+use Rattle.laws.proofs.Classes.{refuted, below-or}
 use Rattle.message.proofs.{Bytes.pairs-same, Bytes.ByClass, Bytes.by-class, StepTable.Entry, StepTable.entry-holds, StepTable.silent-asks, Computed.everything}
 
 -- what the rows ask of the bytes before

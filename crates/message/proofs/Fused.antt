@@ -2,7 +2,10 @@
 -- the letters after it as written, and the finished codes after it. Equal to the passes one after the other, because elision changes nothing that
 -- the letters around it go by (Elided.antt), and palatalization does not change whether a sound voices or devoices the one before it.
 use Rattle.laws.proofs.Kit.{ℕ, _≡_, refl, Bool, true, false, cond, List, [], _∷_, _++_}
-use Rattle.spec.specs.{Letters.Letter, Letters.paired, Letters.firstByte, Letters.isPaired, Letters.isSign, Letters.isVowel, Letters.isObstruent, Codes.palatalized, Elision.elideFrom, Elision.elide, Syllables.Facts, Syllables.factsOf, Syllables.syllableOf, Vowels.Phone, Vowels.glides, Vowels.writtenCode, Vowels.softens, Vowels.vowelPhones, Vowels.phonesOf, Vowels.phonesFrom, Voicing.Tone, Voicing.voiced, Voicing.voiceless, Voicing.asWritten, Voicing.voices, Voicing.toneOf, Voicing.toned, Voicing.codesOf, Voicing.voiceOne, Voicing.voice, Palatalization.isSoft, Palatalization.firstCode, Palatalization.palatalize, Tape.wordTape}
+use Rattle.spec.specs.Letters.{Letter, paired, firstByte, isPaired, isSign, isVowel, isObstruent}
+use Rattle.spec.specs.Vowels.{Phone, glides, writtenCode, softens, vowelPhones, phonesOf, phonesFrom}
+use Rattle.spec.specs.Voicing.{Tone, voiced, voiceless, asWritten, voices, toneOf, toned, codesOf, voiceOne, voice}
+use Rattle.spec.specs.{Codes.palatalized, Elision.elideFrom, Elision.elide, Syllables.Facts, Syllables.factsOf, Syllables.syllableOf, Palatalization.isSoft, Palatalization.firstCode, Palatalization.palatalize, Tape.wordTape}
 use Rattle.message.specs.Fused.{toneBefore, vowelCodes, consonantCode, letterCodes, fusedFrom}
 use Rattle.laws.proofs.Classes.{cond-app, cond-same, either, among-same, vowel-quiet, vowel-single}
 use Rattle.message.proofs.{Elided.elide-cases, Elided.soft-elide, Elided.syllable-elide, Elided.phones-free, Computed.everything}

@@ -1,7 +1,8 @@
 -- The left context of a place is the letters of the word before it, carried from the left; a letter, a mark and a break each change it in one way, as they change what is read from the place on.
 -- All places of an accepted message are steady: a mark stands right after a vowel.
 use Rattle.laws.proofs.Kit.{ℕ, zero, suc, _<_, _≡_, refl, sym, ap, _∙_, ⊎-elim, Bool, true, false, true≢false, false≢true, cond, _&&_, _||_, not, List, [], _∷_, length, getD, drop, List·getD-eq-default, drop-cons, drop-length, eqb-true}
-use Rattle.spec.specs.{Alphabet.mark, Letters.Letter, Letters.Message, Letters.last, Letters.more, Letters.putLetter, Letters.read, Letters.firstWord, Letters.small, Letters.isMark, Letters.isBreak, Letters.isGap, Letters.beginsWithMark, Syllables.hasMark, Vowels.hardEnd, Refusals.vowelByte}
+use Rattle.spec.specs.Letters.{Letter, Message, last, more, putLetter, read, firstWord, small, isMark, isBreak, isGap, beginsWithMark}
+use Rattle.spec.specs.{Alphabet.mark, Syllables.hasMark, Vowels.hardEnd, Refusals.vowelByte}
 use Rattle.laws.proofs.Classes.{refuted, below-or}
 use Rattle.message.specs.Places.{Left, stepLeft, leftAt, markFrom, letterOf, Steady}
 

@@ -1,8 +1,15 @@
 -- The counts of the check are the lengths of the tape and of the names: each byte is counted as many codes and names as it puts before what comes after it, told by its class and the kind before it.
 use Rattle.laws.proofs.Kit.{ℕ, zero, suc, _+_, _<_, _≤_, _≡_, refl, sym, ap, _∙_, Bool, true, false, cond, _&&_, _||_, true≢false, List, [], _∷_, eqb, length, getD, length-append, eqb-true, arith}
-use Rattle.spec.specs.{Alphabet.«е», Alphabet.«ё», Alphabet.«и», Alphabet.«ю», Alphabet.«я», Tables.among, Letters.Letter, Letters.isMark, Letters.isBreak, Letters.isVowel, Letters.isSign, Letters.isConsonant, Elision.elides, Syllables.Facts, Syllables.coverAfter, Syllables.syllableOf, Syllables.incomplete, Vowels.bare, Vowels.glides, Voicing.Tone, Tape.tape, Tape.names, Refusals.vowelByte, Refusals.signByte, declared.Cover.the-variants.Bare, declared.Cover.the-variants.Covered}
-use Rattle.message.specs.{Classes.classOf, Classes.isBreakClass, Classes.isSignClass, Classes.isConsonantClass, Classes.isVowelClass, Classes.isLetterClass, Steps.isSignKind, Steps.kindAt, Steps.widthIn, Steps.widthAt, Steps.codesTo, Steps.namesIn, Steps.namesTo, Steps.tailNames, Fused.vowelCodes, Fused.letterCodes, Places.leftAt, Places.factsAt, Places.toneAt, Places.soundAt, Places.tapeAt, Places.wordAt, Places.letterOf, Places.codesAt, Places.namesAt, Places.Steady}
-use Rattle.message.proofs.{Bytes.pairs-same, Bytes.by-class, Bytes.letter-class, Tail.tape-start, Tail.tape-end, Tail.tape-letter, Tail.tape-mark, Tail.tape-break, Tail.names-start, Tail.names-end, Tail.names-vowel, Tail.names-other, Tail.names-break, Before.kind-at, Silent.elided-at, StepTable.class-spoken, Faults.kind-small, Computed.everything}
+use Rattle.spec.specs.Alphabet.{«е», «ё», «и», «ю», «я»}
+use Rattle.spec.specs.Letters.{Letter, isMark, isBreak, isVowel, isSign, isConsonant}
+use Rattle.spec.specs.Syllables.{Facts, coverAfter, syllableOf, incomplete}
+use Rattle.spec.specs.{Tables.among, Elision.elides, Vowels.bare, Vowels.glides, Voicing.Tone, Tape.tape, Tape.names, Refusals.vowelByte, Refusals.signByte, declared.Cover.the-variants.Bare, declared.Cover.the-variants.Covered}
+use Rattle.message.specs.Classes.{classOf, isBreakClass, isSignClass, isConsonantClass, isVowelClass, isLetterClass}
+use Rattle.message.specs.Steps.{isSignKind, kindAt, widthIn, widthAt, codesTo, namesIn, namesTo, tailNames}
+use Rattle.message.specs.Places.{leftAt, factsAt, toneAt, soundAt, tapeAt, wordAt, letterOf, codesAt, namesAt, Steady}
+use Rattle.message.specs.Fused.{vowelCodes, letterCodes}
+use Rattle.message.proofs.Tail.{tape-start, tape-end, tape-letter, tape-mark, tape-break, names-start, names-end, names-vowel, names-other, names-break}
+use Rattle.message.proofs.{Bytes.pairs-same, Bytes.by-class, Bytes.letter-class, Before.kind-at, Silent.elided-at, StepTable.class-spoken, Faults.kind-small, Computed.everything}
 use Rattle.laws.proofs.Classes.{cond-app, either}
 
 -- how many codes a letter makes, elision apart: k and g say that a consonant or a sign stands before it, s, v, e and i that it is a sign, a vowel, one of е ё ю я, or и

@@ -1,8 +1,12 @@
 -- Which letters are silent can be told from the bytes beside them: elision asks only for consonants, and beside a т or д a byte that is no letter of the word is no consonant, and no mark stands between.
 use Rattle.laws.proofs.Kit.{ℕ, zero, suc, _+_, _<_, _≤_, _≡_, refl, sym, ap, _∙_, ⊎-elim, Bool, true, false, _&&_, false≢true, List, [], _++_, eqb, length, getD, drop-of-length-le, List·getD-eq-default, eqb-true, arith, add-one}
-use Rattle.spec.specs.{Alphabet.«д», Alphabet.«з», Alphabet.«к», Alphabet.«н», Alphabet.«р», Alphabet.«с», Alphabet.«т», Alphabet.«ц», Alphabet.«ч», Alphabet.«ш», Tables.among, Letters.read, Letters.firstWord, Letters.firstByte, Letters.small, Letters.hardOnly, Letters.paired, Letters.softOnly, Letters.isMark, Letters.isBreak, Letters.isConsonant, Elision.secondByte, Elision.elides, Elision.elidesT, Elision.elidesD, Elision.elidesAmong}
+use Rattle.spec.specs.Alphabet.{«д», «з», «к», «н», «р», «с», «т», «ц», «ч», «ш»}
+use Rattle.spec.specs.Letters.{read, firstWord, firstByte, small, hardOnly, paired, softOnly, isMark, isBreak, isConsonant}
+use Rattle.spec.specs.Elision.{secondByte, elides, elidesT, elidesD, elidesAmong}
+use Rattle.spec.specs.Tables.{among}
 use Rattle.message.specs.{Classes.letterAt, Classes.letterBefore, Classes.elidedAt, Places.leftAt, Places.wordAt, Places.letterOf, Places.Steady}
-use Rattle.message.proofs.{Bytes.consonant-vowel, Left.unmarked-after, Tail.word-letter, Tail.word-break, Before.Same, Before.Alike, Before.alike-same, Before.alike-break, Before.alike-before, Computed.everything}
+use Rattle.message.proofs.Before.{Same, Alike, alike-same, alike-break, alike-before}
+use Rattle.message.proofs.{Bytes.consonant-vowel, Left.unmarked-after, Tail.word-letter, Tail.word-break, Computed.everything}
 use Rattle.laws.proofs.Classes.{either, below-or, among-none}
 
 -- a letter that is no consonant is never silent

@@ -1,6 +1,7 @@
 -- An accepted message is steady: each of its bytes has a class, and a mark stands right after a vowel.
 use Rattle.laws.proofs.Kit.{ℕ, suc, _<_, _≡_, sym, _∙_, true, true≢false, false≢true, List, [], getD, drop}
-use Rattle.spec.specs.{Letters.isMark, Refusals.vowelByte, Refusals.first, Refusals.row3, Refusals.row5, Refusals.rows, Refusals.fitsIn, Refusals.beforeAt, Refusals.checkOf, declared.Counts.Counts, declared.Checked.the-variants.Accepted}
+use Rattle.spec.specs.Refusals.{vowelByte, first, row3, row5, rows, fitsIn, beforeAt, checkOf}
+use Rattle.spec.specs.{Letters.isMark, declared.Counts.Counts, declared.Checked.the-variants.Accepted}
 use Rattle.laws.proofs.{Accepted.Clear, Accepted.accepted-passes, Classes.either, Classes.refuted}
 use Rattle.message.specs.{Classes.classOf, Places.Steady}
 use Rattle.message.proofs.Bytes.{ByClass, by-class}

@@ -1,7 +1,9 @@
 -- The check's tables by their rules: each entry is what specs/Steps.antt says, by one computation over all of them.
 use Rattle.laws.proofs.Kit.{ℕ, zero, suc, _+_, _-_, _*_, _/_, _%_, _<_, _≤_, _≡_, refl, ap, _∙_, true, false, cond, not, and-false, List, [], _∷_, map, arith, eqb, leb, getD, eqb-true, eqb-false, leb-true, ne-eqb}
-use Rattle.spec.specs.{Alphabet.«з», Alphabet.«н», Alphabet.«р», Alphabet.«с», Tables.among, Letters.small, Elision.elidesT, Elision.elidesD, Elision.elidesAmong}
-use Rattle.message.specs.{Classes.classOf, Classes.classAt, Classes.isBreakClass, Classes.isConsonantClass, Classes.isSignClass, Classes.tabulate, Classes.classes, Classes.letterAt, Classes.letterBefore, Classes.elidedAt, Classes.silentAt, Steps.isSignKind, Steps.nextKind, Steps.faultIn, Steps.widthIn, Steps.namesIn, Steps.askIn, Steps.stopIn, Steps.packed, Steps.pairs, Steps.kindAt, Steps.widthAt, Steps.nameUnit, Steps.askUnit, Steps.stopUnit}
+use Rattle.spec.specs.Alphabet.{«з», «н», «р», «с»}
+use Rattle.spec.specs.{Tables.among, Letters.small, Elision.elidesT, Elision.elidesD, Elision.elidesAmong}
+use Rattle.message.specs.Classes.{classOf, classAt, isBreakClass, isConsonantClass, isSignClass, tabulate, classes, letterAt, letterBefore, elidedAt, silentAt}
+use Rattle.message.specs.Steps.{isSignKind, nextKind, faultIn, widthIn, namesIn, askIn, stopIn, packed, pairs, kindAt, widthAt, nameUnit, askUnit, stopUnit}
 use Rattle.message.proofs.{Bytes.below, Bytes.pairs-same, Bytes.by-class, Bytes.not-both, Elided.other-stays, Elided.only-where, Computed.everything}
 use Rattle.laws.proofs.Classes.{among-none, either}
 

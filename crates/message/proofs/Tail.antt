@@ -1,9 +1,15 @@
 -- The tape and the names from a place on: what the byte there puts before what comes after it. A place's tape is what the walk from the right has written when it stands there.
 use Rattle.laws.proofs.Kit.{ℕ, suc, _<_, _≡_, refl, sym, ap, Bool, true, false, cond, _&&_, or-assoc, or-comm, or-false, List, [], _∷_, _++_, append-assoc, append-nil, length, getD, drop, drop-cons, drop-length}
-use Rattle.spec.specs.{Elision.elide, Letters.Letter, Letters.Message, Letters.last, Letters.more, Letters.putLetter, Letters.read, Letters.firstWord, Letters.isMark, Letters.isBreak, Letters.isGap, Letters.isVowel, Codes.markOf, Codes.isVoicing, Syllables.Facts, Syllables.factsOf, Syllables.hasMark, Syllables.namesFrom, Syllables.incomplete, Syllables.nameOf, Syllables.syllableOf, Vowels.endsHardFrom, Vowels.endsHard, Voicing.voiced, Voicing.voiceless, Voicing.voices, Voicing.toneOf, Palatalization.firstCode, Tape.segment, Tape.tape, Tape.namesOf, Tape.names, Tape.wordNames, Refusals.vowelByte}
-use Rattle.message.proofs.{Bytes.vowel-break, Bytes.vowel-mark, Fused.word-fused, Elided.names-elide, Left.mark-within, Left.word-put, Left.afterLetter, Left.begins-at, Left.mark-first, Left.read-letter, Left.read-mark, Left.read-break, Left.read-end, Left.left-letter, Left.left-mark, Left.left-break, Left.unmarked-after}
+use Rattle.spec.specs.Letters.{Letter, Message, last, more, putLetter, read, firstWord, isMark, isBreak, isGap, isVowel}
+use Rattle.spec.specs.Syllables.{Facts, factsOf, hasMark, namesFrom, incomplete, nameOf, syllableOf}
+use Rattle.spec.specs.Voicing.{voiced, voiceless, voices, toneOf}
+use Rattle.spec.specs.Tape.{segment, tape, namesOf, names, wordNames}
+use Rattle.spec.specs.{Elision.elide, Codes.markOf, Codes.isVoicing, Vowels.endsHardFrom, Vowels.endsHard, Palatalization.firstCode, Refusals.vowelByte}
+use Rattle.message.proofs.Left.{mark-within, word-put, afterLetter, begins-at, mark-first, read-letter, read-mark, read-break, read-end, left-letter, left-mark, left-break, unmarked-after}
+use Rattle.message.proofs.{Bytes.vowel-break, Bytes.vowel-mark, Fused.word-fused, Elided.names-elide}
 use Rattle.laws.proofs.{Classes.cond-app, Classes.either, Classes.break-vowel, Stretch.voices-over, Stretch.voices-first}
-use Rattle.message.specs.{Fused.toneBefore, Fused.letterCodes, Fused.fusedFrom, Places.Left, Places.leftAt, Places.markBefore, Places.markFrom, Places.markedAt, Places.factsAt, Places.tailTape, Places.tailNext, Places.tailWord, Places.tapeAt, Places.wordAt, Places.toneAt, Places.soundAt, Places.letterOf, Places.codesAt, Places.toneAfter, Places.soundAfter, Places.tailNamesOf, Places.namesAt, Places.Steady}
+use Rattle.message.specs.Places.{Left, leftAt, markBefore, markFrom, markedAt, factsAt, tailTape, tailNext, tailWord, tapeAt, wordAt, toneAt, soundAt, letterOf, codesAt, toneAfter, soundAfter, tailNamesOf, namesAt, Steady}
+use Rattle.message.specs.Fused.{toneBefore, letterCodes, fusedFrom}
 
 -- the left context at the start of a word
 abbrev start : Bool → Left

@@ -1,7 +1,8 @@
 -- The entry tells the case: a fault, or a byte that is passed unless it is a 65th letter.
 use Rattle.laws.proofs.Kit.{_<_, _≡_, cond, add-one, arith, length, needs}
 use Rattle.message.specs.Steps.{faultHere}
-use Rattle.message.proofs.{Bytes.by-class, Checking.sees-small, Checking.sees-more, Checking.stop-here, Checking.full-here, Checking.Gives, Checking.gives}
+use Rattle.message.proofs.Checking.{sees-small, sees-more, stop-here, full-here, Gives, gives}
+use Rattle.message.proofs.Bytes.{by-class}
 use Rattle.message.proofs.check.step.Statement.{statement}
 use Rattle.message.proofs.check.step.Tie as tie
 
