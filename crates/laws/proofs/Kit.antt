@@ -7,7 +7,7 @@ pub use mathlib.Core.List.{List, [], _++_, _∷_, append-assoc, append-nil, map}
 pub use native.Mathlib.Numerals.{add-one}
 pub use native.Mathlib.Omega.{arith}
 pub use lib.Dec.{eqb, leb}
-pub use lib.ListN.{List·getD-append, List·getD-eq-default, drop, drop-of-length-le, getD, length, length-append, length-drop, length-take, replicate, set, take, take-append-drop}
-pub use lib.Seq.{append-snoc, drop-append-add, drop-append-le, drop-at, drop-cons, drop-drop, drop-length, getD-append-add, getD-at, getD-drop, getD-take, length-take-le, set-split, take-add, take-all, take-append-le, take-at, take-length, take-suc, take-suc-set, take-take}
+pub use lib.ListN.{List·getD-append, List·getD-eq-default, drop, drop-of-length-le, getD, length, length-append, length-drop, length-take, set, take, take-append-drop}
+pub use lib.Seq.{append-snoc, drop-append-add, drop-at, drop-cons, drop-drop, drop-length, getD-append-add, getD-at, getD-drop, getD-take, length-take-le, set-split, take-add, take-all, take-append-le, take-at, take-length, take-suc, take-suc-set, take-take}
 pub use borrow.Author.Tests.{eq-eqb, eqb-false, eqb-true, le-leb, le-ltb, leb-false, leb-true, lt-leb, lt-ltb, ne-eqb, not-false, not-true}
 pub use borrow.Author.Needs.{needs}
