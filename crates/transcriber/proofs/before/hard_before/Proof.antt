@@ -17,7 +17,10 @@ ends : (c : tie.After-class-before)
     let k = c .class-before .result in
     hardBefore (s .args .m .now) (s .args .i) ≡ cond (eqb k 5) (eqb (classBefore (s .args .m .now) (s .args .i - 2)) 6) (between 6 8 k)
 unfolding hardBefore
-ends c = rw (← c .before .before .before .pre .class, c .before .if1 .left, ← c .class-before .ensures)
+ends c =
+    let s = c .before .before .before in
+    let gap : s .args .k ≡ 2 = c .before .if1 .left in
+    rw (← s .pre .class, gap, ← c .class-before .ensures)
 
 pub hard-before-spec : {M : Type 1} → statement M
 unfolding hardBefore
