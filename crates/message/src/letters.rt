@@ -25,7 +25,7 @@ use crate::alphabet::TSE;
 use crate::alphabet::ZE;
 
 // The small letter of a byte.
-pub fn small_letter(b: u8) -> u8
+fn small_letter(b: u8) -> u8
     ensures { λ r. ⌜ r ≡ small b ⌝ }
 {
     match b {

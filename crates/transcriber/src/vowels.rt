@@ -50,7 +50,7 @@ fn by_level(s: Syllable, stressed: u8, first: u8, second: u8) -> u8
     }
 }
 
-// Row а: of the letters before it only ч щ й change it.
+// Row а: of the letters before it only ч щ й change it, and at level 2 that there is none.
 fn row_a(s: Syllable, k: usize) -> u8
     ensures { λ r. ⌜ ByRow rowА false k s r ⌝ }
 {
@@ -87,7 +87,7 @@ fn row_e(s: Syllable, k: usize, m: &[u8], i: usize, t: &ClassTable) -> u8
     by_level(s, codes::E_STRESSED, codes::E1, codes::E2)
 }
 
-// Row е: of the letters before it only ж ш ц change it.
+// Row е: of the letters before it only ж ш ц change it, and at level 2 that there is none.
 fn row_ie(s: Syllable, k: usize) -> u8
     ensures { λ r. ⌜ ByRow rowЕ false k s r ⌝ }
 {
