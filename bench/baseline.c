@@ -3,11 +3,14 @@
  * or the lengths of the answers. The second, from right to left, writes the answer from its end, since a sound depends on what
  * stands to its right and on little else. Nothing is written before every refusal is settled.
  *
+ * The editor, at the end, is apart: one pass from left to right, and one before it only where the output might be too short.
+ *
  * The classes T, P, Q, V1 and V2, the sets D and U and the numbers of the refusals are those of document 01.
  */
 #include "baseline.h"
 
 #include <stdbool.h>
+#include <string.h>
 
 enum { MAX_BYTES = 4096, MAX_LETTERS = 64 };
 
@@ -505,4 +508,83 @@ baseline_answer baseline_join(const uint8_t *msg, size_t len, const size_t *cuts
 baseline_answer baseline_transcribe(const uint8_t *msg, size_t len, uint8_t *out, size_t cap)
 {
     return baseline_join(msg, len, NULL, 0, out, cap);
+}
+
+#define TO_GAP   {true, GAP}
+#define TO_PAUSE {true, PAUSE}
+
+/*
+ * What the editor makes of a byte. All bits of a gap are also a pause's, so a run of breaks becomes the bitwise or of what its bytes
+ * become. That a byte is a break has a field of its own: the loop over a word then tests it in place, an instruction a byte less.
+ */
+static const struct {
+    bool is_break;
+    uint8_t becomes;
+} edits[256] = {
+    [GAP] = TO_GAP, ['-'] = TO_GAP, ['('] = TO_GAP, [')'] = TO_GAP, ['"'] = TO_GAP, ['\''] = TO_GAP,
+    [PAUSE] = TO_PAUSE, ['.'] = TO_PAUSE, [','] = TO_PAUSE, [';'] = TO_PAUSE, [':'] = TO_PAUSE, ['?'] = TO_PAUSE, ['!'] = TO_PAUSE,
+};
+
+/* How many bytes the runs of breaks before the last word lose. */
+static size_t bytes_lost(const uint8_t *p, const uint8_t *last_word)
+{
+    size_t lost = 0;
+    while (p != last_word) {
+        while (!edits[*p].is_break)
+            p++;
+        while (edits[*++p].is_break)
+            lost++;
+    }
+    return lost;
+}
+
+/*
+ * Writes the words before the last one, a break after each, and gives their length. What goes to out[n] is at p[n]: p moves on where
+ * a run loses a byte. The first break of a run is copied with the word before it, and what the run becomes is put over it.
+ */
+static size_t write_words(const uint8_t *p, const uint8_t *last_word, uint8_t *out)
+{
+    size_t n = 0;
+    while (p + n != last_word) {
+        uint8_t byte;
+        for (;; n++) {
+            byte = p[n];
+            out[n] = byte;
+            if (edits[byte].is_break)
+                break;
+        }
+        uint8_t run = edits[byte].becomes;
+        for (; edits[p[n + 1]].is_break; p++)
+            run |= edits[p[n + 1]].becomes;
+        out[n++] = run;
+    }
+    return n;
+}
+
+/*
+ * The breaks at the ends are taken off and the last word is found first. Each word before it then ends at a break and each run of
+ * breaks at a word, so the loops over them don't ask for the end, and no byte past the answer is written.
+ */
+baseline_text baseline_edit(const uint8_t *text, size_t len, uint8_t *out, size_t cap)
+{
+    const uint8_t *end = text + len;
+    while (end != text && edits[end[-1]].is_break)
+        end--;
+    if (end == text)
+        return (baseline_text){.length = 0};
+    while (edits[*text].is_break)
+        text++;
+    const uint8_t *last_word = end;
+    while (last_word != text && !edits[last_word[-1]].is_break)
+        last_word--;
+
+    size_t length = (size_t)(end - text), last_length = (size_t)(end - last_word);
+    if (length > cap) {
+        length -= bytes_lost(text, last_word);
+        if (length > cap)
+            return (baseline_text){.number = 11, .place = length};
+    }
+    size_t n = write_words(text, last_word, out);
+    memcpy(out + n, last_word, last_length);
+    return (baseline_text){.length = n + last_length};
 }

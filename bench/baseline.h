@@ -16,9 +16,15 @@ typedef struct {
     uint32_t number, place, codes, names;
 } baseline_counts;
 
+typedef struct {
+    uint32_t number;
+    size_t place, length;
+} baseline_text;
+
 baseline_counts baseline_check(const uint8_t *msg, size_t len);
 baseline_answer baseline_name(const uint8_t *msg, size_t len, uint8_t *out, size_t cap);
 baseline_answer baseline_transcribe(const uint8_t *msg, size_t len, uint8_t *out, size_t cap);
 baseline_answer baseline_join(const uint8_t *msg, size_t len, const size_t *cuts, size_t n, uint8_t *out, size_t cap);
+baseline_text baseline_edit(const uint8_t *text, size_t len, uint8_t *out, size_t cap);
 
 #endif

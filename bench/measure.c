@@ -1,5 +1,5 @@
 /*
- * Measures the proved library beside the baseline on the same messages.
+ * Measures the proved library beside the baseline on the same messages, and on texts for the editor.
  *
  *   measure time    compares all answers and outputs of the two, then prints the nanoseconds a byte of each
  *   measure count   makes each call once between requests to callgrind, which then holds the instructions of each
@@ -50,6 +50,17 @@ static const char *const marked_words[] = {
     "а*о*у*ы*э*е*ё*и*ю*я*а*о*у*ы*э*е*ё*и*ю*я*а*о*у*ы*э*е*ё*и*ю*я*а*о*у*ы*э*е*ё*и*ю*я*а*о*у*ы*э*е*ё*и*ю*я*а*о*у*ы*э*е*ё*и*ю*я*а*о*у*ы*",
 };
 
+/* What stands after a word, by turns. */
+static const char *const gaps[] = {" "};
+static const char *const gaps_and_pauses[] = {" ", " ", " ", " ", " ", " ", " ", " ", "#"};
+static const char *const punctuation[] = {
+    ", ", " ", " ", ". ", " ", " (", " ", "), ", " ", " ", ": \"", " ", " ", "!\" ", " ", " ", " - ", " ", "; ", " ", "-", " ", "? ",
+};
+static const char *const nothing[] = {""};
+
+/* All breaks that the editor knows. */
+static const char *const break_words[] = {" ", "-", "(", ")", "\"", "'", "#", ".", ",", ";", ":", "?", "!"};
+
 /* One character of a UTF-8 text as a byte of Windows-1251; the text holds nothing but Russian letters and ASCII. */
 static uint8_t next_byte(const char **text)
 {
@@ -72,6 +83,21 @@ struct message {
     size_t len;
     size_t cuts[MAX_BYTES / 2];
     size_t cut_count;
+    size_t edited; /* the length of its edited text, where it is a text for the editor */
+};
+
+struct list {
+    const char *const *items;
+    size_t count;
+};
+
+struct test_case {
+    const char *name;
+    size_t len;
+    struct list words, after;
+    int shuffled;     /* the words, not what stands after them */
+    const char *last; /* the word to end with, or NULL */
+    int for_editor;   /* a text for the editor, which all else would refuse; else a message, for all but the editor */
 };
 
 static void append(struct message *message, size_t len, const char *word)
@@ -80,20 +106,23 @@ static void append(struct message *message, size_t len, const char *word)
         message->bytes[message->len++] = next_byte(&word);
 }
 
-/*
- * Fills a message with words up to exactly this length. The last word may be cut short: the beginning of a word is a word. Where
- * the last byte would be a break, the word before it gets one more letter.
- */
-static void fill(struct message *message, size_t len, const char *const *from, size_t count, int shuffled)
+/* Fills a message with words up to exactly the case's length. The last word may be cut short: the beginning of a word is a word. */
+static void fill(struct message *message, const struct test_case *c)
 {
     uint32_t seed = 1;
     message->len = 0;
-    for (size_t i = 0; message->len < len; i++) {
+    for (size_t i = 0; message->len < c->len; i++) {
         seed = seed * 1664525u + 1013904223u;
-        size_t pick = shuffled ? (seed >> 8) % count : i % count;
-        append(message, len, from[pick]);
-        append(message, len, shuffled && i % 9 == 8 ? "#" : " ");
+        size_t pick = c->shuffled ? seed >> 8 : i;
+        append(message, c->len, c->words.items[pick % c->words.count]);
+        append(message, c->len, c->after.items[i % c->after.count]);
     }
+}
+
+/* Where the last byte is a break, which may end no message, the word before it gets one more letter. */
+static void end_in_letter(struct message *message)
+{
+    size_t len = message->len;
     if (message->bytes[len - 1] == ' ' || message->bytes[len - 1] == '#') {
         message->len = len - 1;
         append(message, len, "о");
@@ -116,44 +145,65 @@ static void list_all_cuts(struct message *message)
             message->cuts[message->cut_count++] = i;
 }
 
-struct test_case {
-    const char *name;
-    size_t len;
-    const char *const *words;
-    size_t count;
-    int shuffled;
-    const char *last; /* the word to end with, or NULL */
-};
-
-#define LIST(array) array, sizeof array / sizeof array[0]
+#define LIST(array) {array, sizeof array / sizeof array[0]}
 
 static const struct test_case cases[] = {
-    {"text", 16, LIST(words), 1, NULL},
-    {"text", 64, LIST(words), 1, NULL},
-    {"text", 256, LIST(words), 1, NULL},
-    {"text", 1024, LIST(words), 1, NULL},
-    {"text", 4096, LIST(words), 1, NULL},
-    {"one-letter words", 4096, LIST(letter_words), 1, NULL},
-    {"chain of voice", 4096, LIST(chain_words), 0, "до"},
-    {"64 vowels", 4096, LIST(vowel_words), 0, NULL},
-    {"64 marked vowels", 4096, LIST(marked_words), 0, NULL},
-    {"clusters", 4096, LIST(cluster_words), 0, NULL},
+    {"text", 16, LIST(words), LIST(gaps_and_pauses), 1, NULL, 0},
+    {"text", 64, LIST(words), LIST(gaps_and_pauses), 1, NULL, 0},
+    {"text", 256, LIST(words), LIST(gaps_and_pauses), 1, NULL, 0},
+    {"text", 1024, LIST(words), LIST(gaps_and_pauses), 1, NULL, 0},
+    {"text", 4096, LIST(words), LIST(gaps_and_pauses), 1, NULL, 0},
+    {"one-letter words", 4096, LIST(letter_words), LIST(gaps_and_pauses), 1, NULL, 0},
+    {"chain of voice", 4096, LIST(chain_words), LIST(gaps), 0, "до", 0},
+    {"64 vowels", 4096, LIST(vowel_words), LIST(gaps), 0, NULL, 0},
+    {"64 marked vowels", 4096, LIST(marked_words), LIST(gaps), 0, NULL, 0},
+    {"clusters", 4096, LIST(cluster_words), LIST(gaps), 0, NULL, 0},
+    {"punctuated text", 16, LIST(words), LIST(punctuation), 1, NULL, 1},
+    {"punctuated text", 256, LIST(words), LIST(punctuation), 1, NULL, 1},
+    {"punctuated text", 4096, LIST(words), LIST(punctuation), 1, NULL, 1},
+    {"breaks only", 4096, LIST(break_words), LIST(nothing), 1, NULL, 1},
 };
 
-enum operation { NOTHING, CHECK, NAME, TRANSCRIBE, JOIN_NO_CUT, JOIN_ALL_CUTS, OPERATIONS };
-static const char *const operation_names[] = {"nothing", "check", "name", "transcribe", "join, no cut", "join, all cuts"};
+/* The last, an edit with an output one byte too short, is compared but not measured. */
+enum operation {
+    NOTHING, CHECK, NAME, TRANSCRIBE, JOIN_NO_CUT, JOIN_ALL_CUTS, EDIT, EDIT_JUST_ROOM, MEASURED, EDIT_NO_ROOM = MEASURED
+};
+static const char *const operation_names[] = {
+    "nothing", "check", "name", "transcribe", "join, no cut", "join, all cuts", "edit", "edit, just room", "edit, no room",
+};
 
-/* The four numbers of either library's answers. */
+static int suits(const struct test_case *c, enum operation operation)
+{
+    return operation == NOTHING || (operation >= EDIT) == c->for_editor;
+}
+
+/* The four numbers of either library's answers. The editor's place and length are wider: the fourth has what is above 32 bits. */
 struct result {
     uint32_t number, place, first, second;
 };
 
 typedef struct result run_function(enum operation operation, const struct message *m, uint8_t *out);
 
+/* How long an output an edit is given. */
+static size_t room(enum operation operation, const struct message *m)
+{
+    if (operation == EDIT)
+        return m->len;
+    return operation == EDIT_JUST_ROOM ? m->edited : m->edited - 1;
+}
+
+/* The edits are in a function apart: their answers are too wide for two registers, and in line they made the other calls longer. */
 #define DEFINE_RUN(library)                                                                                     \
     static struct result library##_answer_of(library##_answer a)                                                \
     {                                                                                                           \
         return (struct result){a.number, a.place, a.length, a.live};                                            \
+    }                                                                                                           \
+    __attribute__((noinline))                                                                                   \
+    static struct result library##_run_edit(enum operation operation, const struct message *m, uint8_t *out)    \
+    {                                                                                                           \
+        library##_text t = library##_edit(m->bytes, m->len, out, room(operation, m));                           \
+        uint64_t high = (uint64_t)(t.place | t.length) >> 32;                                                   \
+        return (struct result){t.number, (uint32_t)t.place, (uint32_t)t.length, (uint32_t)high};                \
     }                                                                                                           \
     static struct result library##_run(enum operation operation, const struct message *m, uint8_t *out)         \
     {                                                                                                           \
@@ -170,6 +220,10 @@ typedef struct result run_function(enum operation operation, const struct messag
             return library##_answer_of(library##_join(m->bytes, m->len, m->cuts, 0, out, OUT_BYTES));           \
         case JOIN_ALL_CUTS:                                                                                     \
             return library##_answer_of(library##_join(m->bytes, m->len, m->cuts, m->cut_count, out, OUT_BYTES)); \
+        case EDIT:                                                                                              \
+        case EDIT_JUST_ROOM:                                                                                    \
+        case EDIT_NO_ROOM:                                                                                      \
+            return library##_run_edit(operation, m, out);                                                       \
         default:                                                                                                \
             return (struct result){0, 0, 0, 0};                                                                 \
         }                                                                                                       \
@@ -185,22 +239,38 @@ static uint8_t outputs[2][OUT_BYTES];
 
 static void make(struct message *message, const struct test_case *c)
 {
-    fill(message, c->len, c->words, c->count, c->shuffled);
+    fill(message, c);
+    if (c->for_editor) {
+        message->edited = baseline_edit(message->bytes, message->len, outputs[0], OUT_BYTES).length;
+        return;
+    }
+    end_in_letter(message);
     if (c->last)
         end_with(message, c->last);
     list_all_cuts(message);
 }
 
-/* Ends the program unless both libraries accept the message and agree on the answer and on every byte of the output. */
-static void compare(const struct test_case *c, const struct message *message, enum operation operation)
+/* Whether the bytes of an output from this place on are those that it had before the call. */
+static int kept(const uint8_t *out, size_t from)
+{
+    while (from < OUT_BYTES && out[from] == FILLER)
+        from++;
+    return from >= OUT_BYTES;
+}
+
+/*
+ * Ends the program unless both libraries answer with this number, agree on the answer and on every byte of the output, and keep
+ * what is past the answer's length, which is 0 where they refuse.
+ */
+static void compare(const struct test_case *c, const struct message *message, enum operation operation, uint32_t number)
 {
     struct result results[2];
     for (int i = 0; i < 2; i++) {
         memset(outputs[i], FILLER, OUT_BYTES);
         results[i] = libraries[i](operation, message, outputs[i]);
-        if (results[i].number != 0) {
-            fprintf(stderr, "%s refuses '%s' of %zu bytes: %u at %u\n", library_names[i], c->name, c->len, results[i].number,
-                    results[i].place);
+        if (results[i].number != number || !kept(outputs[i], results[i].first)) {
+            fprintf(stderr, "%s fails %s on '%s' of %zu bytes: %u at %u\n", library_names[i], operation_names[operation], c->name,
+                    c->len, results[i].number, results[i].place);
             exit(1);
         }
     }
@@ -243,7 +313,9 @@ static void time_both(enum operation operation, const struct message *message, d
 static void time_case(const struct test_case *c, const struct message *message, enum operation operation)
 {
     double best[2];
-    compare(c, message, operation);
+    compare(c, message, operation, 0);
+    if (operation == EDIT_JUST_ROOM && message->edited > 0)
+        compare(c, message, EDIT_NO_ROOM, 11);
     time_both(operation, message, best);
     printf("%s\t%zu\t%s\t%.2f\t%.2f\n", c->name, c->len, operation_names[operation], best[0] / (double)c->len,
            best[1] / (double)c->len);
@@ -275,11 +347,14 @@ int main(int argc, char **argv)
     }
     for (size_t i = 0; i < sizeof cases / sizeof cases[0]; i++) {
         make(&message, &cases[i]);
-        for (int operation = timing ? CHECK : NOTHING; operation < OPERATIONS; operation++)
+        for (int operation = timing ? CHECK : NOTHING; operation < MEASURED; operation++) {
+            if (!suits(&cases[i], (enum operation)operation))
+                continue;
             if (timing)
                 time_case(&cases[i], &message, (enum operation)operation);
             else
                 count_case(&cases[i], &message, (enum operation)operation);
+        }
     }
     return 0;
 }

@@ -4,15 +4,15 @@
  * Link with target/staticlib/libcapi.a, which `rt staticlib capi` writes.
  *
  * Every function here is proved to do what it promises, but for the stack, for all bytes, lengths and outputs whatever:
- *   - it reads only msg[0 .. len) and cuts[0 .. n), and writes only out[0 .. cap);
+ *   - it reads only msg[0 .. len) (of the editor text[0 .. len)) and cuts[0 .. n), and writes only out[0 .. cap);
  *   - it always returns; it allocates nothing, keeps nothing between calls and calls nothing outside;
  *   - it uses at most 4,096 bytes of stack, its return address with them (measured by the tests on the worst messages, not proved);
  *   - a refusal leaves every byte of out as it was; on acceptance out begins with the answer and its other bytes are kept.
  * The caller sees to what a call in C can't show: each pointer points to that many bytes (or places), and out overlaps neither
- * msg nor cuts. Where a length is 0 the pointer may be anything but NULL. Calls from several threads don't disturb one another.
+ * msg, text nor cuts. Where a length is 0 the pointer may be anything but NULL. Calls from several threads don't disturb one another.
  *
  * A message is Windows-1251: words with one gap (0x20) or pause ('#') between neighbours, a stress mark ('*') right after a
- * stressed vowel, at most 4,096 bytes.
+ * stressed vowel, at most 4,096 bytes. A text with commas and stops is edited first, by govorun_edit.
  */
 #ifndef GOVORUN_H
 #define GOVORUN_H
@@ -64,6 +64,21 @@ govorun_answer govorun_transcribe(const uint8_t *msg, size_t len, uint8_t *out, 
  * each cut between its neighbours. As long as the whole message's tape, and equal to it exactly where live is 0.
  */
 govorun_answer govorun_join(const uint8_t *msg, size_t len, const size_t *cuts, size_t n, uint8_t *out, size_t cap);
+
+/* number 0: accepted, place 0, length bytes of out were written. 11: refused, length 0, and the place is the length of the full answer. */
+typedef struct {
+    uint32_t number;
+    size_t place, length;
+} govorun_text;
+
+/*
+ * Makes of a text the message that is meant, for the calls above. Each of . , ; : ? ! becomes a pause and each of - ( ) " ' a gap; a run
+ * of breaks becomes one, a pause if there is a pause in it; breaks at either end vanish; every other byte passes as it is.
+ * A text may have any length. At most len bytes are written, so an output of len bytes is always enough; 11 is the only refusal. A
+ * text of breaks alone gives length 0, and the check then says 1. The edited text never meets 4, places count in it, and so does the
+ * limit of number 2. To edit it again changes nothing, nor does it to edit a message that the check accepts.
+ */
+govorun_text govorun_edit(const uint8_t *text, size_t len, uint8_t *out, size_t cap);
 
 #ifdef __cplusplus
 }

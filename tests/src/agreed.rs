@@ -4,11 +4,16 @@
 
 use std::time::Duration;
 
-use crate::answers::{expected_print, Whole};
+use crate::answers::{expected_print, Answer, Whole};
 use crate::refusals::Refusal;
 use crate::text::hex;
 use crate::trial::{Operation, Trial};
 use crate::{program, unit, Counts, Joined};
+
+/// The editor with an output of `cap` bytes.
+pub fn edit(text: &[u8], cap: usize) -> Result<Vec<u8>, Refusal> {
+    with_output(Operation::Edit, text, cap).map(|(edited, _)| edited)
+}
 
 /// The message check.
 pub fn check(msg: &[u8]) -> Result<Counts, Refusal> {
@@ -40,7 +45,7 @@ pub fn print(input: &[u8]) -> String {
 }
 
 /// An operation with this output lent to it: its answer, and the output afterwards.
-pub fn lent(operation: Operation, msg: &[u8], before: &[u8]) -> (unit::Answer, Vec<u8>) {
+pub fn lent(operation: Operation, msg: &[u8], before: &[u8]) -> (Answer, Vec<u8>) {
     let mut out = before.to_vec();
     let tried = Trial::new(operation, msg).in_place(msg, &mut out);
     let answer = tried.unwrap_or_else(|difference| panic!("{difference}"));
@@ -54,6 +59,6 @@ fn with_output(operation: Operation, msg: &[u8], cap: usize) -> Whole {
     if let Some(refusal) = answer.refusal() {
         return Err(refusal);
     }
-    out.truncate(answer.length as usize);
-    Ok((out, answer.live as usize))
+    out.truncate(answer.length);
+    Ok((out, answer.live))
 }

@@ -2,20 +2,34 @@
 //! says it: a refusal keeps every byte of the output, an answer takes its beginning only.
 
 use crate::refusals::Refusal;
-use crate::{fit, join, names, tape};
+use crate::{edit, fit, join, names, tape};
 
-/// The four numbers of an answer. An accepted message has number 0 and place 0.
+/// The four numbers of an answer, wide enough for whatever the library gives. An accepted message
+/// has number 0 and place 0.
 #[derive(Clone, Copy, Debug, PartialEq, Eq)]
 pub struct Answer {
-    pub number: u8,
+    pub number: u32,
     pub place: usize,
     pub length: usize,
     pub live: usize,
 }
 
+impl Answer {
+    /// The refusal, unless the message was accepted.
+    pub fn refusal(self) -> Option<Refusal> {
+        let number = u8::try_from(self.number).expect("no number is above 12");
+        let place = self.place;
+        (number != 0).then_some(Refusal { number, place })
+    }
+}
+
 /// An answer with nothing known of the output yet: what is written and the live count, or a refusal
 /// other than 11.
 pub type Whole = Result<(Vec<u8>, usize), Refusal>;
+
+pub fn whole_edit(text: &[u8]) -> Whole {
+    edit(text, usize::MAX).map(|edited| (edited, 0))
+}
 
 pub fn whole_names(msg: &[u8]) -> Whole {
     names(msg, usize::MAX).map(|names| (names, 0))
@@ -46,7 +60,7 @@ pub fn lent(whole: &Whole, before: &[u8]) -> (Answer, Vec<u8>) {
             }
         }
         Err(Refusal { number, place }) => Answer {
-            number,
+            number: number.into(),
             place,
             length: 0,
             live: 0,

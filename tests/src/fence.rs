@@ -57,6 +57,11 @@ impl Fenced {
     }
 }
 
+/// The bytes at one of the two fences.
+pub type Side = fn(&mut Fenced, usize) -> &mut [u8];
+
+pub const SIDES: [Side; 2] = [Fenced::first, Fenced::last];
+
 impl Drop for Fenced {
     fn drop(&mut self) {
         // SAFETY: the mapping is ours, and no slice of it outlives this.

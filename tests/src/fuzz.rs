@@ -1,5 +1,6 @@
 //! What a fuzzer's bytes stand for: a list of cuts and a message. `fuzz/` has the target.
 
+use crate::editing::edited;
 use crate::gen::Rng;
 use crate::message::breaks;
 use crate::trial;
@@ -33,11 +34,21 @@ impl<'a> Input<'a> {
         Input { cuts, msg }
     }
 
-    /// Tries all operations, and says what is wrong with the library's answer.
+    /// Tries all operations, and says what is wrong with the library's answer. If the editor changes
+    /// the message, what it becomes is tried too, cut at every break.
     pub fn compare(&self, rng: &mut Rng) -> Result<(), String> {
-        trial::once(rng, self.msg, &self.cuts)
-            .map_err(|difference| format!("{difference}\ncuts, hexadecimal: {:X?}", self.cuts))
+        compare(rng, self.msg, &self.cuts)?;
+        let edited = edited(self.msg);
+        if edited != self.msg {
+            compare(rng, &edited, &breaks(&edited))?;
+        }
+        Ok(())
     }
+}
+
+fn compare(rng: &mut Rng, msg: &[u8], cuts: &[usize]) -> Result<(), String> {
+    trial::once(rng, msg, cuts)
+        .map_err(|difference| format!("{difference}\ncuts, hexadecimal: {cuts:X?}"))
 }
 
 /// The breaks whose bits are set; the bits come again for each eight breaks.

@@ -1,4 +1,4 @@
-//! Random messages and lists of cuts, the same ones for the same seed.
+//! Random messages, texts and lists of cuts, the same ones for the same seed.
 
 pub mod accepted;
 pub mod cuts;
@@ -6,11 +6,13 @@ pub mod damaged;
 pub mod extreme;
 pub mod lexicon;
 pub mod noise;
+pub mod punctuated;
 
 pub use accepted::{message, message_of_any_length, word};
 pub use cuts::{bad_cuts, every_list, good_cuts, BadCut};
 pub use damaged::{damaged, Spot};
 pub use extreme::extreme_messages;
+pub use punctuated::punctuated;
 
 /// A splitmix64 generator: short, and good enough for test material.
 pub struct Rng(u64);

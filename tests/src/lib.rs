@@ -1,7 +1,7 @@
-//! A second implementation of document 01, written from the paper for comparison. It says what
-//! each operation must answer; it is plain rather than fast.
+//! A second implementation of document 01 and of request 1 of document 02, written from the papers
+//! for comparison. It says what each operation must answer; it is plain rather than fast.
 //!
-//! The modules follow the paper's sections: letters, refusals, the five passes, codes, joints.
+//! The modules follow the papers: letters, refusals, the five passes, codes, joints; and editing.
 //! Beside them stand `gen` with the messages to try, `unit` and `program` with the library and the
 //! program under test, and what holds them to each other: `trial`, and `agreed` for the tests.
 
@@ -9,6 +9,7 @@ pub mod agreed;
 pub mod answers;
 pub mod codes;
 pub mod demand3;
+pub mod editing;
 pub mod elision;
 pub mod fence;
 pub mod fuzz;
@@ -47,6 +48,11 @@ pub struct Counts {
 pub struct Joined {
     pub tape: Vec<u8>,
     pub live: usize,
+}
+
+/// The editor with an output of `cap` bytes.
+pub fn edit(text: &[u8], cap: usize) -> Result<Vec<u8>, Refusal> {
+    fit(editing::edited(text), cap)
 }
 
 /// The message check: refusals 1 to 10, or the lengths of the answers.

@@ -1,7 +1,7 @@
 //! One call of the library beside what the paper asks of it: the answer, and every byte of the
 //! lent memory and around it.
 
-use crate::answers::{lent, whole_join, whole_names, whole_tape, Whole};
+use crate::answers::{lent, whole_edit, whole_join, whole_names, whole_tape, Answer, Whole};
 use crate::gen::{noise, Rng};
 use crate::text::{hex, show};
 use crate::unit;
@@ -15,6 +15,7 @@ const SHORT: usize = 12;
 /// An operation that writes to a lent output.
 #[derive(Clone, Copy, Debug)]
 pub enum Operation<'a> {
+    Edit,
     Name,
     Transcribe,
     Join(&'a [usize]),
@@ -24,6 +25,7 @@ impl Operation<'_> {
     /// The answer that the paper asks for, before an output is lent.
     fn whole(self, msg: &[u8]) -> Whole {
         match self {
+            Operation::Edit => whole_edit(msg),
             Operation::Name => whole_names(msg),
             Operation::Transcribe => whole_tape(msg),
             Operation::Join(cuts) => whole_join(msg, cuts),
@@ -31,11 +33,12 @@ impl Operation<'_> {
     }
 
     /// The answer of the library.
-    fn call(self, msg: &[u8], out: &mut [u8]) -> unit::Answer {
+    fn call(self, msg: &[u8], out: &mut [u8]) -> Answer {
         match self {
-            Operation::Name => unit::name(msg, out),
-            Operation::Transcribe => unit::transcribe(msg, out),
-            Operation::Join(cuts) => unit::join(msg, cuts, out),
+            Operation::Edit => unit::edit(msg, out).into(),
+            Operation::Name => unit::name(msg, out).into(),
+            Operation::Transcribe => unit::transcribe(msg, out).into(),
+            Operation::Join(cuts) => unit::join(msg, cuts, out).into(),
         }
     }
 }
@@ -131,9 +134,8 @@ impl<'a> Trial<'a> {
     }
 
     /// Tries the operation on this copy of the message and this output, and gives its answer.
-    pub fn in_place(&self, msg: &[u8], out: &mut [u8]) -> Result<unit::Answer, String> {
+    pub fn in_place(&self, msg: &[u8], out: &mut [u8]) -> Result<Answer, String> {
         let (expected, after) = lent(&self.whole, out);
-        let expected = unit::Answer::from(expected);
         let given = self.operation.call(msg, out);
         if given != expected {
             let cap = out.len();
@@ -172,8 +174,9 @@ fn told_memory(out: &Placed, expected: &[u8]) -> String {
 }
 
 /// The operations that write to an output.
-pub fn writing(cuts: &[usize]) -> [Operation<'_>; 3] {
+pub fn writing(cuts: &[usize]) -> [Operation<'_>; 4] {
     [
+        Operation::Edit,
         Operation::Name,
         Operation::Transcribe,
         Operation::Join(cuts),
@@ -184,10 +187,16 @@ pub fn writing(cuts: &[usize]) -> [Operation<'_>; 3] {
 pub fn all(rng: &mut Rng, msg: &[u8], cuts: &[usize]) -> Result<(), String> {
     check(rng, msg)?;
     for operation in writing(cuts) {
-        let trial = Trial::new(operation, msg);
-        for cap in caps(rng, trial.length()) {
-            trial.with_output(rng, cap)?;
-        }
+        every_cap(rng, operation, msg)?;
+    }
+    Ok(())
+}
+
+/// An operation on a message, with outputs of all lengths that matter.
+pub fn every_cap(rng: &mut Rng, operation: Operation, msg: &[u8]) -> Result<(), String> {
+    let trial = Trial::new(operation, msg);
+    for cap in caps(rng, trial.length()) {
+        trial.with_output(rng, cap)?;
     }
     Ok(())
 }

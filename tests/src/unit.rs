@@ -16,15 +16,6 @@ pub struct Answer {
     pub live: u32,
 }
 
-impl Answer {
-    /// The refusal, unless the message was accepted.
-    pub fn refusal(self) -> Option<Refusal> {
-        let number = u8::try_from(self.number).expect("no number is above 12");
-        let place = self.place as usize;
-        (number != 0).then_some(Refusal { number, place })
-    }
-}
-
 /// `govorun_counts` of the header.
 #[repr(C)]
 #[derive(Clone, Copy, Debug, PartialEq, Eq)]
@@ -35,12 +26,22 @@ pub struct Counts {
     pub names: u32,
 }
 
+/// `govorun_text` of the header.
+#[repr(C)]
+#[derive(Clone, Copy, Debug, PartialEq, Eq)]
+pub struct Text {
+    pub number: u32,
+    pub place: usize,
+    pub length: usize,
+}
+
 /// The functions as the header declares them.
 pub mod raw {
-    use super::{Answer, Counts};
+    use super::{Answer, Counts, Text};
 
     #[link(name = "capi", kind = "static")]
     extern "C" {
+        pub fn govorun_edit(text: *const u8, len: usize, out: *mut u8, cap: usize) -> Text;
         pub fn govorun_check(msg: *const u8, len: usize) -> Counts;
         pub fn govorun_name(msg: *const u8, len: usize, out: *mut u8, cap: usize) -> Answer;
         pub fn govorun_transcribe(msg: *const u8, len: usize, out: *mut u8, cap: usize) -> Answer;
@@ -55,13 +56,19 @@ pub mod raw {
     }
 }
 
+pub fn edit(text: &[u8], out: &mut [u8]) -> Text {
+    // SAFETY: a slice points to as many bytes as it says, and what is borrowed for writing overlaps
+    // nothing else; so too below.
+    unsafe { raw::govorun_edit(text.as_ptr(), text.len(), out.as_mut_ptr(), out.len()) }
+}
+
 pub fn check(msg: &[u8]) -> Counts {
-    // SAFETY: a slice points to as many bytes as it says; so too below.
+    // SAFETY: as above.
     unsafe { raw::govorun_check(msg.as_ptr(), msg.len()) }
 }
 
 pub fn name(msg: &[u8], out: &mut [u8]) -> Answer {
-    // SAFETY: what is borrowed for writing overlaps nothing else; so too below.
+    // SAFETY: as above.
     unsafe { raw::govorun_name(msg.as_ptr(), msg.len(), out.as_mut_ptr(), out.len()) }
 }
 
@@ -77,14 +84,26 @@ pub fn join(msg: &[u8], cuts: &[usize], out: &mut [u8]) -> Answer {
     unsafe { raw::govorun_join(msg.as_ptr(), msg.len(), places, count, start, cap) }
 }
 
-/// The expected answer in the header's types.
-impl From<crate::Answer> for Answer {
-    fn from(expected: crate::Answer) -> Self {
-        Answer {
-            number: expected.number.into(),
-            place: narrow(expected.place),
-            length: narrow(expected.length),
-            live: narrow(expected.live),
+/// An answer of the library, to be held beside the expected one.
+impl From<Answer> for crate::Answer {
+    fn from(given: Answer) -> Self {
+        crate::Answer {
+            number: given.number,
+            place: given.place as usize,
+            length: given.length as usize,
+            live: given.live as usize,
+        }
+    }
+}
+
+/// The editor counts no live cuts.
+impl From<Text> for crate::Answer {
+    fn from(given: Text) -> Self {
+        crate::Answer {
+            number: given.number,
+            place: given.place,
+            length: given.length,
+            live: 0,
         }
     }
 }

@@ -1,13 +1,17 @@
-//! The daemon in C: it builds without a warning, answers as expected, and touches no memory that
-//! is not its own.
+//! The daemon in C: it builds without a warning, edits each line and answers as expected, and
+//! touches no memory that is not its own.
 
+use std::fs::File;
 use std::io::Write;
 use std::path::{Path, PathBuf};
 use std::process::{Command, Stdio};
 use std::sync::OnceLock;
 
+use govorun_tests::editing::edited;
 use govorun_tests::gen::damaged::{Spot, SPOTS};
-use govorun_tests::gen::{damaged, message, message_of_any_length, Rng};
+use govorun_tests::gen::noise::string;
+use govorun_tests::gen::punctuated::BREAKS;
+use govorun_tests::gen::{damaged, message, message_of_any_length, punctuated, Rng};
 use govorun_tests::input::{directory, impatient};
 use govorun_tests::unit::ARCHIVE;
 use govorun_tests::{cp1251, expected_print};
@@ -47,39 +51,55 @@ fn output(command: &mut Command, input: &[u8]) -> String {
     String::from_utf8_lossy(&output.stdout).into_owned()
 }
 
-/// Messages without a newline in them, which the daemon could not take.
-fn messages() -> Vec<Vec<u8>> {
+/// Lines of the daemon's input, with and without punctuation.
+fn lines() -> Vec<Vec<u8>> {
     let mut rng = Rng::for_test(60);
-    let mut messages: Vec<Vec<u8>> = ["", "ду*б ра*д", "са*д к до*му", "а7", "#", "\0", "а\r"]
-        .iter()
-        .map(|text| cp1251(text))
-        .collect();
-    messages.extend((0..40).map(|_| message_of_any_length(&mut rng)));
+    let plain = "|ду*б ра*д|са*д к до*му|а7|#|\0|а\r";
+    let sentences = "Насо*сная, ста*нция.|\"Ду*б\" - (ра*д)?!|...| - |а, 7|-ьа";
+    let texts = plain.split('|').chain(sentences.split('|'));
+    let mut lines: Vec<Vec<u8>> = texts.map(cp1251).collect();
+    lines.extend((0..40).map(|_| message_of_any_length(&mut rng)));
     for number in 1..=10 {
-        messages.extend(SPOTS.map(|spot: Spot| damaged(&mut rng, number, spot).0));
+        lines.extend(SPOTS.map(|spot: Spot| damaged(&mut rng, number, spot).0));
     }
-    messages.extend([4095, 4096, 4097, 4098, 20_000].map(|length| message(&mut rng, length)));
-    messages.retain(|msg| !msg.contains(&b'\n'));
-    messages
+    for length in [1, 30, 300, 4095, 4096, 4097, 4098, 20_000] {
+        let msg = message(&mut rng, length);
+        lines.push(punctuated(&mut rng, &msg, 9));
+        lines.push(msg);
+    }
+    lines.push(string(&mut rng, BREAKS, 10_000));
+    // A newline would make two lines of one.
+    lines.retain(|line| !line.contains(&b'\n'));
+    lines
 }
 
-/// Hands the messages to a command as lines and compares every line that it prints.
-fn answers_as_expected(command: &mut Command, messages: &[Vec<u8>]) {
-    let mut input = messages.join(&b'\n');
+/// Hands the lines to a command and compares every line that it prints.
+fn answers_as_expected(command: &mut Command, lines: &[Vec<u8>]) {
+    let mut input = lines.join(&b'\n');
     input.push(b'\n');
-    let expected: Vec<String> = messages.iter().map(|msg| expected_print(msg)).collect();
+    let expected = lines.iter().map(|line| expected_print(&edited(line)));
     let printed = output(command, &input);
-    assert_eq!(printed.lines().count(), messages.len());
-    for (given, expected) in printed.lines().zip(&expected) {
+    assert_eq!(printed.lines().count(), lines.len());
+    for (given, expected) in printed.lines().zip(expected) {
         assert_eq!(given, expected.trim_end());
     }
 }
 
 #[test]
 fn daemon_answers_each_line() {
-    let messages = messages();
-    assert!(messages.len() >= 70);
-    answers_as_expected(&mut Command::new(daemon()), &messages);
+    let lines = lines();
+    assert!(lines.len() >= 90);
+    answers_as_expected(&mut Command::new(daemon()), &lines);
+}
+
+/// Only what is left of a line after editing must not be too long.
+#[test]
+fn daemon_on_long_lines() {
+    let run = |line: String| output(&mut Command::new(daemon()), &cp1251(&line));
+    let spoken = vec!["7"; 2048].join(" 63 ") + "\n";
+    assert_eq!(run("а, ".repeat(2048)), spoken);
+    assert_eq!(run("а, ".repeat(2049)), "refused 2 at 0\n");
+    assert_eq!(run("-".repeat(100_000) + "а"), "7\n");
 }
 
 #[test]
@@ -91,14 +111,19 @@ fn daemon_at_the_end_of_its_input() {
     assert_eq!(run(b"\xE0\n\n\xE0"), "7\nrefused 1 at 0\n7\n");
 }
 
+/// What a command prints and what it complains of before it fails.
+fn failing(command: &mut Command, input: Stdio) -> (String, String) {
+    let output = command.stdin(input).output().expect("the daemon starts");
+    assert_eq!(output.status.code(), Some(1));
+    let text = |bytes: Vec<u8>| String::from_utf8_lossy(&bytes).into_owned();
+    (text(output.stdout), text(output.stderr))
+}
+
 /// What the daemon prints for an input that can't be read to its end. It must say so.
 fn print_before_failing(input: Stdio) -> String {
-    let run = Command::new(daemon()).stdin(input).output();
-    let output = run.expect("the daemon starts");
-    assert_eq!(output.status.code(), Some(1));
-    let complaint = String::from_utf8_lossy(&output.stderr);
+    let (print, complaint) = failing(&mut Command::new(daemon()), input);
     assert_eq!(complaint, "daemon: standard input could not be read\n");
-    String::from_utf8_lossy(&output.stdout).into_owned()
+    print
 }
 
 #[test]
@@ -110,12 +135,25 @@ fn daemon_speaks_no_part_of_a_line() {
     assert_eq!(print_before_failing(directory()), "");
 }
 
+/// A line without end fills any memory; a daemon that did not keep it would run into the other
+/// limit, that of its seconds.
+#[test]
+fn daemon_without_memory() {
+    let endless = File::open("/dev/zero").expect("a device that never ends");
+    let limited = "ulimit -v 20000 && ulimit -t 20 && exec \"$0\"";
+    let mut command = Command::new("sh");
+    command.args(["-c", limited]).arg(daemon());
+    let (print, complaint) = failing(&mut command, endless.into());
+    assert_eq!(print, "");
+    assert_eq!(complaint, "daemon: there is no memory left\n");
+}
+
 #[test]
 fn daemon_under_valgrind() {
     let mut command = Command::new("valgrind");
     command
         .args(["--tool=memcheck", "--quiet", "--error-exitcode=9"])
-        .args(["--leak-check=full", "--errors-for-leak-kinds=definite"])
+        .args(["--leak-check=full", "--errors-for-leak-kinds=all"])
         .arg(daemon());
-    answers_as_expected(&mut command, &messages());
+    answers_as_expected(&mut command, &lines());
 }

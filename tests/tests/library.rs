@@ -1,7 +1,7 @@
 //! Every function of the C interface beside the expected answers: the four numbers, the lent
 //! output byte for byte, and the bytes around it.
 
-use govorun_tests::fence::{as_places, Fenced};
+use govorun_tests::fence::{as_places, Fenced, Side, SIDES};
 use govorun_tests::gen::cuts::BAD_CUTS;
 use govorun_tests::gen::damaged::SPOTS;
 use govorun_tests::gen::noise::{bytes, every_string, string};
@@ -195,9 +195,6 @@ struct AtFences {
     cuts: Fenced,
     out: Fenced,
 }
-
-type Side = fn(&mut Fenced, usize) -> &mut [u8];
-const SIDES: [Side; 2] = [Fenced::first, Fenced::last];
 
 impl AtFences {
     fn new() -> Self {

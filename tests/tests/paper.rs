@@ -4,8 +4,7 @@
 use govorun_tests::agreed::{check, join, lent, names, print, tape};
 use govorun_tests::codes::NAMES;
 use govorun_tests::trial::Operation::{Join, Name, Transcribe};
-use govorun_tests::unit::Answer;
-use govorun_tests::{cp1251, spell, Counts, Refusal};
+use govorun_tests::{cp1251, spell, Answer, Counts, Refusal};
 
 fn sounds(text: &str) -> String {
     print(&cp1251(text));

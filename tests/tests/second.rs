@@ -1,7 +1,7 @@
 //! Parts of the paper derived once more, in another manner, and held to the library and the second
 //! implementation over all short strings of small alphabets and over random ones.
 
-use govorun_tests::agreed::{check, names, tape};
+use govorun_tests::agreed::{check, edit, names, tape};
 use govorun_tests::gen::noise::{every_string, string};
 use govorun_tests::gen::{message_of_any_length, Rng};
 use govorun_tests::letters::is_vowel;
@@ -173,6 +173,17 @@ fn is_soft_by_chain(rest: &[char]) -> bool {
     }
 }
 
+/// The edited form of a text, by making one break of two neighbours until there are none left.
+fn edited_by_rewriting(text: &str) -> String {
+    let pairs = [("  ", " "), (" #", "#"), ("# ", "#"), ("##", "#")];
+    let pauses = text.replace(['.', ',', ';', ':', '?', '!'], "#");
+    let mut edited = pauses.replace(['-', '(', ')', '"', '\''], " ");
+    while let Some((two, one)) = pairs.iter().find(|(two, _)| edited.contains(two)) {
+        edited = edited.replace(two, one);
+    }
+    edited.trim_matches([' ', '#']).to_string()
+}
+
 #[test]
 fn refusals_agree_with_the_automaton() {
     every_string(&cp1251("аябйъь* 7"), 6, &mut agrees_with_automaton);
@@ -233,4 +244,19 @@ fn softness_agrees_with_chains() {
             .collect();
         assert_eq!(soft, expected, "{} {spelled}", show(msg));
     });
+}
+
+#[test]
+fn editing_agrees_with_rewriting() {
+    let agrees = &mut |text: &[u8]| {
+        let ascii = std::str::from_utf8(text).expect("ASCII");
+        let expected = edited_by_rewriting(ascii).into_bytes();
+        assert_eq!(edit(text, usize::MAX), Ok(expected), "{ascii:?}");
+    };
+    every_string(b"a7 #.-", 6, agrees);
+    let mut rng = Rng::for_test(11);
+    for _ in 0..5000 {
+        let length = rng.below(60);
+        agrees(&string(&mut rng, b"ab\n #.,;:?!-()\"'", length));
+    }
 }

@@ -6,9 +6,9 @@ use std::arch::asm;
 use govorun_tests::check;
 use govorun_tests::fence::Fenced;
 use govorun_tests::gen::damaged::SPOTS;
-use govorun_tests::gen::{damaged, extreme_messages, noise, Rng};
+use govorun_tests::gen::{damaged, extreme_messages, noise, punctuated, Rng};
 use govorun_tests::message::breaks;
-use govorun_tests::unit::raw;
+use govorun_tests::unit::{raw, Text};
 
 /// The most that a call may take, in bytes, its return address with it, as the header says it.
 fn bound() -> usize {
@@ -56,8 +56,8 @@ impl Stack {
     }
 }
 
-/// Calls a function of up to six whole numbers on another stack. All answers of the interface
-/// come back in two registers, the number in the lower half of the first.
+/// Calls a function of up to six whole numbers on another stack. All answers of the interface but
+/// the editor's come back in two registers, the number in the lower half of the first.
 ///
 /// # Safety
 /// The function takes these arguments, and `top` is the end of a long enough stack.
@@ -87,6 +87,7 @@ unsafe fn call_on(top: *mut u8, function: *const (), arguments: [usize; 6]) -> u
 /// The most stack that each function was seen to touch.
 #[derive(Debug, Default)]
 struct Deepest {
+    edit: usize,
     check: usize,
     name: usize,
     transcribe: usize,
@@ -96,6 +97,7 @@ struct Deepest {
 impl Deepest {
     /// Calls all functions on a message, with this list of cuts and an output of this length.
     fn measure(&mut self, stack: &mut Stack, msg: &[u8], cuts: &[usize], cap: usize) {
+        self.measure_edit(stack, msg, cap);
         let mut out = vec![0; cap];
         let (msg, len) = (msg.as_ptr() as usize, msg.len());
         let (cuts, n) = (cuts.as_ptr() as usize, cuts.len());
@@ -119,9 +121,25 @@ impl Deepest {
         assert!(others.iter().all(right), "{number} {others:?}");
     }
 
+    /// Calls the editor. Its answer does not fit two registers, so the place for it is an argument,
+    /// and the first.
+    fn measure_edit(&mut self, stack: &mut Stack, text: &[u8], cap: usize) {
+        let mut out = vec![0; cap];
+        let mut answer = Text {
+            number: u32::MAX,
+            place: 0,
+            length: 0,
+        };
+        let (text, len) = (text.as_ptr() as usize, text.len());
+        let (at, out) = (&raw mut answer as usize, out.as_mut_ptr() as usize);
+        let (_, touched) = stack.call(raw::govorun_edit as _, &[at, text, len, out, cap]);
+        self.edit = touched.max(self.edit);
+        assert!(answer.number == 0 || (cap < len && answer.number == 11));
+    }
+
     fn at_most(&self, bound: usize) {
         println!("bytes of stack: {self:?}");
-        for used in [self.check, self.name, self.transcribe, self.join] {
+        for used in [self.edit, self.check, self.name, self.transcribe, self.join] {
             assert!(used <= bound, "{used} bytes of stack, over {bound}");
         }
     }
@@ -154,6 +172,20 @@ fn refused_messages() {
                 let (msg, _) = damaged(&mut rng, number, spot);
                 deepest.measure(&mut stack, &msg, &[], 2 * msg.len());
             }
+        }
+    }
+    deepest.at_most(bound());
+}
+
+#[test]
+fn texts_with_punctuation() {
+    let mut rng = Rng::for_test(72);
+    let mut stack = Stack::new(&mut rng);
+    let mut deepest = Deepest::default();
+    for msg in extreme_messages(&mut rng, 50) {
+        let text = punctuated(&mut rng, &msg, 5);
+        for cap in [text.len(), 0] {
+            deepest.measure(&mut stack, &text, &[], cap);
         }
     }
     deepest.at_most(bound());

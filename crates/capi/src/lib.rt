@@ -1,7 +1,9 @@
-// The C interface: include/govorun.h says what each function promises. Each carries its operation's promise on, in four numbers.
+// The C interface: include/govorun.h says what each function promises. Each carries its operation's promise on, in four numbers, or in three for a text of any length.
 ghost use Rattle.spec.specs.Answers.{CheckPromise, NamePromise, TranscribePromise, JoinPromise, Carried};
+ghost use Rattle.spec.specs.Editing.{EditPromise};
 ghost use Rattle.laws.proofs.Bounds.{Small, SmallCheck};
-ghost use Rattle.capi.specs.Said.{Said, Counted};
+ghost use Rattle.capi.specs.Said.{Said, Counted, Told};
+use editor::edit;
 use joiner::join::join;
 use message::check::check;
 use spec::Answer;
@@ -23,6 +25,13 @@ pub struct GovorunCounts {
     pub place: u32,
     pub codes: u32,
     pub names: u32,
+}
+
+#[repr(C)]
+pub struct GovorunText {
+    pub number: u32,
+    pub place: usize,
+    pub length: usize,
 }
 
 // The check's answer in four numbers, each of which fits.
@@ -93,4 +102,29 @@ pub extern "C" fn govorun_join(m: &[u8], cuts: &[usize], out: &mut [u8]) -> Govo
     ensures { λ r. ⌜ Carried (JoinPromise (now (m .entry)) (now (cuts .entry)) (now (out .entry)) (now (out .exit))) Said r ⌝ }
 {
     say(join(m, cuts, out))
+}
+
+// The editor's answer in three numbers, which may be as large as a text is long.
+fn tell(a: Answer) -> GovorunText
+    ensures { λ r. ⌜ Told a r ⌝ }
+{
+    match a {
+        Answer::Written { length, live: _ } => GovorunText {
+            number: 0,
+            place: 0,
+            length,
+        },
+        Answer::Refused(r) => GovorunText {
+            number: r.number as u32,
+            place: r.place,
+            length: 0,
+        },
+    }
+}
+
+#[no_mangle]
+pub extern "C" fn govorun_edit(text: &[u8], out: &mut [u8]) -> GovorunText
+    ensures { λ r. ⌜ Carried (EditPromise (now (text .entry)) (now (out .entry)) (now (out .exit))) Told r ⌝ }
+{
+    tell(edit(text, out))
 }

@@ -1,8 +1,8 @@
 -- The text grows at its end: what is put after other bytes and those bytes together were put at the place of the latter. How long a number, the codes and an answer are in it.
 use Rattle.laws.proofs.Kit.{ℕ, zero, suc, _+_, _-_, _*_, _/_, _%_, _^_, _<_, _≤_, arith, _≡_, refl, sym, ap, _∙_, ⊎-elim, List, [], _∷_, _++_, append-assoc, append-nil, length, take, drop, getD, length-append, length-drop, take-at, drop-cons, drop-length, le-leb, lt-leb, lt-ltb, le-ltb}
-use Rattle.spec.specs.Printed.{ascii, lastDigits, decimal, printedCodes, printedAnswer}
+use Rattle.spec.specs.Printed.{lastDigits, decimal, printedCodes, printedAnswer}
 use Rattle.spec.specs.Answers.{numberOf, placeOf, lengthOf, outputAfter, tapeAnswer, Promise}
-use Rattle.spec.specs.{Tape.tape, declared.Refusal.Refusal, declared.Answer.Answer, declared.Answer.the-variants.Written, declared.Answer.the-variants.Refused}
+use Rattle.spec.specs.{Tables.ascii, Tape.tape, declared.Refusal.Refusal, declared.Answer.Answer, declared.Answer.the-variants.Written, declared.Answer.the-variants.Refused}
 use Rattle.laws.proofs.{Bounds.tape-small, Classes.below-or}
 use Rattle.govorun.specs.Putting.{Put, codeAt}
 use native.Mathlib.Nat.{pow-suc}

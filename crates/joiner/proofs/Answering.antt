@@ -1,10 +1,10 @@
 -- What is answered where the check does not refuse: number 12, then 11, and else the tape and then the output's own bytes.
-use Rattle.laws.proofs.Kit.{ℕ, _<_, _≤_, _≡_, refl, sym, _∙_, List, _++_, arith, eq-eqb, ne-eqb, le-leb, lt-leb, length, take, drop, getD, length-take-le}
+use Rattle.laws.proofs.Kit.{ℕ, _<_, _≤_, _≡_, refl, sym, _∙_, List, _++_, eq-eqb, ne-eqb, length, take, drop, getD, length-take-le}
 use Rattle.spec.specs.Joints.{Rising, joined, liveCount, badCut}
-use Rattle.spec.specs.Answers.{within, afterCheck, outputAfter, joinAnswer, JoinPromise}
+use Rattle.spec.specs.Answers.{afterCheck, outputAfter, joinAnswer, JoinPromise}
 use Rattle.spec.specs.{Refusals.refusal, Refusals.checkOf, declared.Counts.Counts, declared.Checked.the-variants.Accepted, declared.Answer.the-variants.Written, declared.Answer.the-variants.Refused}
 use Rattle.message.proofs.Steadiness.{accepted-steady}
-use Rattle.laws.proofs.{Accepted.accepted-counts, Cuts.rising-of, Cutting.equal-lengths, Promises.promised}
+use Rattle.laws.proofs.{Accepted.accepted-counts, Cuts.rising-of, Cutting.equal-lengths, Promises.promised, Promises.promised-short, Promises.promised-written}
 use Rattle.joiner.specs.Writing.{TapeDue}
 
 module _ (m cuts out : List ℕ) {counts : Counts} (accepted : checkOf m ≡ Accepted counts) {n : ℕ} (e : n ≡ badCut m cuts) where
@@ -23,8 +23,8 @@ module _ (m cuts out : List ℕ) {counts : Counts} (accepted : checkOf m ≡ Acc
 
     -- number 11
     pub join-short : length out < counts .codes → JoinPromise m cuts out out (Refused (refusal 11 (counts .codes)))
-    unfolding joinAnswer afterCheck within outputAfter
-    join-short h = rw (accepted, ← e, eq-eqb _ _ good, size, lt-leb (length (joined m cuts)) (length out) (omega (arith, size))) (promised _ _ _ _ _ refl refl)
+    unfolding joinAnswer afterCheck
+    join-short h = rw (accepted, ← e, eq-eqb _ _ good) (promised-short size (liveCount m cuts) h)
 
     module _ (room : counts .codes ≤ length out) where
       -- the output's bytes that are written are as many as the tape's codes
@@ -37,6 +37,5 @@ module _ (m cuts out : List ℕ) {counts : Counts} (accepted : checkOf m ≡ Acc
 
       -- with the second tape there the joiner has answered
       pub join-written : (last : List ℕ) (live : ℕ) → (last ≡ joined m cuts) × (live ≡ liveCount m cuts) → JoinPromise m cuts out (last ++ drop (counts .codes) out) (Written (counts .codes) live)
-      unfolding joinAnswer afterCheck within outputAfter
-      join-written last live w =
-          rw (accepted, ← e, eq-eqb _ _ good, w .0, w .1, size, le-leb (length (joined m cuts)) (length out) (omega (arith, size))) (promised _ _ _ _ _ refl refl)
+      unfolding joinAnswer afterCheck
+      join-written last live w = rw (accepted, ← e, eq-eqb _ _ good, w .0, w .1) (promised-written size (liveCount m cuts) room refl)

@@ -4,11 +4,9 @@ use Rattle.spec.specs.Joints.{RisingFrom, joinedFrom, joined, liveCount, markIn
 use Rattle.spec.specs.{Tape.tape, Refusals.checkOf, declared.Checked.the-variants.Accepted}
 use Rattle.message.specs.Places.{Steady}
 use Rattle.message.proofs.Steadiness.{accepted-steady}
-use Rattle.transcriber.specs.Walk.{Put}
-use Rattle.transcriber.proofs.Putting.{put-first}
 use Rattle.laws.proofs.Parts.{part, Begins, changedAfter, or-false, live-here, mark-there, part-first, first-own}
 use Rattle.laws.proofs.MarkIndex.{Ends, Placed, stretch, end-own, placed, own-length, own-codes}
-use Rattle.laws.proofs.{Accepted.countsOf, Accepted.accepted-passes, Classes.below-or, Cuts.rising-length, Cuts.break-within, Cutting.equal-lengths, PartsAccepted.part-at, PartsAccepted.part-accepted, Bounds.live-bound, Heard.tape-heard, Marks.mark-first, Marks.mark-next, Marks.mark-last}
+use Rattle.laws.proofs.{Accepted.countsOf, Accepted.accepted-passes, Classes.below-or, Cuts.rising-length, Cuts.break-within, Cutting.equal-lengths, PartsAccepted.part-at, PartsAccepted.part-accepted, Bounds.live-bound, Heard.tape-heard, Marks.mark-first, Marks.mark-next, Marks.mark-last, Putting.Put, Putting.put-first}
 use Rattle.joiner.specs.Writing.{Valid, TapeDue, PutBefore, PartDue, Whole, Reach, Beside, Changing, endOf, restOf, Laid}
 use Rattle.joiner.specs.{declared.Changes.Changes, declared.Progress.Progress}
 use Rattle.joiner.proofs.Looking.{whole-less}

@@ -15,7 +15,7 @@ use Rattle.spec.specs.declared.Counts.{Counts}
 use Rattle.spec.specs.declared.Checked.the-variants.{Accepted}
 use Rattle.laws.proofs.Parts.{changedAfter, changedBefore}
 use Rattle.laws.proofs.MarkIndex.{Ends}
-use Rattle.transcriber.specs.Walk.{Put}
+use Rattle.laws.proofs.Putting.{Put}
 use Rattle.joiner.specs.declared.Changes.{Changes}
 use Rattle.joiner.specs.declared.Progress.{Progress}
 

@@ -118,12 +118,12 @@ given-range {m} {n} {p} g =
     (leb-true 1 n (r .0), leb-true n 10 (r .1))
 
 -- number 1: nothing comes before it
-empty-given : (m : List ℕ) → length m ≡ 0 → Given m 1 0
+pub empty-given : (m : List ℕ) → length m ≡ 0 → Given m 1 0
 unfolding fits rank
 empty-given m e = record { holds = rw e; first = λ k q. ⊎-elim (λ l. absurd (omega arith)) (λ l. absurd (omega (arith, l .1))) }
 
 -- number 2: only number 1 comes before it
-long-given : (m : List ℕ) → 4096 < length m → Given m 2 0
+pub long-given : (m : List ℕ) → 4096 < length m → Given m 2 0
 unfolding fits rank numbers
 long-given m h = record {
   holds = rw (lt-leb (length m) 4096 h);
@@ -140,10 +140,14 @@ rest-first m i b r e =
     let s = sym (drop-cons m i 0 h) ∙ e in
     (h, cc s, cc s)
 
--- no row fits at any of these bytes, behind those before them
+-- a claim on each of these bytes, behind those before them
+abbrev pub EachFrom : (List ℕ → ℕ → List ℕ → Type 0) → List ℕ → List ℕ → Type 0
+EachFrom P before [] = Unit {0}
+EachFrom P before (b ∷ m) = P before b m × EachFrom P (b ∷ before) m
+
+-- no row fits at any of them
 abbrev pub ClearFrom : List ℕ → List ℕ → Type 0
-ClearFrom before [] = Unit {0}
-ClearFrom before (b ∷ m) = Clear before b m × ClearFrom (b ∷ before) m
+ClearFrom before m = EachFrom Clear before m
 
 module _ (m : List ℕ) where
   -- so it is from each place on of a message where no row fits at any
@@ -152,13 +156,14 @@ module _ (m : List ℕ) where
   places-clear c [] a e = tt
   places-clear c (b ∷ r) a e = let s = rest-first m a b r e in (rw (s .1, s .2) at (c a (s .0)), rw (s .1) at (places-clear c r (suc a) (s .2)))
 
-  -- and the other way round
-  pub clear-places : (r : List ℕ) (a : ℕ) → drop a m ≡ r → ClearFrom (beforeAt m a) r → (i : ℕ) → a ≤ i → i < length m → ClearAt m i
+  -- and the other way round, whatever is claimed
+  pub each-place : (P : List ℕ → ℕ → List ℕ → Type 0) (r : List ℕ) (a : ℕ) → drop a m ≡ r → EachFrom P (beforeAt m a) r
+      → (i : ℕ) → a ≤ i → i < length m → P (beforeAt m i) (getD m i 0) (drop (suc i) m)
   unfolding beforeAt
-  clear-places [] a e c i l h = absurd (omega (arith, length-drop a m, ap length e))
-  clear-places (b ∷ r) a e c i l h =
+  each-place P [] a e c i l h = absurd (omega (arith, length-drop a m, ap length e))
+  each-place P (b ∷ r) a e c i l h =
       let s = rest-first m a b r e in
-      ⊎-elim (λ g. clear-places r (suc a) (s .2) (rw (s .1) (c .1)) i g h) (λ g. let q : i ≡ a = omega arith in rw (q, s .1, s .2) (c .0)) (below-or a i)
+      ⊎-elim (λ g. each-place P r (suc a) (s .2) (rw (s .1) (c .1)) i g h) (λ g. let q : i ≡ a = omega arith in rw (q, s .1, s .2) (c .0)) (below-or a i)
 
 -- In a message of 1 to 4,096 bytes only rows can fit.
 module _ (m : List ℕ) (z : 0 < length m) (s : length m ≤ 4096) where

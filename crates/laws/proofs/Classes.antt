@@ -68,10 +68,14 @@ vowel-single b h = among-same isPaired (λ _. false) (plainVowels ++ softeningVo
 abbrev pub NoBreak : (ℕ → Bool) → Type 0
 NoBreak class = (d : ℕ) → isBreak d ≡ true → class d ≡ false
 
+-- what holds of the gap and the pause holds of a break
+pub break-both : (P : ℕ → Type 0) → P gap → P pause → (d : ℕ) → isBreak d ≡ true → P d
+unfolding isBreak
+break-both P g p d e = either (eqb d gap) (λ q. rw (eqb-true d gap q) g) (λ q. rw (eqb-true d pause (rw q at e)) p)
+
 -- a class without the gap and the pause
 no-break : (class : ℕ → Bool) → class gap ≡ false → class pause ≡ false → NoBreak class
-unfolding isBreak
-no-break class g p d e = either (eqb d gap) (λ q. rw (eqb-true d gap q) g) (λ q. rw (eqb-true d pause (rw q at e)) p)
+no-break class = break-both (λ d. class d ≡ false)
 
 -- a break is no mark
 pub break-mark : NoBreak isMark

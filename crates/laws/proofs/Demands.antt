@@ -1,88 +1,99 @@
--- The operator's three demands, from the promises alone: every operation answers the check's refusal, then number 12, then 11, and else its text, so each way of ending is one case.
-use Rattle.laws.proofs.Kit.{ℕ, _≤_, _≡_, refl, sym, ap, _∙_, cond, _⊎_, inl, inr, ⊎-elim, _↔_, List, [], arith, eqb, length, length-append, length-drop, eq-eqb, ne-eqb, le-leb, lt-leb}
+-- The operator's three demands, from the promises alone: every operation answers the check's refusal, then number 12, then 11, and else its text, so each way of ending is one case. Those of a text are those of its edited form.
+use Rattle.laws.proofs.Kit.{ℕ, _≤_, _≡_, refl, sym, ap, _∙_, cond, _⊎_, inl, inr, ⊎-elim, _↔_, List, [], _∷_, _<_, false≢true, arith, eqb, length, take, drop, length-append, length-drop, take-at, eq-eqb, ne-eqb, le-leb, lt-leb}
 use Rattle.spec.specs.Joints.{Rising, joined, liveCount, badCutFrom, badCut}
 use Rattle.spec.specs.Answers.{numberOf, placeOf, lengthOf, liveOf, checkedNumber, checkedPlace, checkedCodes, checkedNames, within, afterCheck, outputAfter, nameAnswer, tapeAnswer, joinAnswer, Promise}
-use Rattle.spec.specs.Demands.{Due, turnedAway, wrongCut, tooShort, CarriedOut, Settled, Exactly, Demand1, Demand2, Demand3}
-use Rattle.spec.specs.{Tape.tape, Tape.names, Refusals.refusal, Refusals.checkOf, Refusals.NoneFits, declared.Answer.Answer, declared.Answer.the-variants.Written, declared.Answer.the-variants.Refused}
-use Rattle.laws.proofs.Accepted.{check-finds, passes-none, none-accepted, given-range, given-refused}
+use Rattle.spec.specs.Demands.{Due, turnedAway, wrongCut, tooShort, CarriedOut, Settled, Exactly, Demand1, Demand2, Demand3, EditDue, EditedDemands}
+use Rattle.spec.specs.Editing.{edited, editAnswer, EditPromise}
+use Rattle.spec.specs.{Tape.tape, Tape.names, Refusals.refusal, Refusals.checkOf, Refusals.fits, Refusals.NoneFits, Refusals.Given, declared.Answer.Answer, declared.Answer.the-variants.Written, declared.Answer.the-variants.Refused}
+use Rattle.laws.proofs.Accepted.{check-finds, passes-none, none-accepted, given-range, given-refused, empty-given, long-given}
+use Rattle.laws.proofs.Edited.{edited-size, edited-twice, accepted-own, edited-never-four, only-breaks}
 use Rattle.laws.proofs.Cuts.{judged, first-bad, rising-to, full-rising, full-every}
 use Rattle.laws.proofs.{Classes.below-or, Cutting.counts-none, Cutting.two-tapes}
 
--- what is due after the check and the list of cuts
-abbrev dueAfter : List ℕ → List ℕ → List ℕ → ℕ → List ℕ → Answer
-dueAfter m cuts text count out =
-    afterCheck (checkOf m) (cond (eqb (badCut m cuts) (length cuts)) (within (length out) (length text) count) (Refused (refusal 12 (badCut m cuts))))
+-- The ways in which an operation can end: what is due is its text where it accepts and there is room, and else a number and its place.
+pub record Ways (Accepted : Type 0) (Number : ℕ → ℕ → Type 0) (text : List ℕ) (count : ℕ) (out : List ℕ) (due : Answer) : Type 0 where
+  pub written : Accepted → length text ≤ length out → due ≡ Written (length text) count
+  pub refused : (n p : ℕ) → Number n p → due ≡ Refused (refusal n p)
+  pub ends : (Accepted × (length text ≤ length out)) ⊎ ((n : ℕ) × (p : ℕ) × Number n p × (1 ≤ n) × (n ≤ 12))
 
--- The ways in which an operation can end.
-abbrev Ends : List ℕ → List ℕ → List ℕ → ℕ → List ℕ → Type 0
-Ends m cuts text count out =
-    let due = dueAfter m cuts text count out in
-    ((due ≡ Written (length text) count) × NoneFits m × Rising m cuts × (length text ≤ length out))
-    ⊎ ((n : ℕ) × (p : ℕ) × (due ≡ Refused (refusal n p)) × Due m cuts (length text) (length out) n p × (1 ≤ n) × (n ≤ 12))
+-- An operation that promises what is due
+module _ {Accepted : Type 0} {Number : ℕ → ℕ → Type 0} {text : List ℕ} {count : ℕ} {out : List ℕ} {due : Answer} (ways : Ways Accepted Number text count out due)
+    {out′ : List ℕ} {r : Answer} (kept : Promise due text out out′ r) where
+  -- carries it out where that is its text
+  pub carried : Accepted → length text ≤ length out → CarriedOut text count out out′ r
+  unfolding outputAfter numberOf placeOf lengthOf liveOf
+  carried a h = let p = rw (ways .written a h) at kept in record { output = p .output; number = p .number; place = p .place; length = p .length; live = p .live }
 
+  -- is settled
+  pub settled : Settled Number text count out out′ r
+  unfolding outputAfter numberOf placeOf lengthOf liveOf
+  settled = ⊎-elim
+      (λ w. let c = carried (w .0) (w .1) in record { ended = inl c; size = ap length (c .output) ∙ simp (length-append, length-drop) (omega (arith, w .1)) })
+      (λ d.
+      let p = rw (ways .refused _ _ (d .2)) at kept in
+      record {
+        ended = inr (record {
+          output = p .output;
+          number = (omega (arith, p .number, d .3), omega (arith, p .number, d .4));
+          place = rw (p .number, p .place) (d .2);
+          length = p .length;
+          live = p .live;
+        });
+        size = ap length (p .output);
+      }) (ways .ends)
+
+  -- and exact
+  pub exactly : Exactly Accepted Number text count out out′ r
+  unfolding numberOf placeOf
+  exactly = record {
+    accepts = λ h. (
+      λ z. ⊎-elim (λ w. w .0) (λ d. absurd (omega (arith, z, kept .number ∙ ap numberOf (ways .refused _ _ (d .2)), d .3))) (ways .ends),
+      λ a. carried a h .number,
+    );
+    gives = λ h a. carried a h;
+    refuses = λ n p h. (
+      λ q. ⊎-elim (λ w. absurd (omega (arith, q .0, kept .number ∙ ap numberOf (ways .written (w .0) (w .1)))))
+          (λ d. rw (← q .0, ← q .1, kept .number, kept .place, ways .refused _ _ (d .2)) (d .2)) (ways .ends),
+      λ d. let e = ways .refused n p d in (kept .number ∙ ap numberOf e, kept .place ∙ ap placeOf e),
+    );
+  }
+
+-- What is due after the check and the list of cuts ends in these ways.
 module _ (m cuts text : List ℕ) (count : ℕ) (out : List ℕ) where
+  abbrev dueAfter : Answer
+  dueAfter = afterCheck (checkOf m) (cond (eqb (badCut m cuts) (length cuts)) (within (length out) (length text) count) (Refused (refusal 12 (badCut m cuts))))
+
   -- accepted with room: written
-  written-due : NoneFits m → Rising m cuts → length text ≤ length out → dueAfter m cuts text count out ≡ Written (length text) count
+  written-due : NoneFits m → Rising m cuts → length text ≤ length out → dueAfter ≡ Written (length text) count
   unfolding afterCheck within
   written-due f r h = rw (none-accepted m f, eq-eqb _ _ (rising-to m cuts r), le-leb (length text) (length out) h)
 
   -- a number and its place: refused so
-  refused-due : (n p : ℕ) → Due m cuts (length text) (length out) n p → dueAfter m cuts text count out ≡ Refused (refusal n p)
+  refused-due : (n p : ℕ) → Due m cuts (length text) (length out) n p → dueAfter ≡ Refused (refusal n p)
   unfolding afterCheck within
   refused-due n p (turnedAway k q g) = rw (given-refused m k q g)
   refused-due n p (wrongCut i f b) = rw (none-accepted m f, first-bad m cuts i b, ne-eqb i (length cuts) (omega (arith, b .within)))
   refused-due n p (tooShort f r h) = rw (none-accepted m f, eq-eqb _ _ (rising-to m cuts r), lt-leb (length text) (length out) h)
 
-  -- what is due is one of them
-  ends : Ends m cuts text count out
-  ends = ⊎-elim
-      (λ a. let f = passes-none m (a .1) in
-      ⊎-elim (λ r. ⊎-elim (λ h. refused (tooShort f r h) (omega arith) (omega arith)) (λ h. inl (written-due f r h, f, r, h)) (below-or (length out) (length text)))
-      (λ b. refused (wrongCut _ f b) (omega arith) (omega arith)) (judged m cuts))
-      (λ a. let g = given-range (a .given) in refused (turnedAway _ _ (a .given)) (g .0) (omega arith)) (check-finds m)
-    where
-      refused : {n p : ℕ} → Due m cuts (length text) (length out) n p → 1 ≤ n → n ≤ 12 → Ends m cuts text count out
-      refused d lo hi = inr (_, _, refused-due _ _ d, d, lo, hi)
+  pub check-ways : (Accepted : Type 0) → (Accepted ↔ (NoneFits m × Rising m cuts)) → Ways Accepted (Due m cuts (length text) (length out)) text count out dueAfter
+  check-ways Accepted same = record {
+    written = λ a. written-due (same .0 a .0) (same .0 a .1);
+    refused = refused-due;
+    ends = ⊎-elim
+        (λ a. let f = passes-none m (a .1) in
+        ⊎-elim (λ r. ⊎-elim (λ h. inr (_, _, tooShort f r h, omega arith, omega arith)) (λ h. inl (same .1 (f, r), h)) (below-or (length out) (length text)))
+        (λ b. inr (_, _, wrongCut _ f b, omega arith, omega arith)) (judged m cuts))
+        (λ a. let g = given-range (a .given) in inr (_, _, turnedAway _ _ (a .given), g .0, omega arith)) (check-finds m);
+  }
 
-  -- An operation that promises what is due.
-  module _ (out′ : List ℕ) (r : Answer) (kept : Promise (dueAfter m cuts text count out) text out out′ r) where
-    -- carries it out where that is its text
-    carried : dueAfter m cuts text count out ≡ Written (length text) count → CarriedOut text count out out′ r
-    unfolding outputAfter numberOf placeOf lengthOf liveOf
-    carried e = let p = rw e at kept in record { output = p .output; number = p .number; place = p .place; length = p .length; live = p .live }
+-- the naming operation and the transcriber have no cuts
+without-cuts : (m text out : List ℕ) → Ways (NoneFits m) (Due m [] (length text) (length out)) text 0 out (dueAfter m [] text 0 out)
+without-cuts m text out = check-ways m [] text 0 out (NoneFits m) (λ f. (f, tt), λ a. a .0)
 
-    -- is settled
-    settled : Settled (Due m cuts (length text) (length out)) text count out out′ r
-    unfolding outputAfter numberOf placeOf lengthOf liveOf
-    settled = ⊎-elim
-        (λ w. let c = carried (w .0) in record { ended = inl c; size = ap length (c .output) ∙ simp (length-append, length-drop) (omega (arith, w .3)) })
-        (λ d.
-        let p = rw (d .2) at kept in
-        record {
-          ended = inr (record {
-            output = p .output;
-            number = (omega (arith, p .number, d .4), omega (arith, p .number, d .5));
-            place = rw (p .number, p .place) (d .3);
-            length = p .length;
-            live = p .live;
-          });
-          size = ap length (p .output);
-        }) ends
-
-    -- and exact
-    exactly : (Accepted : Type 0) → (Accepted ↔ (NoneFits m × Rising m cuts)) → Exactly Accepted (Due m cuts (length text) (length out)) text count out out′ r
-    unfolding numberOf placeOf
-    exactly Accepted same = record {
-      accepts = λ h. (
-        λ z. same .1 (⊎-elim (λ w. (w .1, w .2)) (λ d. absurd (omega (arith, z, kept .number ∙ ap numberOf (d .2), d .4))) ends),
-        λ a. carried (written-due (same .0 a .0) (same .0 a .1) h) .number,
-      );
-      gives = λ h a. carried (written-due (same .0 a .0) (same .0 a .1) h);
-      refuses = λ n p h. (
-        λ q. ⊎-elim (λ w. absurd (omega (arith, q .0, kept .number ∙ ap numberOf (w .0)))) (λ d. rw (← q .0, ← q .1, kept .number, kept .place, d .2) (d .3)) ends,
-        λ d. let e = refused-due n p d in (kept .number ∙ ap numberOf e, kept .place ∙ ap placeOf e),
-      );
-    }
+-- the joiner has
+with-cuts : (m cuts out : List ℕ)
+    → Ways (NoneFits m × Rising m cuts) (Due m cuts (length (joined m cuts)) (length out)) (joined m cuts) (liveCount m cuts) out (dueAfter m cuts (joined m cuts) (liveCount m cuts) out)
+with-cuts m cuts out = check-ways m cuts (joined m cuts) (liveCount m cuts) out (NoneFits m × Rising m cuts) (λ a. a, λ a. a)
 
 -- Demand 1.
 pub demand1 : (m : List ℕ) → Demand1 m
@@ -90,9 +101,9 @@ unfolding nameAnswer tapeAnswer joinAnswer badCut badCutFrom checkedNumber check
 demand1 m = record {
   check = λ r kept. ⊎-elim (λ f. inl (rw (kept .answer, f .0)))
       (λ f. inr (rw (kept .answer, f .refused) (record { number = given-range (f .given); place = f .given; codes = refl; names = refl }))) (check-finds m);
-  naming = settled m [] (names m) 0;
-  transcriber = settled m [] (tape m) 0;
-  joiner = λ cuts. settled m cuts (joined m cuts) (liveCount m cuts);
+  naming = λ out out′ r k. settled (without-cuts m (names m) out) k;
+  transcriber = λ out out′ r k. settled (without-cuts m (tape m) out) k;
+  joiner = λ cuts out out′ r k. settled (with-cuts m cuts out) k;
 }
 
 -- Demand 2.
@@ -108,9 +119,9 @@ demand2 m = record {
     λ g. let e = given-refused m n p g in (kept .number ∙ ap checkedNumber e, kept .place ∙ ap checkedPlace e),
   );
   counts = λ r kept f. let e = none-accepted m f in (kept .codes ∙ ap checkedCodes e, kept .names ∙ ap checkedNames e);
-  transcriber = λ out out′ r k. exactly m [] (tape m) 0 out out′ r k (NoneFits m) (λ f. (f, tt), λ a. a .0);
-  naming = λ out out′ r k. exactly m [] (names m) 0 out out′ r k (NoneFits m) (λ f. (f, tt), λ a. a .0);
-  joiner = λ cuts out out′ r k. exactly m cuts (joined m cuts) (liveCount m cuts) out out′ r k (NoneFits m × Rising m cuts) (λ a. a, λ a. a);
+  transcriber = λ out out′ r k. exactly (without-cuts m (tape m) out) k;
+  naming = λ out out′ r k. exactly (without-cuts m (names m) out) k;
+  joiner = λ cuts out out′ r k. exactly (with-cuts m cuts out) k;
 }
 
 -- Demand 3.
@@ -125,4 +136,48 @@ demand3 m f = record {
       let e = two-tapes m f cuts s .equal in
       let n = counts-none m cuts in
       record { written = w; equal = (λ q. w .live ∙ n .1 (e .0 q), λ q. e .1 (n .0 (sym (w .live) ∙ q))) };
+}
+
+-- The editor ends in these ways.
+edit-ways : (t out : List ℕ) → Ways (Unit {0}) (EditDue t (length out)) (edited t) 0 out (editAnswer t (length out))
+unfolding editAnswer within
+edit-ways t out = record {
+  written = λ a h. rw (le-leb (length (edited t)) (length out) h);
+  refused = λ n p d. rw (d .0, d .1, lt-leb (length (edited t)) (length out) (d .2));
+  ends = ⊎-elim (λ h. inr (_, _, (refl, refl, h), omega arith, omega arith)) (λ h. inl (tt, h)) (below-or (length out) (length (edited t)));
+}
+
+-- what it has written where it answers no number
+edit-handed : (t out out′ : List ℕ) (r : Answer) → EditPromise t out out′ r → numberOf r ≡ 0 → take (lengthOf r) out′ ≡ edited t
+unfolding numberOf
+edit-handed t out out′ r k z = ⊎-elim
+    (λ h. absurd (omega (arith, z, k .number ∙ ap numberOf (edit-ways t out .refused _ _ (refl, refl, h)))))
+    (λ h. let c = carried (edit-ways t out) k tt h in rw (c .length, c .output) (take-at (edited t) (drop (length (edited t)) out) (length (edited t)) refl))
+    (below-or (length out) (length (edited t)))
+
+-- numbers 1 and 2 go by the length alone
+empty-exactly : (m : List ℕ) → Given m 1 0 ↔ (m ≡ [])
+unfolding fits
+empty-exactly [] = (λ g. refl, λ e. empty-given [] refl)
+empty-exactly (b ∷ m) = (λ g. absurd (false≢true (rw (ne-eqb (length (b ∷ m)) 0 (omega arith)) at (g .holds))), λ e. absurd (omega (arith, ap length e)))
+
+long-exactly : (m : List ℕ) → Given m 2 0 ↔ (4096 < length m)
+unfolding fits
+long-exactly m = (λ g. ⊎-elim (λ h. h) (λ h. absurd (false≢true (rw (le-leb (length m) 4096 h) at (g .holds)))) (below-or 4096 (length m)), long-given m)
+
+-- The demands for a text, through its edited form.
+pub edited-demands : (t : List ℕ) → EditedDemands t
+edited-demands t = record {
+  settled = λ out out′ r k. settled (edit-ways t out) k;
+  exact = λ out out′ r k. exactly (edit-ways t out) k;
+  handed = edit-handed t;
+  size = edited-size t;
+  twice = edited-twice t;
+  own = accepted-own t;
+  breaks = edited-never-four t;
+  empty = (λ g. only-breaks t .0 (empty-exactly (edited t) .0 g), λ o. empty-exactly (edited t) .1 (only-breaks t .1 o));
+  long = long-exactly (edited t);
+  demand1 = demand1 (edited t);
+  demand2 = demand2 (edited t);
+  demand3 = demand3 (edited t);
 }

@@ -16,4 +16,6 @@ pub mod Demands
 pub mod Beside
 pub mod MarkIndex
 pub mod Heard
+pub mod Edited
+pub mod Putting
 pub mod Kit

@@ -2,7 +2,7 @@
 use Rattle.laws.proofs.Kit.{ℕ, zero, suc, _+_, _-_, _<_, _≤_, _≡_, refl, sym, _∙_, Bool, true, false, _||_, or-true, true≢false, List, [], _∷_, _++_, append-nil, _⊎_, inl, inr, ⊎-elim, arith, length, take, drop, getD, length-take, length-drop, take-all, take-append-drop, drop-cons, drop-drop, drop-length, getD-take, getD-drop}
 use Rattle.spec.specs.Refusals.{vowelByte, signByte, hardSignByte, first, none, adjacent, vowelSign, lettersBefore, row3, row4, row5, row6, row7, row8, row9, row10, rows, fitsIn, beforeAt, checkOf, NoneFits}
 use Rattle.spec.specs.{Letters.isBreak, Letters.isMark, Joints.RisingFrom, Joints.EachPartFrom, declared.Counts.Counts, declared.Checked.the-variants.Accepted}
-use Rattle.laws.proofs.Accepted.{countsOf, Clear, Passes, ClearFrom, places-clear, clear-places, accepted-passes, passes-accepted, passes-none}
+use Rattle.laws.proofs.Accepted.{countsOf, Clear, Passes, ClearFrom, places-clear, each-place, accepted-passes, passes-accepted, passes-none}
 use Rattle.laws.proofs.Classes.{cond-app, either, refuted, NoBreak, break-mark, break-vowel, break-sign, break-hard-sign, or-false}
 use Rattle.laws.proofs.{Cuts.break-within, Parts.part, Parts.Begins}
 
@@ -128,7 +128,7 @@ module _ (m : List ℕ) (p : Passes m) where
       record {
         some = omega arith;
         short = omega (arith, p .short);
-        rows = λ i k. clear-places (part m a e) (part m a e) 0 refl
+        rows = λ i k. each-place (part m a e) Clear (part m a e) 0 refl
             (part-clear [] (beforeAt m a) (part m a e) (drop e m) (begins-opens m a b) o (places-clear m (p .rows) _ a t)) i (omega arith) k;
       }
 

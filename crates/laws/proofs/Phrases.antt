@@ -5,7 +5,7 @@ use Rattle.spec.specs.Tape.{tape, wordNames, namesOf, names}
 use Rattle.spec.specs.Refusals.{letterByte, first, none, row3, row4, row5, row6, row7, row8, row9, row10, rows, fitsIn, beforeAt, NoneFits}
 use Rattle.spec.specs.Alphabet.{pause}
 use Rattle.spec.proofs.Computed.{everything}
-use Rattle.laws.proofs.Accepted.{Clear, ClearFrom, places-clear, clear-places, Passes, passes-none, none-passes}
+use Rattle.laws.proofs.Accepted.{Clear, ClearFrom, places-clear, each-place, Passes, passes-none, none-passes}
 use Rattle.laws.proofs.Classes.{cond-same, break-mark, break-vowel, break-sign, break-consonant}
 use Rattle.laws.proofs.PartsAccepted.{Opens, rows-over, rows-after, clear-followed, last-firm}
 use Rattle.laws.proofs.Stretch.{meet, read-join, segment-join}
@@ -56,7 +56,7 @@ module _ (x : ℕ) (b : List ℕ) (q : Passes b) (d : isBreak x ≡ true) where
   passes-join (c ∷ a) p s = record {
     some = omega arith;
     short = s;
-    rows = λ i h. clear-places ((c ∷ a) ++ (x ∷ b)) _ 0 refl (clear-join [] c a (places-clear (c ∷ a) (p .rows) _ 0 refl)) i (omega arith) h;
+    rows = λ i h. each-place ((c ∷ a) ++ (x ∷ b)) Clear _ 0 refl (clear-join [] c a (places-clear (c ∷ a) (p .rows) _ 0 refl)) i (omega arith) h;
   }
 
 -- Accepted messages with a break between them, short enough, are an accepted message.

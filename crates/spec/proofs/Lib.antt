@@ -1,4 +1,5 @@
 pub mod Computed
+pub mod EditingExamples
 pub mod NameExamples
 pub mod PrintedExamples
 pub mod RefusalExamples

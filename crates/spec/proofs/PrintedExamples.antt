@@ -5,7 +5,8 @@ use Prim.Native.String.{String}
 use mathlib.Core.Path.{_≡_, refl}
 use mathlib.Core.List.{List, [], _∷_, map}
 use Rattle.spec.specs.Alphabet.{gap, mark, «а», «б», «д», «р», «у»}
-use Rattle.spec.specs.Printed.{ascii, lastDigits, decimal, printedCodes, printedAnswer, printed}
+use Rattle.spec.specs.Tables.{ascii}
+use Rattle.spec.specs.Printed.{lastDigits, decimal, printedCodes, printedAnswer, printed}
 use Rattle.spec.proofs.Computed.{everything}
 
 pub record Example : Type 0 where

@@ -11,5 +11,6 @@ pub mod Tape
 pub mod Refusals
 pub mod Joints
 pub mod Answers
+pub mod Editing
 pub mod Demands
 pub mod Printed

@@ -1,20 +1,14 @@
 -- Paper 01, 'Joints', the program: the text that it prints for a message, in ASCII.
 -- Assumes nothing: these are definitions.
 use Prim.Native.Nat.{ℕ, zero, suc, _+_, _/_, _%_}
-use Prim.Native.Char.{code}
-use Prim.Native.String as text
 use mathlib.Core.Bool.{cond}
 use mathlib.Core.List.{List, [], _∷_, _++_}
 use lib.Dec.{leb}
+use Rattle.spec.specs.Tables.{ascii}
 use Rattle.spec.specs.Tape.{tape}
 use Rattle.spec.specs.Answers.{tapeAnswer}
 use Rattle.spec.specs.declared.Answer.{Answer}
 use Rattle.spec.specs.declared.Answer.the-variants.{Written, Refused}
-
--- the bytes of a quoted text
-unfoldable pub ascii : text.String → List ℕ
-ascii text.[] = []
-ascii (text._∷_ c s) = code c ∷ ascii s
 
 -- the last k digits of a number, or all where it has no more, most significant first
 unfoldable pub lastDigits : ℕ → ℕ → List ℕ

@@ -1,6 +1,8 @@
--- What the tables of paper 01 are written with: a class is a list of bytes, and a table a list of entries.
+-- What the tables of the papers are written with: a class is a list of bytes, a table a list of entries, and bytes of ASCII may be quoted.
 -- Assumes nothing: these are definitions.
 use Prim.Native.Nat.{ℕ}
+use Prim.Native.Char.{code}
+use Prim.Native.String as text
 use mathlib.Core.Bool.{Bool, false, cond, _||_}
 use mathlib.Core.List.{List, [], _∷_}
 use lib.Dec.{eqb}
@@ -19,3 +21,8 @@ pub data Entry : Type 0 where
 unfoldable pub entry : List Entry → ℕ → ℕ
 entry [] b = 0
 entry ((x gives c) ∷ es) b = cond (eqb b x) c (entry es b)
+
+-- the bytes of a quoted text
+unfoldable pub ascii : text.String → List ℕ
+ascii text.[] = []
+ascii (text._∷_ c s) = code c ∷ ascii s

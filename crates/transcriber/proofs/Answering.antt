@@ -1,8 +1,8 @@
 -- What an operation answers after the check, and what it leaves in the lent output, in its three cases: refused, too little room, written.
-use Rattle.laws.proofs.Kit.{ℕ, _<_, _≤_, _≡_, refl, List, _++_, length, drop, le-leb, lt-leb}
+use Rattle.laws.proofs.Kit.{ℕ, _<_, _≤_, _≡_, refl, List, _++_, length, drop}
 use Rattle.spec.specs.Answers.{within, afterCheck, outputAfter, Promise}
 use Rattle.spec.specs.{Refusals.refusal, declared.Refusal.Refusal, declared.Counts.Counts, declared.Checked.Checked, declared.Answer.Answer, declared.Answer.the-variants.Written, declared.Answer.the-variants.Refused}
-use Rattle.laws.proofs.Promises.{promised}
+use Rattle.laws.proofs.Promises.{promised, promised-short, promised-written}
 use Rattle.spec.specs.declared.Checked.the-variants as checked
 
 -- a message that the check refuses leaves the output as it is
@@ -13,10 +13,10 @@ answered-refused a b e = rw e (promised _ _ _ _ _ refl refl)
 module _ {c : Checked} {counts : Counts} (e : c ≡ checked.Accepted counts) {n k : ℕ} (same : k ≡ n) {text out : List ℕ} where
   -- so does one whose answer has no room
   pub answered-short : length out < k → Promise (afterCheck c (within (length out) n 0)) text out out (Refused (refusal 11 k))
-  unfolding afterCheck within outputAfter
-  answered-short h = rw (e, ← same, lt-leb k (length out) h) (promised _ _ _ _ _ refl refl)
+  unfolding afterCheck
+  answered-short h = rw e (promised-short same 0 h)
 
   -- and one whose answer has room has it written before the rest of the output
   pub answered-written : {out′ : List ℕ} → k ≤ length out → out′ ≡ text ++ drop k out → Promise (afterCheck c (within (length out) n 0)) text out out′ (Written k 0)
-  unfolding afterCheck within outputAfter
-  answered-written h w = rw (e, ← same, le-leb k (length out) h) (promised _ _ _ _ _ refl w)
+  unfolding afterCheck
+  answered-written h w = rw e (promised-written same 0 h w)

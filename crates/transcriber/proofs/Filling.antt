@@ -1,8 +1,8 @@
 -- The walks that write from the end: what a byte puts stands before what the bytes after it have put.
 use Rattle.laws.proofs.Kit.{ℕ, suc, _-_, _<_, _≤_, arith, _≡_, ap, _∙_, List, _++_, length, length-append}
 use Rattle.message.specs.Places.{Steady}
-use Rattle.transcriber.specs.Walk.{Put, MayStep, DidStep}
-use Rattle.transcriber.proofs.Putting.{put-over, put-length}
+use Rattle.transcriber.specs.Walk.{MayStep, DidStep}
+use Rattle.laws.proofs.Putting.{Put, put-over, put-length}
 
 -- from place i on the bytes of m put `rest i`, of which the byte there puts a piece
 pub record Pieces (m : List ℕ) (rest piece : ℕ → List ℕ) (all : ℕ) : Type 0 where

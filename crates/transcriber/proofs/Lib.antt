@@ -2,7 +2,6 @@ pub mod Answering
 pub mod Filling
 pub mod Levelling
 pub mod Namings
-pub mod Putting
 pub mod Raw
 pub mod SoundTable
 pub mod Walking

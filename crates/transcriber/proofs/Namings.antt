@@ -4,10 +4,11 @@ use Rattle.spec.specs.{Letters.between, Letters.isBreak, Letters.isMark, Refusa
 use Rattle.message.specs.{Classes.classOf, Classes.isBreakClass, Classes.isVowelClass, Places.Steady, Places.leftAt, Places.markBefore, Places.namesAt}
 use Rattle.message.proofs.Tail.{names-end, names-vowel, names-other, names-break}
 use Rattle.message.proofs.{Bytes.by-class, Bytes.vowel-break, Computed.everything, Left.mark-within, Lengths.names-from}
-use Rattle.transcriber.specs.Walk.{Put, namePiece, NameReady, Named, NamesDue, WordEnd}
+use Rattle.laws.proofs.Putting.{Put, put-none, put-length, put-again}
+use Rattle.transcriber.specs.Walk.{namePiece, NameReady, Named, NamesDue, WordEnd}
 use Rattle.transcriber.specs.{declared.NameState.NameState, Levels.farLevel, Levels.levelBefore, Levels.LevelsAt, Sounds.classBefore, Sounds.syllableBy}
 use Rattle.transcriber.proofs.Levelling.{levels-syllable, levels-vowel, levels-letter, levels-mark, levels-break, levels-end}
-use Rattle.transcriber.proofs.{Filling.Writing, Putting.put-none, Putting.put-length, Putting.put-again, Raw.where-same}
+use Rattle.transcriber.proofs.{Filling.Writing, Raw.where-same}
 
 -- a letter that is no vowel is no break and no mark
 plain : (b : ℕ) → b < 256 → between 4 9 (classOf b) ≡ true → (isBreak b ∷ isMark b ∷ vowelByte b ∷ []) ≡ (false ∷ false ∷ false ∷ [])

@@ -11,6 +11,7 @@ use Rattle.spec.specs.Syllables.{incomplete, nameOf, syllableOf}
 use Rattle.spec.specs.Vowels.{vowelSound, glides, softens}
 use Rattle.spec.specs.Tape.{tape, names}
 use Rattle.spec.specs.Refusals.{vowelByte}
+use Rattle.laws.proofs.Putting.{Put}
 use Rattle.message.specs.Places.{Steady, leftAt, letterOf, wordAt, toneAt, soundAt, factsAt, codesAt}
 use Rattle.message.specs.Classes.{classes, classOf, isVowelClass}
 use Rattle.spec.specs.declared.Level.{Level}
@@ -36,11 +37,6 @@ pub record ClassAt (m : List ℕ) (i c : ℕ) : Type 0 where
 pub record Stands (m : List ℕ) (i : ℕ) (r : Right) : Type 0 where
   pub sound : Tells (r .sound) (softens (firstByte (wordAt m i))) (toneAt m i) (soundAt m i)
   pub levels : LevelsAt m i (r .near) (r .far)
-
--- these codes were put right before place at, and the rest of the output is as it was
-pub record Put (codes out out′ : List ℕ) (at r : ℕ) : Type 0 where
-  pub place : r + length codes ≡ at
-  pub bytes : out′ ≡ take r out ++ (codes ++ drop at out)
 
 -- a vowel of class c may be sung at place i: n is the level of its syllable
 pub record VowelAt (m : List ℕ) (i c : ℕ) (n : Level) : Type 0 where

@@ -6,7 +6,8 @@ ghost use Rattle.message.specs.Classes.{classes, isBreakClass, isConsonantClass
 ghost use Rattle.spec.specs.Tape.{tape};
 ghost use Rattle.spec.specs.Answers.{TranscribePromise};
 ghost use Rattle.transcriber.specs.Sounds.{soundTable};
-ghost use Rattle.transcriber.specs.Walk.{Put, sungCodes, Lent, ClassAt, Ready, ReadyFor, Stepped, MayWrite};
+ghost use Rattle.laws.proofs.Putting.{Put};
+ghost use Rattle.transcriber.specs.Walk.{sungCodes, Lent, ClassAt, Ready, ReadyFor, Stepped, MayWrite};
 use crate::Right;
 use crate::Vowel;
 use crate::answers::refused;

@@ -1,6 +1,6 @@
 -- The newline is put after the answer, for which the text has a byte more than an answer takes.
 use Rattle.laws.proofs.Kit.{_≤_, arith, sym, length, length-take-le, needs}
-use Rattle.spec.specs.Printed.{ascii, printed}
+use Rattle.spec.specs.{Tables.ascii, Printed.printed}
 use Rattle.govorun.proofs.Texts.{put-over}
 use Rattle.govorun.proofs.text.print_message.Statement.{statement}
 use Rattle.govorun.proofs.text.print_message.Tie as tie

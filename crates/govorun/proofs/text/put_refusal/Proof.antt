@@ -1,6 +1,6 @@
 -- Each piece is put after those before it, and there is room for all.
 use Rattle.laws.proofs.Kit.{arith, [], needs}
-use Rattle.spec.specs.Printed.{ascii, printedAnswer}
+use Rattle.spec.specs.{Tables.ascii, Printed.printedAnswer}
 use Rattle.govorun.proofs.Texts.{put-over, refusal-length}
 use Rattle.govorun.proofs.text.put_refusal.Statement.{statement}
 use Rattle.govorun.proofs.text.put_refusal.Tie as tie

@@ -1,10 +1,11 @@
 -- The invariant says that the names from the place on are in the output; each turn puts those of one byte before them. The measure is the place.
 use Rattle.laws.proofs.Kit.{_≡_, _∙_, arith, needs}
+use Rattle.laws.proofs.Putting.{put-length, put-rest, put-first}
 use Rattle.message.specs.Places.{namesAt}
 use Rattle.message.proofs.Tail.{names-start}
 use Rattle.transcriber.specs.{Levels.LevelsAt, Walk.namePiece}
 use Rattle.transcriber.proofs.Filling.{Writing, writing-length, writing-ready, writing-more}
-use Rattle.transcriber.proofs.{Putting.put-length, Putting.put-rest, Putting.put-first, Namings.end-ends, Namings.naming-none}
+use Rattle.transcriber.proofs.{Namings.end-ends, Namings.naming-none}
 use Rattle.transcriber.proofs.naming.fill_names.Statement.{statement}
 use Rattle.transcriber.proofs.naming.fill_names.Tie as tie
 

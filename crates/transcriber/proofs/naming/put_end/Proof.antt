@@ -2,7 +2,8 @@
 use Rattle.laws.proofs.Kit.{_≡_, ap, cond, [], _∷_, arith, length, needs}
 use Rattle.spec.specs.Syllables.{incomplete}
 use Rattle.message.specs.Places.{leftAt}
-use Rattle.transcriber.proofs.{Putting.put-none, Raw.incomplete-raw}
+use Rattle.laws.proofs.Putting.{put-none}
+use Rattle.transcriber.proofs.Raw.{incomplete-raw}
 use Rattle.transcriber.proofs.naming.put_end.Statement.{statement}
 use Rattle.transcriber.proofs.naming.put_end.Tie as tie
 

@@ -1,9 +1,9 @@
 -- The check's refusal is answered, then a lent output that is too short; an accepted message is steady and has as many codes as the check counted, so its tape is written.
 use Rattle.laws.proofs.Kit.{_≡_, sym, _∙_, arith, length, needs}
 use Rattle.spec.specs.{Tape.tape, Refusals.checkOf, Answers.tapeAnswer, declared.Checked.the-variants.Accepted}
-use Rattle.laws.proofs.Accepted.{accepted-counts}
+use Rattle.laws.proofs.{Accepted.accepted-counts, Putting.put-first}
 use Rattle.message.proofs.Steadiness.{accepted-steady}
-use Rattle.transcriber.proofs.{Putting.put-first, Answering.answered-refused, Answering.answered-short, Answering.answered-written}
+use Rattle.transcriber.proofs.Answering.{answered-refused, answered-short, answered-written}
 use Rattle.transcriber.proofs.tape.transcribe.Statement.{statement}
 use Rattle.transcriber.proofs.tape.transcribe.Tie as tie
 

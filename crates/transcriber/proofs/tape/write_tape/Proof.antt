@@ -1,11 +1,12 @@
 -- The walk so far is carried by one record, to which each step adds the piece of its byte; over the whole message it puts the tape. The measure is the place.
 use Rattle.laws.proofs.Kit.{_≡_, arith, length, needs}
 use Rattle.spec.specs.Tape.{tape}
+use Rattle.laws.proofs.Putting.{put-none}
 use Rattle.message.specs.Places.{tapeAt}
 use Rattle.message.proofs.{Lengths.codes-from, Tail.tape-start, Tail.tape-end}
 use Rattle.transcriber.specs.Walk.{Stands, pieceAt}
 use Rattle.transcriber.proofs.Filling.{Writing, writing-length, writing-ready, writing-more}
-use Rattle.transcriber.proofs.{Putting.put-none, Walking.piece-step, Walking.stands-end}
+use Rattle.transcriber.proofs.Walking.{piece-step, stands-end}
 use Rattle.transcriber.proofs.tape.write_tape.Statement.{statement}
 use Rattle.transcriber.proofs.tape.write_tape.Tie as tie
 
