@@ -1,14 +1,15 @@
-// The editor (paper 02, slip 1): from the first byte of the text that is no break, word by word. The breaks behind a word are read before one is put, so that a run is one and none is left at the end.
+// The editor (paper 02, slip 1). The breaks at the ends are taken off and the last word is found first. So each word before it ends at a break and each run of breaks at a word, and the loops over them ask for no end.
 ghost use mathlib.Core.Path.{_≡_};
 ghost use mathlib.Core.List.{_∷_};
-ghost use Prim.Native.Nat.{_≤_};
-ghost use lib.ListN.{length, take};
+ghost use Prim.Native.Nat.{_+_, _<_, _≤_};
+ghost use lib.ListN.{length, take, drop};
 ghost use Rattle.spec.specs.Alphabet.{gap, pause};
 ghost use Rattle.spec.specs.Tables.{among};
-ghost use Rattle.spec.specs.Editing.{pauseMarks, gapMarks, replaced, oneBreak, EditPromise};
+ghost use Rattle.spec.specs.Answers.{within, Promise};
+ghost use Rattle.spec.specs.Editing.{pauseMarks, gapMarks, EditPromise};
 ghost use Rattle.laws.proofs.Edited.{breaks, leading, editFrom};
 ghost use Rattle.laws.proofs.Putting.{Put};
-ghost use Rattle.editor.specs.Walk.{others, piece, ReadsRun, Goes};
+ghost use Rattle.editor.specs.Walk.{others, Last, LastWord, EndsInWord, ReadsRun, reads, piece, Goes};
 use spec::Answer;
 use spec::Refusal;
 
@@ -16,9 +17,9 @@ const GAP: u8 = 0x20;
 
 const PAUSE: u8 = 0x23;
 
-// A run of breaks: how many bytes it has, and the break that it becomes.
+// A run of breaks: where it ends, and the break that it becomes.
 pub struct Run {
-    pub length: usize,
+    pub end: usize,
     pub becomes: u8,
 }
 
@@ -49,8 +50,37 @@ fn is_break(b: u8) -> bool
     is_pause(b) | is_gap(b)
 }
 
+// Where the breaks begin that the text ends with.
+fn last_breaks(text: &[u8]) -> usize
+    ensures { λ r. ⌜ Last breaks (now (text .entry)) r ⌝ }
+{
+    let mut i = text.len();
+    while 0 < i {
+        if is_break(text[i - 1]) {
+            i -= 1;
+        } else {
+            return i;
+        }
+    }
+    i
+}
+
+// Where the word begins that the text ends with.
+fn last_word(text: &[u8]) -> usize
+    ensures { λ r. ⌜ Last others (now (text .entry)) r ⌝ }
+{
+    let mut i = text.len();
+    while 0 < i {
+        if is_break(text[i - 1]) {
+            return i;
+        }
+        i -= 1;
+    }
+    i
+}
+
 // How many breaks the text begins with.
-fn count_breaks(text: &[u8]) -> usize
+fn first_breaks(text: &[u8]) -> usize
     ensures { λ r. ⌜ r ≡ leading breaks (now (text .entry)) ⌝ }
 {
     let mut k = 0;
@@ -64,56 +94,28 @@ fn count_breaks(text: &[u8]) -> usize
     k
 }
 
-// How many bytes that are none.
-fn count_others(text: &[u8]) -> usize
+// How many bytes the first word has. A break follows it, so no end is asked for.
+fn count_word(text: &[u8]) -> usize
+    requires { ⌜ leading others (now text) < length (now text) ⌝ }
     ensures { λ r. ⌜ r ≡ leading others (now (text .entry)) ⌝ }
 {
     let mut k = 0;
-    while k < text.len() {
+    loop {
         if is_break(text[k]) {
             return k;
         }
         k += 1;
     }
-    k
 }
 
-// What a break a and the byte b after it, a break too, become.
-fn one_break(a: u8, b: u8) -> u8
-    ensures { λ r. ⌜ r ≡ oneBreak a (replaced b) ⌝ }
-{
-    if (a == PAUSE) | is_pause(b) {
-        return PAUSE;
-    }
-    GAP
-}
-
-// The breaks that the text begins with, as one.
-fn read_run(text: &[u8]) -> Run
-    ensures { λ r. ⌜ ReadsRun (now (text .entry)) r ⌝ }
-{
-    let mut becomes = GAP;
-    let mut k = 0;
-    while k < text.len() {
-        let b = text[k];
-        if is_break(b) {
-            becomes = one_break(becomes, b);
-            k += 1;
-        } else {
-            return Run { length: k, becomes };
-        }
-    }
-    Run { length: k, becomes }
-}
-
-// Copies the bytes that the text begins with and that are no breaks.
+// The same, and copies them.
 fn copy_word(text: &[u8], out: &mut [u8]) -> usize
-    requires { ⌜ leading others (now text) ≤ length (now out) ⌝ }
+    requires { ⌜ (leading others (now text) < length (now text)) × (leading others (now text) ≤ length (now out)) ⌝ }
     ensures { λ r. ⌜ r ≡ leading others (now (text .entry)) ⌝ }
     ensures { λ r. ⌜ Put (take r (now (text .entry))) (now (out .entry)) (now (out .exit)) r 0 ⌝ }
 {
     let mut k = 0;
-    while k < text.len() {
+    loop {
         let b = text[k];
         if is_break(b) {
             return k;
@@ -121,78 +123,106 @@ fn copy_word(text: &[u8], out: &mut [u8]) -> usize
         out[k] = b;
         k += 1;
     }
-    k
+}
+
+// The run of breaks from place k on, a pause if one of them is a pause. Another word follows it.
+fn read_run(text: &[u8], k: usize) -> Run
+    requires { ⌜ k + leading breaks (drop k (now text)) < length (now text) ⌝ }
+    ensures { λ r. ⌜ ReadsRun (now (text .entry)) k r ⌝ }
+{
+    let mut becomes = GAP;
+    let mut end = k;
+    loop {
+        let b = text[end];
+        if is_pause(b) {
+            becomes = PAUSE;
+            end += 1;
+        } else if is_gap(b) {
+            end += 1;
+        } else {
+            return Run { end, becomes };
+        }
+    }
 }
 
 // Over a word and the breaks behind it, when nothing is written.
 fn pass_word(text: &[u8]) -> Stride
+    requires { ⌜ reads (now text) < length (now text) ⌝ }
     ensures { λ r. ⌜ Goes (now (text .entry)) r ⌝ }
 {
-    let word = count_others(text);
-    let read = word + count_breaks(&text[word..]);
-    if read < text.len() {
-        return Stride {
-            read,
-            put: word + 1,
-        };
+    let word = count_word(text);
+    let run = read_run(text, word);
+    Stride {
+        read: run.end,
+        put: word + 1,
     }
-    Stride { read, put: word }
 }
 
-// The same when it is written: a break is put where another word follows.
+// The same when it is written.
 fn write_word(text: &[u8], out: &mut [u8]) -> Stride
-    requires { ⌜ length (piece (now text)) ≤ length (now out) ⌝ }
+    requires { ⌜ (reads (now text) < length (now text)) × (leading others (now text) < length (now out)) ⌝ }
     ensures { λ r. ⌜ Goes (now (text .entry)) r × Put (piece (now (text .entry))) (now (out .entry)) (now (out .exit)) (r .put) 0 ⌝ }
 {
     let word = copy_word(text, out);
-    let run = read_run(&text[word..]);
-    let read = word + run.length;
-    if read < text.len() {
-        out[word] = run.becomes;
-        return Stride {
-            read,
-            put: word + 1,
-        };
+    let run = read_run(text, word);
+    out[word] = run.becomes;
+    Stride {
+        read: run.end,
+        put: word + 1,
     }
-    Stride { read, put: word }
 }
 
-// How long the text is when it is edited from a word on.
-fn measure(text: &[u8]) -> usize
+// Copies a text as it is.
+fn copy_all(text: &[u8], out: &mut [u8])
+    requires { ⌜ length (now text) ≤ length (now out) ⌝ }
+    ensures { λ _. ⌜ Put (now (text .entry)) (now (out .entry)) (now (out .exit)) (length (now (text .entry))) 0 ⌝ }
+{
+    let mut k = 0;
+    while k < text.len() {
+        out[k] = text[k];
+        k += 1;
+    }
+}
+
+// How long a text without breaks at its ends is when it is edited. Its last word begins at place last.
+fn measure(text: &[u8], last: usize) -> usize
+    requires { ⌜ LastWord (now text) last ⌝ }
     ensures { λ r. ⌜ r ≡ length (editFrom 0 (now (text .entry))) ⌝ }
 {
     let mut i = 0;
     let mut at = 0;
-    while i < text.len() {
+    while i < last {
         let stride = pass_word(&text[i..]);
         i += stride.read;
         at += stride.put;
     }
-    at
+    at + (text.len() - i)
 }
 
 // Writes it, where there is room for it.
-fn write_edited(text: &[u8], out: &mut [u8]) -> usize
-    requires { ⌜ length (editFrom 0 (now text)) ≤ length (now out) ⌝ }
+fn write_edited(text: &[u8], last: usize, out: &mut [u8]) -> usize
+    requires { ⌜ LastWord (now text) last × (length (editFrom 0 (now text)) ≤ length (now out)) ⌝ }
     ensures { λ r. ⌜ Put (editFrom 0 (now (text .entry))) (now (out .entry)) (now (out .exit)) r 0 ⌝ }
 {
     let mut i = 0;
     let mut at = 0;
-    while i < text.len() {
+    while i < last {
         let stride = write_word(&text[i..], &mut out[at..]);
         i += stride.read;
         at += stride.put;
     }
-    at
+    copy_all(&text[i..], &mut out[at..]);
+    at + (text.len() - i)
 }
 
-// The editor: writes the edited text at the start of the lent output, or refuses and leaves every byte. Only an output that is shorter than the text can be too short.
-pub fn edit(text: &[u8], out: &mut [u8]) -> Answer
-    ensures { λ r. ⌜ EditPromise (now (text .entry)) (now (out .entry)) (now (out .exit)) r ⌝ }
+// Edits a text without breaks at its ends. Only an output that is shorter than it can be too short.
+fn edit_between(text: &[u8], out: &mut [u8]) -> Answer
+    requires { ⌜ EndsInWord (now text) ⌝ }
+    ensures { λ r. ⌜ Promise (within (length (now (out .entry))) (length (editFrom 0 (now (text .entry)))) 0) (editFrom 0 (now (text .entry))) (now (out .entry)) (now (out .exit)) r ⌝ }
 {
-    let from = count_breaks(text);
-    if out.len() < text.len() - from {
-        let n = measure(&text[from..]);
+    let last = last_word(text);
+    if out.len() < text.len() {
+        let n = measure(text, last);
         if out.len() < n {
             return Answer::Refused(Refusal {
                 number: 11,
@@ -200,6 +230,15 @@ pub fn edit(text: &[u8], out: &mut [u8]) -> Answer
             });
         }
     }
-    let length = write_edited(&text[from..], out);
+    let length = write_edited(text, last, out);
     Answer::Written { length, live: 0 }
+}
+
+// The editor: writes the edited text at the start of the lent output, or refuses and leaves every byte.
+pub fn edit(text: &[u8], out: &mut [u8]) -> Answer
+    ensures { λ r. ⌜ EditPromise (now (text .entry)) (now (out .entry)) (now (out .exit)) r ⌝ }
+{
+    let end = last_breaks(text);
+    let from = first_breaks(&text[..end]);
+    edit_between(&text[from..end], out)
 }
