@@ -54,15 +54,15 @@ fn is_break(b: u8) -> bool
 fn last_breaks(text: &[u8]) -> usize
     ensures { λ r. ⌜ Last breaks (now (text .entry)) r ⌝ }
 {
-    let mut i = text.len();
-    while 0 < i {
-        if is_break(text[i - 1]) {
-            i -= 1;
+    let mut end = text.len();
+    while 0 < end {
+        if is_break(text[end - 1]) {
+            end -= 1;
         } else {
-            return i;
+            return end;
         }
     }
-    i
+    end
 }
 
 // Where the word begins that the text ends with.
@@ -151,10 +151,11 @@ fn pass_word(text: &[u8]) -> Stride
     ensures { λ r. ⌜ Goes (now (text .entry)) r ⌝ }
 {
     let word = count_word(text);
-    let run = read_run(text, word);
+    let breaks = read_run(text, word);
+    let put = word + 1;
     Stride {
-        read: run.end,
-        put: word + 1,
+        read: breaks.end,
+        put,
     }
 }
 
@@ -165,11 +166,9 @@ fn write_word(text: &[u8], out: &mut [u8]) -> Stride
 {
     let word = copy_word(text, out);
     let run = read_run(text, word);
+    let put = word + 1;
     out[word] = run.becomes;
-    Stride {
-        read: run.end,
-        put: word + 1,
-    }
+    Stride { read: run.end, put }
 }
 
 // Copies a text as it is.

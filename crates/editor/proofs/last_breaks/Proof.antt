@@ -23,6 +23,6 @@ last-breaks-spec =
     (λ c. omega (arith, c .before .loop-test .taken, c .before .before .loop .inv .within))
     (λ c κs. search needs)
     (λ c. search needs) (λ c. omega arith)
-    (λ c. let n = c .before .before .before in trailing-more breaks (n .before .loop .inv) (n .loop-test .taken) (sym (c .before .is-break .ensures) ∙ c .if1 .taken))
+    (λ c. let n = c .before .before .before in trailing-more breaks (n .before .loop .inv) (omega (arith, n .loop-test .taken)) (sym (c .before .is-break .ensures) ∙ c .if1 .taken))
     (λ c. record { trailing = c .before .before .before .before .loop .inv; before = λ z. sym (c .before .is-break .ensures) ∙ c .if1 .left })
     (λ c. record { trailing = c .before .loop .inv; before = λ z. absurd (omega (arith, c .loop-test .left)) }))
