@@ -32,26 +32,29 @@ module _ (test : ℕ → Bool) where
   unfolding leading
   leading-first t {i} h e = either (test (getD t i 0)) (λ q. q) (λ q. absurd (omega (arith, rw (drop-cons t i 0 h, q) at e)))
 
-  -- A loop counts them from place i on: it stands at place k, and each byte from i to there led.
-  abbrev pub Counting : List ℕ → ℕ → ℕ → Type 0
-  Counting t i k = k + leading test (drop k t) ≡ i + leading test (drop i t)
+  -- A loop counts them: it stands at place k, and each byte before it led.
+  abbrev pub Counting : List ℕ → ℕ → Type 0
+  Counting t k = k + leading test (drop k t) ≡ leading test t
 
-  module _ (t : List ℕ) (i k : ℕ) (c : Counting t i k) where
+  pub counting-none : (t : List ℕ) → Counting t 0
+  counting-none t = omega arith
+
+  module _ (t : List ℕ) (k : ℕ) (c : Counting t k) where
     -- where not all lead there is a byte more
-    pub counting-within : i + leading test (drop i t) < length t → k < length t
+    pub counting-within : leading test t < length t → k < length t
     counting-within h = omega (arith, c)
 
     -- one more leads
-    pub counting-more : k < length t → test (getD t k 0) ≡ true → Counting t i (k + 1)
+    pub counting-more : k < length t → test (getD t k 0) ≡ true → Counting t (k + 1)
     unfolding leading
     counting-more h q = let e = rw (drop-cons t k 0 h, q) at c in rw (add-one k) (omega (arith, e))
 
     -- or it does not, or there is none
-    pub counting-stop : k < length t → test (getD t k 0) ≡ false → k ≡ i + leading test (drop i t)
+    pub counting-stop : k < length t → test (getD t k 0) ≡ false → k ≡ leading test t
     unfolding leading
     counting-stop h q = let e = rw (drop-cons t k 0 h, q) at c in omega (arith, e)
 
-    pub counting-end : length t ≤ k → k ≡ i + leading test (drop i t)
+    pub counting-end : length t ≤ k → k ≡ leading test t
     unfolding leading
     counting-end h = let e = rw (drop-of-length-le t h) at c in omega (arith, e)
 
@@ -69,30 +72,30 @@ module _ (test : ℕ → Bool) where
       record { within = omega (arith, r .within); all = rw (d, q) (ap suc (r .all)) }
 
 -- The run's loop counts breaks, and what they become with those to come is what all become.
-pub record Running (t : List ℕ) (i k becomes : ℕ) : Type 0 where
-  pub counted : Counting breaks t i k
+pub record Running (t : List ℕ) (k becomes : ℕ) : Type 0 where
+  pub counted : Counting breaks t k
   pub some : isBreak becomes ≡ true
-  pub run : runFrom becomes (drop k t) ≡ runFrom gap (drop i t)
+  pub run : runFrom becomes (drop k t) ≡ runFrom gap t
 
-module _ (t : List ℕ) (i k becomes : ℕ) (r : Running t i k becomes) (h : k < length t) where
-  running-more : breaks (getD t k 0) ≡ true → {x : ℕ} → isBreak x ≡ true → oneBreak becomes (replaced (getD t k 0)) ≡ x → Running t i (k + 1) x
+module _ {t : List ℕ} {k becomes : ℕ} (r : Running t k becomes) (h : k < length t) where
+  running-more : breaks (getD t k 0) ≡ true → {x : ℕ} → isBreak x ≡ true → oneBreak becomes (replaced (getD t k 0)) ≡ x → Running t (k + 1) x
   unfolding runFrom
-  running-more q s e = record { counted = counting-more breaks t i k (r .counted) h q; some = s; run = rw (add-one k, ← e) (rw (drop-cons t k 0 h, q) at (r .run)) }
+  running-more q s e = record { counted = counting-more breaks t k (r .counted) h q; some = s; run = rw (add-one k, ← e) (rw (drop-cons t k 0 h, q) at (r .run)) }
 
   -- a pause makes it one
-  pub running-pause : among (pause ∷ pauseMarks) (getD t k 0) ≡ true → Running t i (k + 1) pause
+  pub running-pause : among (pause ∷ pauseMarks) (getD t k 0) ≡ true → Running t (k + 1) pause
   unfolding oneBreak isBreak
   running-pause q = running-more (break-told _ ∙ rw q) refl (rw (pause-told, q, or-true))
 
   -- a gap leaves it as it is
-  pub running-gap : among (pause ∷ pauseMarks) (getD t k 0) ≡ false → among (gap ∷ gapMarks) (getD t k 0) ≡ true → Running t i (k + 1) becomes
+  pub running-gap : among (pause ∷ pauseMarks) (getD t k 0) ≡ false → among (gap ∷ gapMarks) (getD t k 0) ≡ true → Running t (k + 1) becomes
   unfolding oneBreak
   running-gap p g = running-more (break-told _ ∙ rw (p, g)) (r .some) (rw (pause-told, p) (break-both (λ x. cond (eqb x pause || false) pause gap ≡ x) refl refl becomes (r .some)))
 
   -- and any other byte ends it
-  pub running-stop : among (pause ∷ pauseMarks) (getD t k 0) ≡ false → among (gap ∷ gapMarks) (getD t k 0) ≡ false → ReadsRun t i (record { end = k; becomes = becomes })
+  pub running-stop : among (pause ∷ pauseMarks) (getD t k 0) ≡ false → among (gap ∷ gapMarks) (getD t k 0) ≡ false → ReadsRun t (record { length = k; becomes = becomes })
   unfolding runFrom
-  running-stop p g = let q : breaks (getD t k 0) ≡ false = break-told _ ∙ rw (p, g) in record { «end» = counting-stop breaks t i k (r .counted) h q; becomes = rw (drop-cons t k 0 h, q) at (r .run) }
+  running-stop p g = let q : breaks (getD t k 0) ≡ false = break-told _ ∙ rw (p, g) in record { length = counting-stop breaks t k (r .counted) h q; becomes = rw (drop-cons t k 0 h, q) at (r .run) }
 
 -- A loop copies the bytes of a text: the first k stand at the start of the output.
 pub record Copying (t out₀ out : List ℕ) (k : ℕ) : Type 0 where
@@ -136,15 +139,20 @@ piece-length t =
     omega (arith, length-append (take (leading others t) t) (runFrom gap (drop (leading others t) t) ∷ []), length-take-le (leading others t) t (leading-most others t))
 
 -- A word of w bytes and the run behind it are what the walk goes over, and where there is room both are put.
-module _ {t : List ℕ} {w : ℕ} {r : Run} (e : w ≡ leading others t) (f : ReadsRun t w r) where
-  pub goes-word : Goes t (record { read = r .end; put = w + 1 })
-  goes-word = record { read = f .end ∙ rw e refl; put = rw e refl }
+module _ (t : List ℕ) {w : ℕ} {r : Run} (e : w ≡ leading others t) (f : ReadsRun (take (length t - w) (drop w t)) r) where
+  pub goes-word : Goes t (record { read = w + r .length; put = w + 1 })
+  goes-word = let g = rw (rest-part t w) at f in record { read = rw (g .length, e) refl; put = rw e refl }
 
   pub piece-put : {out out₁ : List ℕ} → w < length out → Put (take w t) out out₁ w 0 → Put (piece t) out (set out₁ w (r .becomes)) (w + 1) 0
   unfolding piece
   piece-put {out} {out₁} h p =
+      let g = rw (rest-part t w) at f in
       let l = put-length (take w t) out out₁ w 0 (omega arith) p in
-      rw (← e, ← f .becomes) (put-behind (omega arith) p (put-at out₁ w (r .becomes) (omega arith)))
+      rw (← e, ← g .becomes) (put-behind (omega arith) p (put-at out₁ w (r .becomes) (omega arith)))
+
+-- the run behind a word ends before the text does
+pub run-within : (t : List ℕ) {w : ℕ} → w ≡ leading others t → reads t < length t → leading breaks (take (length t - w) (drop w t)) < length (take (length t - w) (drop w t))
+run-within t {w} e h = rw (rest-part t w) (rw e (omega (arith, length-drop (leading others t) t)))
 
 -- a text is not read in vain
 reads-some : (t : List ℕ) → 0 < length t → 0 < reads t

@@ -39,10 +39,10 @@ unfoldable pub runFrom : ℕ → List ℕ → ℕ
 runFrom wait [] = wait
 runFrom wait (b ∷ t) = cond (breaks b) (runFrom (oneBreak wait (replaced b)) t) wait
 
--- the run from place k on
-pub record ReadsRun (t : List ℕ) (k : ℕ) (r : Run) : Type 0 where
-  pub «end» : r .end ≡ k + leading breaks (drop k t)
-  pub becomes : r .becomes ≡ runFrom gap (drop k t)
+-- the run that a text begins with
+pub record ReadsRun (t : List ℕ) (r : Run) : Type 0 where
+  pub length : r .length ≡ leading breaks t
+  pub becomes : r .becomes ≡ runFrom gap t
 
 -- how much is read with a word and the breaks behind it
 abbrev pub reads : List ℕ → ℕ

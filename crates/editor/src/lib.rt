@@ -17,9 +17,9 @@ const GAP: u8 = 0x20;
 
 const PAUSE: u8 = 0x23;
 
-// A run of breaks: where it ends, and the break that it becomes.
+// A run of breaks: how many bytes it has, and the break that it becomes.
 pub struct Run {
-    pub end: usize,
+    pub length: usize,
     pub becomes: u8,
 }
 
@@ -125,22 +125,22 @@ fn copy_word(text: &[u8], out: &mut [u8]) -> usize
     }
 }
 
-// The run of breaks from place k on, a pause if one of them is a pause. Another word follows it.
-fn read_run(text: &[u8], k: usize) -> Run
-    requires { ⌜ k + leading breaks (drop k (now text)) < length (now text) ⌝ }
-    ensures { λ r. ⌜ ReadsRun (now (text .entry)) k r ⌝ }
+// The run of breaks that the text begins with, a pause if one of them is a pause. A word follows it, so no end is asked for.
+fn read_run(text: &[u8]) -> Run
+    requires { ⌜ leading breaks (now text) < length (now text) ⌝ }
+    ensures { λ r. ⌜ ReadsRun (now (text .entry)) r ⌝ }
 {
     let mut becomes = GAP;
-    let mut end = k;
+    let mut k = 0;
     loop {
-        let b = text[end];
+        let b = text[k];
         if is_pause(b) {
             becomes = PAUSE;
-            end += 1;
+            k += 1;
         } else if is_gap(b) {
-            end += 1;
+            k += 1;
         } else {
-            return Run { end, becomes };
+            return Run { length: k, becomes };
         }
     }
 }
@@ -151,11 +151,10 @@ fn pass_word(text: &[u8]) -> Stride
     ensures { λ r. ⌜ Goes (now (text .entry)) r ⌝ }
 {
     let word = count_word(text);
-    let breaks = read_run(text, word);
-    let put = word + 1;
+    let run = read_run(&text[word..]);
     Stride {
-        read: breaks.end,
-        put,
+        read: word + run.length,
+        put: word + 1,
     }
 }
 
@@ -165,10 +164,11 @@ fn write_word(text: &[u8], out: &mut [u8]) -> Stride
     ensures { λ r. ⌜ Goes (now (text .entry)) r × Put (piece (now (text .entry))) (now (out .entry)) (now (out .exit)) (r .put) 0 ⌝ }
 {
     let word = copy_word(text, out);
-    let run = read_run(text, word);
+    let run = read_run(&text[word..]);
+    let read = word + run.length;
     let put = word + 1;
     out[word] = run.becomes;
-    Stride { read: run.end, put }
+    Stride { read, put }
 }
 
 // Copies a text as it is.
