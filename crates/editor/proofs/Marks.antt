@@ -1,5 +1,5 @@
 -- The code asks whether a byte is in a list: one for a pause and the marks that become one, one for a gap and its marks. The definition's tests are the same.
-use Rattle.laws.proofs.Kit.{ℕ, _≡_, refl, sym, _∙_, true, false, _||_, or-comm, or-true, or-false, true≢false, _∷_, eqb, eqb-true}
+use Rattle.laws.proofs.Kit.{ℕ, _≡_, sym, _∙_, true, false, _||_, or-comm, or-true, or-false, true≢false, _∷_, eqb, eqb-true}
 use Rattle.spec.specs.{Alphabet.gap, Alphabet.pause, Tables.among, Letters.isBreak, Editing.pauseMarks, Editing.gapMarks, Editing.replaced}
 use Rattle.spec.proofs.Computed.{everything}
 use Rattle.laws.proofs.{Classes.either, Edited.breaks}

@@ -2,7 +2,7 @@
 ghost use mathlib.Core.Path.{_≡_};
 ghost use mathlib.Core.List.{_∷_};
 ghost use Prim.Native.Nat.{_+_, _<_, _≤_};
-ghost use lib.ListN.{length, take, drop};
+ghost use lib.ListN.{length, take};
 ghost use Rattle.spec.specs.Alphabet.{gap, pause};
 ghost use Rattle.spec.specs.Tables.{among};
 ghost use Rattle.spec.specs.Answers.{within, Promise};

@@ -1,8 +1,8 @@
 -- The editor's steps as one walk over the text, which carries no more than the break that waits to be put before the next byte; and what follows for edited texts.
-use Rattle.laws.proofs.Kit.{ℕ, suc, _+_, _<_, _≤_, _≡_, refl, sym, ap, _∙_, _⊎_, inl, inr, ⊎-elim, _↔_, Bool, true, false, cond, _&&_, _||_, not, and-false, and-true, or-assoc, true≢false, false≢true, List, [], _∷_, _++_, map, arith, eqb, leb, length, take, drop, length-drop, leb-true, lt-leb}
+use Rattle.laws.proofs.Kit.{ℕ, suc, _+_, _<_, _≤_, _≡_, refl, sym, ap, _∙_, _⊎_, inl, inr, ⊎-elim, _↔_, Bool, true, false, cond, _&&_, _||_, not, and-false, and-true, or-assoc, true≢false, false≢true, List, [], _∷_, map, arith, eqb, leb, length, drop, length-drop, leb-true, lt-leb}
 use Rattle.spec.specs.Editing.{pauseMarks, gapMarks, replaced, oneBreak, putBreak, merged, withoutFirst, withoutLast, edited, OnlyBreaks}
-use Rattle.spec.specs.{Alphabet.gap, Alphabet.pause, Tables.among, Letters.isBreak, Letters.isMark}
-use Rattle.spec.specs.Refusals.{letterByte, first, none, row3, row4, rows, fitsIn, beforeAt, fits, NoneFits}
+use Rattle.spec.specs.{Alphabet.gap, Alphabet.pause, Tables.among, Letters.isBreak}
+use Rattle.spec.specs.Refusals.{first, none, row3, row4, rows, fitsIn, beforeAt, fits, NoneFits}
 use Rattle.spec.proofs.Computed.{everything}
 use Rattle.laws.proofs.Classes.{either, cond-both, among-same, break-both}
 use Rattle.laws.proofs.Accepted.{ClearFrom, EachFrom, places-clear, each-place, none-passes}
@@ -38,13 +38,13 @@ unfolding everything
 break-kept = break-both (λ x. replaced x ≡ x) refl refl
 
 -- what becomes no break passes as it is
-pub byte-kept : (b : ℕ) → breaks b ≡ false → replaced b ≡ b
+byte-kept : (b : ℕ) → breaks b ≡ false → replaced b ≡ b
 unfolding everything
 byte-kept b q = either (among pauseMarks b) (λ e. absurd (true≢false (rw e at q)))
     (λ e. either (among gapMarks b) (λ f. absurd (true≢false (rw (e, f) at q))) (λ f. rw (e, f)))
 
 -- so it was none
-pub byte-other : (b : ℕ) → breaks b ≡ false → isBreak b ≡ false
+byte-other : (b : ℕ) → breaks b ≡ false → isBreak b ≡ false
 byte-other b q = rw (byte-kept b q) at q
 
 -- one break out of two is a break, and a pause if either is

@@ -1,10 +1,10 @@
 -- What the walk from the right knows at a place, and what the lent output then holds.
 -- Assumes nothing: these are definitions.
-use Prim.Native.Nat.{ℕ, suc, _+_, _<_, _≤_}
+use Prim.Native.Nat.{ℕ, suc, _<_, _≤_}
 use mathlib.Core.Path.{_≡_}
 use mathlib.Core.Bool.{Bool, true, cond}
-use mathlib.Core.List.{List, [], _∷_, _++_}
-use lib.ListN.{length, take, drop, getD}
+use mathlib.Core.List.{List, [], _∷_}
+use lib.ListN.{length, getD}
 use Rattle.spec.specs.Letters.{small, firstByte, isBreak, isMark}
 use Rattle.spec.specs.Codes.{J, markOf}
 use Rattle.spec.specs.Syllables.{incomplete, nameOf, syllableOf}
