@@ -2,14 +2,14 @@
 use Rattle.laws.proofs.Kit.{ℕ, zero, suc, _+_, _-_, _<_, _≤_, arith, add-one, _≡_, refl, sym, ap, _∙_, ⊎-elim, Bool, true, false, true≢false, cond, _||_, not, or-true, List, [], _∷_, _++_, append-assoc, eqb, length, take, drop, getD, set, length-append, take-suc, getD-drop, length-drop, drop-cons, drop-at, drop-length, drop-drop, drop-of-length-le, length-take-le, take-append-drop, take-add, getD-take, not-true}
 use Rattle.spec.specs.{Alphabet.gap, Alphabet.pause, Tables.among, Letters.isBreak, Editing.pauseMarks, Editing.gapMarks, Editing.replaced, Editing.oneBreak, Editing.edited}
 use Rattle.laws.proofs.Edited.{breaks, putWait, editFrom, leading, begun, one-some, edited-walk}
-use Rattle.laws.proofs.{Classes.either, Classes.below-or, Classes.break-both, Putting.Put, Putting.put-none, Putting.put-at, Putting.put-behind, Putting.put-length, Putting.rest-part, Putting.put-part}
+use Rattle.laws.proofs.{Classes.either, Classes.below-or, Classes.break-both, Putting.Put, Putting.put-none, Putting.put-at, Putting.put-behind, Putting.put-length, Putting.restOf, Putting.rest-part, Putting.put-part}
 use Rattle.editor.specs.Walk.{others, Trailing, Last, LastWord, EndsInWord, runFrom, ReadsRun, reads, piece, Goes}
 use Rattle.editor.specs.{declared.Run.Run, declared.Stride.Stride}
 use Rattle.editor.proofs.Marks.{break-told, pause-told}
 
 module _ (test : ℕ → Bool) where
   -- no more bytes lead than there are
-  pub leading-most : (t : List ℕ) → leading test t ≤ length t
+  leading-most : (t : List ℕ) → leading test t ≤ length t
   unfolding leading
   leading-most [] = omega arith
   leading-most (b ∷ t) = either (test b) (λ q. rw q (omega (arith, leading-most t))) (λ q. rw q (omega arith))
@@ -21,6 +21,7 @@ module _ (test : ℕ → Bool) where
   leading-before (b ∷ t) zero h q = rw q (omega arith)
   leading-before (b ∷ t) (suc j) h q = either (test b) (λ e. rw e (omega (arith, leading-before t j (omega arith) q))) (λ e. rw e (omega arith))
 
+  -- counted from any place on
   leading-to : (t : List ℕ) {i j : ℕ} → i ≤ j → j < length t → test (getD t j 0) ≡ false → i + leading test (drop i t) ≤ j
   leading-to t {i} {j} l h q =
       let e : i + (j - i) ≡ j = omega arith in
@@ -133,13 +134,13 @@ walk-word (b ∷ t) h = either (breaks b) (λ q. rw q (rw q (run-step (oneBreak 
 pub walk-step : (t : List ℕ) → reads t < length t → editFrom 0 t ≡ piece t ++ editFrom 0 (drop (reads t) t)
 walk-step t h = rw (← drop-drop (leading breaks (drop (leading others t) t)) (leading others t) t) (walk-word t h)
 
-pub piece-length : (t : List ℕ) → length (piece t) ≡ leading others t + 1
+piece-length : (t : List ℕ) → length (piece t) ≡ leading others t + 1
 unfolding piece
 piece-length t =
     omega (arith, length-append (take (leading others t) t) (runFrom gap (drop (leading others t) t) ∷ []), length-take-le (leading others t) t (leading-most others t))
 
 -- A word of w bytes and the run behind it are what the walk goes over, and where there is room both are put.
-module _ (t : List ℕ) {w : ℕ} {r : Run} (e : w ≡ leading others t) (f : ReadsRun (take (length t - w) (drop w t)) r) where
+module _ (t : List ℕ) {w : ℕ} {r : Run} (e : w ≡ leading others t) (f : ReadsRun (restOf t w) r) where
   pub goes-word : Goes t (record { read = w + r .length; put = w + 1 })
   goes-word = let g = rw (rest-part t w) at f in record { read = rw (g .length, e) refl; put = rw e refl }
 
@@ -151,7 +152,7 @@ module _ (t : List ℕ) {w : ℕ} {r : Run} (e : w ≡ leading others t) (f : Re
       rw (← e, ← g .becomes) (put-behind (omega arith) p (put-at out₁ w (r .becomes) (omega arith)))
 
 -- the run behind a word ends before the text does
-pub run-within : (t : List ℕ) {w : ℕ} → w ≡ leading others t → reads t < length t → leading breaks (take (length t - w) (drop w t)) < length (take (length t - w) (drop w t))
+pub run-within : (t : List ℕ) {w : ℕ} → w ≡ leading others t → reads t < length t → leading breaks (restOf t w) < length (restOf t w)
 run-within t {w} e h = rw (rest-part t w) (rw e (omega (arith, length-drop (leading others t) t)))
 
 -- a text is not read in vain
@@ -194,7 +195,7 @@ module _ {t : List ℕ} {last : ℕ} (w : LastWord t last) where
 
   module _ {i : ℕ} where
     -- before the last word there is a word, a break behind it and another word
-    pub reads-before : i < last → i + reads (drop i t) ≤ last
+    reads-before : i < last → i + reads (drop i t) ≤ last
     reads-before h =
         let l = last-within (omega arith) in
         let n = leading others (drop i t) in
@@ -204,7 +205,7 @@ module _ {t : List ℕ} {last : ℕ} (w : LastWord t last) where
         omega (arith, b)
 
     -- from it on no break
-    pub last-own : last ≤ i → editFrom 0 (drop i t) ≡ drop i t
+    last-own : last ≤ i → editFrom 0 (drop i t) ≡ drop i t
     last-own h =
         let e : last + (i - last) ≡ i = omega arith in
         word-own (drop i t) (rw (drop-drop (i - last) last t, e) at (leading-all others (drop last t) (w .last .trailing .all) (i - last)))
@@ -223,10 +224,10 @@ module _ {t : List ℕ} {i at : ℕ} {done : List ℕ} (w : Stands t i at done) 
   module _ {last : ℕ} (l : LastWord t last) where
     -- before the last word there is one to read, and breaks behind it
     module _ (h : i < last) where
-      pub stands-reads : reads (take (length t - i) (drop i t)) < length (take (length t - i) (drop i t))
+      pub stands-reads : reads (restOf t i) < length (restOf t i)
       stands-reads = rw (rest-part t i) (omega (arith, reads-before l h, last-within l (omega arith), length-drop i t))
 
-      module _ {r : Stride} (p : Goes (take (length t - i) (drop i t)) r) where
+      module _ {r : Stride} (p : Goes (restOf t i) r) where
         -- which are some of the text
         pub stands-further : length t - (i + r .read) < length t - i
         stands-further =
@@ -246,7 +247,7 @@ module _ {t : List ℕ} {i at : ℕ} {done : List ℕ} (w : Stands t i at done) 
 
     -- from it on the rest of the text is as it is
     module _ (h : last ≤ i) where
-      pub stands-last : editFrom 0 t ≡ done ++ drop i t
+      stands-last : editFrom 0 t ≡ done ++ drop i t
       stands-last = w .rest ∙ rw (last-own l h) refl
 
       pub stands-end : at + (length t - i) ≡ length (editFrom 0 t)
@@ -260,7 +261,7 @@ pub record Writing (t out₀ out : List ℕ) (i at : ℕ) : Type 0 where
   pub put : Put done out₀ out at 0
 
 module _ {t out₀ out : List ℕ} {i at : ℕ} (w : Writing t out₀ out i at) where
-  pub writing-kept : length out ≡ length out₀
+  writing-kept : length out ≡ length out₀
   writing-kept = put-length (w .done) out₀ out at 0 (omega (arith, stands-most (w .stands), w .room)) (w .put)
 
   pub writing-at : at ≤ length out
@@ -269,12 +270,12 @@ module _ {t out₀ out : List ℕ} {i at : ℕ} (w : Writing t out₀ out i at) 
   module _ {last : ℕ} (l : LastWord t last) where
     -- a word and a break fit what is left of the output, and are put there
     module _ (h : i < last) where
-      pub writing-room : leading others (take (length t - i) (drop i t)) < length (take (length out - at) (drop at out))
+      pub writing-room : leading others (restOf t i) < length (restOf out at)
       writing-room =
           let s = stands-more (w .stands) l h {r = record { read = reads (drop i t); put = leading others (drop i t) + 1 }} (rw (rest-part t i) (record { read = refl; put = refl })) in
           rw (rest-part t i, rest-part out at) (omega (arith, stands-most s, w .room, writing-kept, length-drop at out))
 
-      pub writing-more : {r : Stride} {part : List ℕ} → Goes (take (length t - i) (drop i t)) r → Put (piece (take (length t - i) (drop i t))) (take (length out - at) (drop at out)) part (r .put) 0
+      pub writing-more : {r : Stride} {part : List ℕ} → Goes (restOf t i) r → Put (piece (restOf t i)) (restOf out at) part (r .put) 0
           → Writing t out₀ (take at out ++ (part ++ drop (length out - at) (drop at out))) (i + r .read) (at + r .put)
       writing-more g p =
           let s = stands-more (w .stands) l h g in
@@ -282,10 +283,10 @@ module _ {t out₀ out : List ℕ} {i at : ℕ} (w : Writing t out₀ out i at) 
 
     -- at last the rest of the text does, and is
     module _ (h : last ≤ i) where
-      pub writing-rest : length (take (length t - i) (drop i t)) ≤ length (take (length out - at) (drop at out))
+      pub writing-rest : length (restOf t i) ≤ length (restOf out at)
       writing-rest = rw (rest-part t i, rest-part out at) (omega (arith, stands-end (w .stands) l h, w .room, writing-kept, length-drop i t, length-drop at out))
 
-      pub writing-last : {part : List ℕ} → Put (take (length t - i) (drop i t)) (take (length out - at) (drop at out)) part (length (take (length t - i) (drop i t))) 0
+      pub writing-last : {part : List ℕ} → Put (restOf t i) (restOf out at) part (length (restOf t i)) 0
           → Put (editFrom 0 t) out₀ (take at out ++ (part ++ drop (length out - at) (drop at out))) (at + (length t - i)) 0
       writing-last p =
           let q = rw (rest-part t i, length-drop i t) at p in

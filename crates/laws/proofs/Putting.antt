@@ -65,12 +65,15 @@ put-behind {codes} {more} {out} {out₁} {out₂} {at} {a} {b} h p q =
       bytes = q .bytes ∙ rw (t, d, append-assoc (take at out) codes (more ++ drop b out), append-assoc codes more (drop b out)) refl;
     }
 
--- a part of a list from a place to its end
-pub rest-part : (l : List ℕ) (k : ℕ) → take (length l - k) (drop k l) ≡ drop k l
+-- the part of a list from a place to its end, as it is lent on
+abbrev pub restOf : List ℕ → ℕ → List ℕ
+restOf l k = take (length l - k) (drop k l)
+
+pub rest-part : (l : List ℕ) (k : ℕ) → restOf l k ≡ drop k l
 rest-part l k = take-all (length l - k) (drop k l) (omega (arith, length-drop k l))
 
--- bytes put at the start of such a part of an output, which was lent on
-pub put-part : {codes out part : List ℕ} {at r : ℕ} → Put codes (take (length out - at) (drop at out)) part r 0
+-- bytes put at the start of such a part of an output
+pub put-part : {codes out part : List ℕ} {at r : ℕ} → Put codes (restOf out at) part r 0
     → Put codes out (take at out ++ (part ++ drop (length out - at) (drop at out))) (at + r) at
 put-part {codes} {out} {part} {at} {r} p =
     let e : part ≡ codes ++ drop r (drop at out) = rw (rest-part out at) at (p .bytes) in

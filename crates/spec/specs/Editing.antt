@@ -14,7 +14,7 @@ use Rattle.spec.specs.Refusals.{none}
 use Rattle.spec.specs.Answers.{within, Promise}
 use Rattle.spec.specs.declared.Answer.{Answer}
 
--- the marks of punctuation that become a pause
+-- Slip 1, marks: those that become a pause
 unfoldable pub pauseMarks : List ℕ
 pauseMarks = ascii ".,;:?!"
 
@@ -26,7 +26,7 @@ gapMarks = ascii "-()\"'"
 unfoldable pub replaced : ℕ → ℕ
 replaced b = cond (among pauseMarks b) pause (cond (among gapMarks b) gap b)
 
--- what two breaks in a row become: a pause if one of them is a pause
+-- Slip 1, runs: what two breaks in a row become, a pause if one of them is a pause
 unfoldable pub oneBreak : ℕ → ℕ → ℕ
 oneBreak a b = cond (eqb a pause || eqb b pause) pause gap
 
@@ -40,7 +40,7 @@ unfoldable pub merged : List ℕ → List ℕ
 merged [] = []
 merged (b ∷ t) = let rest = merged t in cond (isBreak b) (putBreak b rest) (b ∷ rest)
 
--- a break at the start vanishes
+-- Slip 1, ends: a break at the start vanishes
 unfoldable pub withoutFirst : List ℕ → List ℕ
 withoutFirst [] = []
 withoutFirst (b ∷ t) = cond (isBreak b) t (b ∷ t)
