@@ -5,7 +5,7 @@ use Rattle.laws.proofs.Edited.{breaks, putWait, editFrom, leading, begun, one-s
 use Rattle.laws.proofs.{Classes.either, Classes.below-or, Classes.break-both, Putting.Put, Putting.put-none, Putting.put-at, Putting.put-behind, Putting.put-length, Putting.restOf, Putting.rest-part, Putting.put-part}
 use Rattle.editor.specs.Walk.{others, Trailing, Last, LastWord, EndsInWord, runFrom, ReadsRun, reads, piece, Goes}
 use Rattle.editor.specs.{declared.Run.Run, declared.Stride.Stride}
-use Rattle.editor.proofs.Marks.{break-told, pause-told}
+use Rattle.editor.proofs.Punctuation.{break-told, pause-told}
 
 module _ (test : ℕ → Bool) where
   -- no more bytes lead than there are

@@ -52,6 +52,7 @@ reads t = leading others t + leading breaks (drop (leading others t) t)
 unfoldable pub piece : List ℕ → List ℕ
 piece t = take (leading others t) t ++ (runFrom gap (drop (leading others t) t) ∷ [])
 
+-- a stride over both
 pub record Goes (t : List ℕ) (r : Stride) : Type 0 where
   pub read : r .read ≡ reads t
   pub put : r .put ≡ leading others t + 1

@@ -1,6 +1,6 @@
 -- The two lists hold all bytes that stand for a break.
 use Rattle.laws.proofs.Kit.{sym, needs}
-use Rattle.editor.proofs.Marks.{break-told}
+use Rattle.editor.proofs.Punctuation.{break-told}
 use Rattle.editor.proofs.is_break.Statement.{statement}
 use Rattle.editor.proofs.is_break.Tie as tie
 
