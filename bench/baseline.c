@@ -3,7 +3,8 @@
  * or the lengths of the answers. The second, from right to left, writes the answer from its end, since a sound depends on what
  * stands to its right and on little else. Nothing is written before every refusal is settled.
  *
- * The editor, at the end, is apart: one pass from left to right, and one before it only where the output might be too short.
+ * The editor, after them, is apart: one pass from left to right, and one before it only where the output might be too short. So is the
+ * writer of UTF-8, but for the check. The reader of UTF-8 always makes two passes, since any sequence may be refused.
  *
  * The classes T, P, Q, V1 and V2, the sets D and U and the numbers of the refusals are those of document 01.
  */
@@ -587,4 +588,150 @@ baseline_text baseline_edit(const uint8_t *text, size_t len, uint8_t *out, size_
     size_t n = write_words(text, last_word, out);
     memcpy(out + n, last_word, last_length);
     return (baseline_text){.length = n + last_length};
+}
+
+#define STEPS_4(byte, step)  byte, (byte) + (step), (byte) + 2 * (step), (byte) + 3 * (step)
+#define STEPS_16(byte, step) \
+    STEPS_4(byte, step), STEPS_4((byte) + 4 * (step), step), STEPS_4((byte) + 8 * (step), step), STEPS_4((byte) + 12 * (step), step)
+
+/* What letters begin with in UTF-8: D0 those from А to п and Ё, D1 those from р to я and ё. */
+enum { LEAD_A_TO_PE = 0xD0, LEAD_ER_TO_YA = 0xD1, ITSELF = 1 };
+
+/*
+ * What a sequence that is taken begins with, by its last byte, so that a letter is told by one comparison. Ё and ё are not here: their
+ * last bytes are those of с and Б too.
+ */
+static const uint8_t leads[256] = {
+    [MARK] = ITSELF, [GAP] = ITSELF, [PAUSE] = ITSELF, ['.'] = ITSELF, [','] = ITSELF, [';'] = ITSELF, [':'] = ITSELF, ['?'] = ITSELF,
+    ['!'] = ITSELF, ['-'] = ITSELF, ['('] = ITSELF, [')'] = ITSELF, ['"'] = ITSELF, ['\''] = ITSELF,
+    [0x80] = STEPS_16(LEAD_ER_TO_YA, 0), STEPS_16(LEAD_A_TO_PE, 0), STEPS_16(LEAD_A_TO_PE, 0), STEPS_16(LEAD_A_TO_PE, 0),
+};
+
+/*
+ * The letters by their code points, counted from that of Ё. Of a sequence this is its first byte times 64 and its second, less the same
+ * of Ё: the bits that tell a first byte from a second one then cancel out.
+ */
+enum { SUM_OF_YO = (LEAD_A_TO_PE << 6) + 0x81 };
+static const uint8_t letters[] = {
+    [0] = CAPITAL_YO, [0x0F] = STEPS_16(0xC0, 1), STEPS_16(0xD0, 1), STEPS_16(0xE0, 1), STEPS_16(0xF0, 1), [0x50] = YO,
+};
+
+static uint8_t letter_at(const uint8_t *p)
+{
+    return letters[((size_t)p[0] << 6) + p[1] - SUM_OF_YO];
+}
+
+static bool is_yo(const uint8_t *p)
+{
+    return (p[0] == LEAD_A_TO_PE && p[1] == 0x81) || (p[0] == LEAD_ER_TO_YA && p[1] == 0x91);
+}
+
+/* Where the bytes from 0x80 on begin that end before p: in a message or in a text in UTF-8 these are letters. */
+static const uint8_t *last_letters(const uint8_t *start, const uint8_t *p)
+{
+    while (p != start && p[-1] >= 0x80)
+        p--;
+    return p;
+}
+
+/*
+ * The first sequence that is not taken before the last letters, or these. Each word before them ends at a byte below 0x80, so the loop
+ * over it neither asks for the end nor reads past it. Counts the sequences of one byte.
+ */
+static const uint8_t *pass_words(const uint8_t *p, const uint8_t *last, size_t *singles)
+{
+    for (; p != last; p++) {
+        while (*p >= 0x80) {
+            if (*p != leads[p[1]] && !is_yo(p))
+                return p;
+            p += 2;
+        }
+        if (!leads[*p])
+            return p;
+        ++*singles;
+    }
+    return p;
+}
+
+/* The same for the last letters, whose end has to be asked for. */
+static const uint8_t *pass_letters(const uint8_t *p, const uint8_t *end)
+{
+    while (end - p > 1 && (*p == leads[p[1]] || is_yo(p)))
+        p += 2;
+    return p;
+}
+
+/* Writes a text all of which is taken. */
+static void write_message(const uint8_t *p, const uint8_t *last, const uint8_t *end, uint8_t *w)
+{
+    for (; p != last; p++) {
+        for (; *p >= 0x80; p += 2)
+            *w++ = letter_at(p);
+        *w++ = *p;
+    }
+    for (; p != end; p += 2)
+        *w++ = letter_at(p);
+}
+
+baseline_text baseline_read_utf8(const uint8_t *text, size_t len, uint8_t *out, size_t cap)
+{
+    const uint8_t *end = text + len, *last = last_letters(text, end);
+    size_t singles = 0;
+
+    const uint8_t *p = pass_words(text, last, &singles);
+    if (p == last)
+        p = pass_letters(p, end);
+    if (p != end)
+        return (baseline_text){.number = 13, .place = (size_t)(p - text)};
+    size_t length = singles + (len - singles) / 2;
+    if (length > cap)
+        return (baseline_text){.number = 11, .place = length};
+    write_message(text, last, end, out);
+    return (baseline_text){.length = length};
+}
+
+/* The letters in UTF-8, two bytes each, by their bytes in a message from that of Ё on. The stops are for bytes that are no letters. */
+static const char sequences[] = u8"Ё" ".............................." "ё" ".............."
+                                "АБВГДЕЖЗИЙКЛМНОПРСТУФХЦЧШЩЪЫЬЭЮЯабвгдежзийклмнопрстуфхцчшщъыьэюя";
+
+static uint8_t *write_letter(size_t letter, uint8_t *w)
+{
+    memcpy(w, sequences + 2 * (letter - CAPITAL_YO), 2);
+    return w + 2;
+}
+
+/* Writes an accepted message in UTF-8 and gives where it ends. */
+static uint8_t *write_sequences(const uint8_t *msg, const uint8_t *end, uint8_t *w)
+{
+    const uint8_t *p = msg, *last = last_letters(msg, end);
+    for (; p != last; p++) {
+        for (; *p >= 0x80; p++)
+            w = write_letter(*p, w);
+        *w++ = *p;
+    }
+    for (; p != end; p++)
+        w = write_letter(*p, w);
+    return w;
+}
+
+static size_t length_in_utf8(const uint8_t *msg, size_t len)
+{
+    size_t length = len;
+    for (size_t i = 0; i < len; i++)
+        if (msg[i] >= 0x80)
+            length++;
+    return length;
+}
+
+baseline_answer baseline_write_utf8(const uint8_t *msg, size_t len, uint8_t *out, size_t cap)
+{
+    baseline_counts counts = baseline_check(msg, len);
+    if (counts.number)
+        return refused(counts.number, counts.place);
+    if (2 * len > cap) {
+        size_t length = length_in_utf8(msg, len);
+        if (length > cap)
+            return refused(11, (uint32_t)length);
+    }
+    return (baseline_answer){.length = (uint32_t)(write_sequences(msg, msg + len, out) - out)};
 }

@@ -1,5 +1,5 @@
 /*
- * Measures the proved library beside the baseline on the same messages, and on texts for the editor.
+ * Measures the proved library beside the baseline on the same messages, and on texts for the editor and for the reader.
  *
  *   measure time    compares all answers and outputs of the two, then prints the nanoseconds a byte of each
  *   measure count   makes each call once between requests to callgrind, which then holds the instructions of each
@@ -18,7 +18,7 @@
 #include "../include/govorun.h"
 #include "baseline.h"
 
-enum { MAX_BYTES = 4096, OUT_BYTES = 2 * MAX_BYTES, FILLER = 0xAA };
+enum { MAX_BYTES = 65536, MAX_CUTS = 4096 / 2, OUT_BYTES = 2 * MAX_BYTES, FILLER = 0xAA };
 enum { ROUNDS = 40, ROUND_NS = 200000 };
 
 /* Words of dispatchers' messages, a mark after each stressed vowel. */
@@ -61,6 +61,14 @@ static const char *const nothing[] = {""};
 /* All breaks that the editor knows. */
 static const char *const break_words[] = {" ", "-", "(", ")", "\"", "'", "#", ".", ",", ";", ":", "?", "!"};
 
+/* All letters, with the signs where they may stand. */
+static const char *const alphabets[] = {"АБВГДЕЁЖЗИЙКЛМНОПРСТУФХЦЧШЬЩЪЫЭЮЯ", "абвгдеёжзийклмнопрстуфхцчшьщъыэюя"};
+
+/* All that the reader takes. */
+static const char *const characters[] = {
+    "АБВГДЕЁЖЗИЙКЛМНОПРСТУФХЦЧШЩЪЫЬЭЮЯ*#абвгдеёжзийклмнопрстуфхцчшщъыьэюя .,;:?!-()\"'",
+};
+
 /* One character of a UTF-8 text as a byte of Windows-1251; the text holds nothing but Russian letters and ASCII. */
 static uint8_t next_byte(const char **text)
 {
@@ -81,9 +89,11 @@ static uint8_t next_byte(const char **text)
 struct message {
     uint8_t bytes[MAX_BYTES];
     size_t len;
-    size_t cuts[MAX_BYTES / 2];
+    size_t cuts[MAX_CUTS];
     size_t cut_count;
-    size_t edited; /* the length of its edited text, where it is a text for the editor */
+    size_t edited;                   /* the length of its edited text, where it is a text for the editor */
+    uint8_t utf8[2 * MAX_BYTES + 1]; /* the same in UTF-8, where it is for the reader or the writer, and a first byte alone after it */
+    size_t utf8_len;                 /* without that byte */
 };
 
 struct list {
@@ -91,13 +101,16 @@ struct list {
     size_t count;
 };
 
+/* What operations a case is for. A text with punctuation is for the editor or the reader alone: all else would refuse it. */
+enum { FOR_MESSAGES = 1, FOR_EDITOR = 2, FOR_READER = 4, FOR_WRITER = 8, FOR_ALL = 15 };
+
 struct test_case {
     const char *name;
     size_t len;
     struct list words, after;
     int shuffled;     /* the words, not what stands after them */
     const char *last; /* the word to end with, or NULL */
-    int for_editor;   /* a text for the editor, which all else would refuse; else a message, for all but the editor */
+    int uses;
 };
 
 static void append(struct message *message, size_t len, const char *word)
@@ -145,69 +158,129 @@ static void list_all_cuts(struct message *message)
             message->cuts[message->cut_count++] = i;
 }
 
+/* Puts the message, Russian letters and ASCII, in UTF-8 as well, and after it the first byte of a letter whose second is missing. */
+static void encode(struct message *message)
+{
+    uint8_t *w = message->utf8;
+    for (size_t i = 0; i < message->len; i++) {
+        unsigned byte = message->bytes[i];
+        if (byte < 0x80) {
+            *w++ = (uint8_t)byte;
+            continue;
+        }
+        unsigned point = byte == 0xB8 ? 0x451 : byte == 0xA8 ? 0x401 : byte - 0xC0 + 0x410;
+        *w++ = (uint8_t)(0xC0 | point >> 6);
+        *w++ = (uint8_t)(0x80 | (point & 0x3F));
+    }
+    *w = 0xD0;
+    message->utf8_len = (size_t)(w - message->utf8);
+}
+
 #define LIST(array) {array, sizeof array / sizeof array[0]}
 
 static const struct test_case cases[] = {
-    {"text", 16, LIST(words), LIST(gaps_and_pauses), 1, NULL, 0},
-    {"text", 64, LIST(words), LIST(gaps_and_pauses), 1, NULL, 0},
-    {"text", 256, LIST(words), LIST(gaps_and_pauses), 1, NULL, 0},
-    {"text", 1024, LIST(words), LIST(gaps_and_pauses), 1, NULL, 0},
-    {"text", 4096, LIST(words), LIST(gaps_and_pauses), 1, NULL, 0},
-    {"one-letter words", 4096, LIST(letter_words), LIST(gaps_and_pauses), 1, NULL, 0},
-    {"chain of voice", 4096, LIST(chain_words), LIST(gaps), 0, "до", 0},
-    {"64 vowels", 4096, LIST(vowel_words), LIST(gaps), 0, NULL, 0},
-    {"64 marked vowels", 4096, LIST(marked_words), LIST(gaps), 0, NULL, 0},
-    {"clusters", 4096, LIST(cluster_words), LIST(gaps), 0, NULL, 0},
-    {"punctuated text", 16, LIST(words), LIST(punctuation), 1, NULL, 1},
-    {"punctuated text", 256, LIST(words), LIST(punctuation), 1, NULL, 1},
-    {"punctuated text", 4096, LIST(words), LIST(punctuation), 1, NULL, 1},
-    {"breaks only", 4096, LIST(break_words), LIST(nothing), 1, NULL, 1},
+    {"text", 16, LIST(words), LIST(gaps_and_pauses), 1, NULL, FOR_MESSAGES | FOR_WRITER},
+    {"text", 64, LIST(words), LIST(gaps_and_pauses), 1, NULL, FOR_MESSAGES},
+    {"text", 256, LIST(words), LIST(gaps_and_pauses), 1, NULL, FOR_MESSAGES},
+    {"text", 1024, LIST(words), LIST(gaps_and_pauses), 1, NULL, FOR_MESSAGES},
+    {"text", 4096, LIST(words), LIST(gaps_and_pauses), 1, NULL, FOR_MESSAGES | FOR_WRITER},
+    {"one-letter words", 4096, LIST(letter_words), LIST(gaps_and_pauses), 1, NULL, FOR_MESSAGES},
+    {"chain of voice", 4096, LIST(chain_words), LIST(gaps), 0, "до", FOR_MESSAGES},
+    {"64 vowels", 4096, LIST(vowel_words), LIST(gaps), 0, NULL, FOR_MESSAGES},
+    {"64 marked vowels", 4096, LIST(marked_words), LIST(gaps), 0, NULL, FOR_MESSAGES},
+    {"clusters", 4096, LIST(cluster_words), LIST(gaps), 0, NULL, FOR_MESSAGES},
+    {"every letter", 4096, LIST(alphabets), LIST(gaps_and_pauses), 0, NULL, FOR_WRITER},
+    {"punctuated text", 16, LIST(words), LIST(punctuation), 1, NULL, FOR_EDITOR},
+    {"punctuated text", 256, LIST(words), LIST(punctuation), 1, NULL, FOR_EDITOR},
+    {"punctuated text", 4096, LIST(words), LIST(punctuation), 1, NULL, FOR_EDITOR},
+    {"breaks only", 4096, LIST(break_words), LIST(nothing), 1, NULL, FOR_EDITOR},
+    {"text in UTF-8", 16, LIST(words), LIST(punctuation), 1, NULL, FOR_READER},
+    {"text in UTF-8", 4096, LIST(words), LIST(punctuation), 1, NULL, FOR_READER},
+    {"text in UTF-8", 65536, LIST(words), LIST(punctuation), 1, NULL, FOR_READER},
+    {"every character", 4096, LIST(characters), LIST(nothing), 0, NULL, FOR_READER},
 };
 
-/* The last, an edit with an output one byte too short, is compared but not measured. */
 enum operation {
-    NOTHING, CHECK, NAME, TRANSCRIBE, JOIN_NO_CUT, JOIN_ALL_CUTS, EDIT, EDIT_JUST_ROOM, MEASURED, EDIT_NO_ROOM = MEASURED
-};
-static const char *const operation_names[] = {
-    "nothing", "check", "name", "transcribe", "join, no cut", "join, all cuts", "edit", "edit, just room", "edit, no room",
+    NOTHING, CHECK, NAME, TRANSCRIBE, JOIN_NO_CUT, JOIN_ALL_CUTS, EDIT, EDIT_JUST_ROOM, EDIT_NO_ROOM,
+    READ, READ_JUST_ROOM, READ_NO_ROOM, READ_REFUSED, WRITE, WRITE_JUST_ROOM, WRITE_NO_ROOM, OPERATIONS
 };
 
-static int suits(const struct test_case *c, enum operation operation)
+/* A refusal for want of room is compared but not measured: just enough room takes no less. */
+static const struct {
+    const char *name;
+    int uses, measured;
+    uint32_t number; /* what both libraries must answer with */
+} operations[OPERATIONS] = {
+    [NOTHING] = {"nothing", FOR_ALL, 1, 0},
+    [CHECK] = {"check", FOR_MESSAGES, 1, 0},
+    [NAME] = {"name", FOR_MESSAGES, 1, 0},
+    [TRANSCRIBE] = {"transcribe", FOR_MESSAGES, 1, 0},
+    [JOIN_NO_CUT] = {"join, no cut", FOR_MESSAGES, 1, 0},
+    [JOIN_ALL_CUTS] = {"join, all cuts", FOR_MESSAGES, 1, 0},
+    [EDIT] = {"edit", FOR_EDITOR, 1, 0},
+    [EDIT_JUST_ROOM] = {"edit, just room", FOR_EDITOR, 1, 0},
+    [EDIT_NO_ROOM] = {"edit, no room", FOR_EDITOR, 0, 11},
+    [READ] = {"read", FOR_READER, 1, 0},
+    [READ_JUST_ROOM] = {"read, just room", FOR_READER, 1, 0},
+    [READ_NO_ROOM] = {"read, no room", FOR_READER, 0, 11},
+    [READ_REFUSED] = {"read, refused", FOR_READER, 1, 13},
+    [WRITE] = {"write", FOR_WRITER, 1, 0},
+    [WRITE_JUST_ROOM] = {"write, just room", FOR_WRITER, 1, 0},
+    [WRITE_NO_ROOM] = {"write, no room", FOR_WRITER, 0, 11},
+};
+
+/* No output is too short for an edit of breaks alone. */
+static int suits(const struct test_case *c, const struct message *m, enum operation operation)
 {
-    return operation == NOTHING || (operation >= EDIT) == c->for_editor;
+    return (c->uses & operations[operation].uses) && !(operation == EDIT_NO_ROOM && m->edited == 0);
 }
 
-/* The four numbers of either library's answers. The editor's place and length are wider: the fourth has what is above 32 bits. */
+/* The four numbers of either library's answers. Editor's and reader's place and length are wider: the fourth has what is above 32 bits. */
 struct result {
     uint32_t number, place, first, second;
 };
 
 typedef struct result run_function(enum operation operation, const struct message *m, uint8_t *out);
 
-/* How long an output an edit is given. */
-static size_t room(enum operation operation, const struct message *m)
+/*
+ * How long an output is given to an edit, a reading or a writing: to the plain operation as much as any answer may take, to the next as
+ * much as this answer takes, and to the others, which are refused, a byte less.
+ */
+static size_t room(enum operation operation, enum operation plain, size_t most, size_t taken)
 {
-    if (operation == EDIT)
-        return m->len;
-    return operation == EDIT_JUST_ROOM ? m->edited : m->edited - 1;
+    if (operation == plain)
+        return most;
+    return operation == plain + 1 ? taken : taken - 1;
 }
 
-/* The edits are in a function apart: their answers are too wide for two registers, and in line they made the other calls longer. */
+/* Edits and readings are in functions apart: their answers are too wide for two registers, and in line made the other calls longer. */
 #define DEFINE_RUN(library)                                                                                     \
     static struct result library##_answer_of(library##_answer a)                                                \
     {                                                                                                           \
         return (struct result){a.number, a.place, a.length, a.live};                                            \
     }                                                                                                           \
+    static struct result library##_text_of(library##_text t)                                                    \
+    {                                                                                                           \
+        uint64_t high = (uint64_t)(t.place | t.length) >> 32;                                                   \
+        return (struct result){t.number, (uint32_t)t.place, (uint32_t)t.length, (uint32_t)high};                \
+    }                                                                                                           \
     __attribute__((noinline))                                                                                   \
     static struct result library##_run_edit(enum operation operation, const struct message *m, uint8_t *out)    \
     {                                                                                                           \
-        library##_text t = library##_edit(m->bytes, m->len, out, room(operation, m));                           \
-        uint64_t high = (uint64_t)(t.place | t.length) >> 32;                                                   \
-        return (struct result){t.number, (uint32_t)t.place, (uint32_t)t.length, (uint32_t)high};                \
+        size_t cap = room(operation, EDIT, m->len, m->edited);                                                  \
+        return library##_text_of(library##_edit(m->bytes, m->len, out, cap));                                   \
+    }                                                                                                           \
+    __attribute__((noinline))                                                                                   \
+    static struct result library##_run_read(enum operation operation, const struct message *m, uint8_t *out)    \
+    {                                                                                                           \
+        size_t len = operation == READ_REFUSED ? m->utf8_len + 1 : m->utf8_len;                                 \
+        size_t cap = room(operation, READ, m->utf8_len, m->len);                                                \
+        return library##_text_of(library##_read_utf8(m->utf8, len, out, cap));                                  \
     }                                                                                                           \
     static struct result library##_run(enum operation operation, const struct message *m, uint8_t *out)         \
     {                                                                                                           \
         library##_counts c;                                                                                     \
+        size_t cap;                                                                                             \
         switch (operation) {                                                                                    \
         case CHECK:                                                                                             \
             c = library##_check(m->bytes, m->len);                                                              \
@@ -224,6 +297,16 @@ static size_t room(enum operation operation, const struct message *m)
         case EDIT_JUST_ROOM:                                                                                    \
         case EDIT_NO_ROOM:                                                                                      \
             return library##_run_edit(operation, m, out);                                                       \
+        case READ:                                                                                              \
+        case READ_JUST_ROOM:                                                                                    \
+        case READ_NO_ROOM:                                                                                      \
+        case READ_REFUSED:                                                                                      \
+            return library##_run_read(operation, m, out);                                                       \
+        case WRITE:                                                                                             \
+        case WRITE_JUST_ROOM:                                                                                   \
+        case WRITE_NO_ROOM:                                                                                     \
+            cap = room(operation, WRITE, 2 * m->len, m->utf8_len);                                              \
+            return library##_answer_of(library##_write_utf8(m->bytes, m->len, out, cap));                       \
         default:                                                                                                \
             return (struct result){0, 0, 0, 0};                                                                 \
         }                                                                                                       \
@@ -240,14 +323,16 @@ static uint8_t outputs[2][OUT_BYTES];
 static void make(struct message *message, const struct test_case *c)
 {
     fill(message, c);
-    if (c->for_editor) {
+    if (c->uses & FOR_EDITOR)
         message->edited = baseline_edit(message->bytes, message->len, outputs[0], OUT_BYTES).length;
-        return;
+    if (c->uses & (FOR_MESSAGES | FOR_WRITER)) {
+        end_in_letter(message);
+        if (c->last)
+            end_with(message, c->last);
+        list_all_cuts(message);
     }
-    end_in_letter(message);
-    if (c->last)
-        end_with(message, c->last);
-    list_all_cuts(message);
+    if (c->uses & (FOR_READER | FOR_WRITER))
+        encode(message);
 }
 
 /* Whether the bytes of an output from this place on are those that it had before the call. */
@@ -259,23 +344,23 @@ static int kept(const uint8_t *out, size_t from)
 }
 
 /*
- * Ends the program unless both libraries answer with this number, agree on the answer and on every byte of the output, and keep
- * what is past the answer's length, which is 0 where they refuse.
+ * Ends the program unless both libraries answer with the operation's number, agree on the answer and on every byte of the output, and
+ * keep what is past the answer's length, which is 0 where they refuse.
  */
-static void compare(const struct test_case *c, const struct message *message, enum operation operation, uint32_t number)
+static void compare(const struct test_case *c, const struct message *message, enum operation operation)
 {
     struct result results[2];
     for (int i = 0; i < 2; i++) {
         memset(outputs[i], FILLER, OUT_BYTES);
         results[i] = libraries[i](operation, message, outputs[i]);
-        if (results[i].number != number || !kept(outputs[i], results[i].first)) {
-            fprintf(stderr, "%s fails %s on '%s' of %zu bytes: %u at %u\n", library_names[i], operation_names[operation], c->name,
+        if (results[i].number != operations[operation].number || !kept(outputs[i], results[i].first)) {
+            fprintf(stderr, "%s fails %s on '%s' of %zu bytes: %u at %u\n", library_names[i], operations[operation].name, c->name,
                     c->len, results[i].number, results[i].place);
             exit(1);
         }
     }
     if (memcmp(&results[0], &results[1], sizeof results[0]) != 0 || memcmp(outputs[0], outputs[1], OUT_BYTES) != 0) {
-        fprintf(stderr, "the two differ: %s on '%s' of %zu bytes\n", operation_names[operation], c->name, c->len);
+        fprintf(stderr, "the two differ: %s on '%s' of %zu bytes\n", operations[operation].name, c->name, c->len);
         exit(1);
     }
 }
@@ -313,11 +398,8 @@ static void time_both(enum operation operation, const struct message *message, d
 static void time_case(const struct test_case *c, const struct message *message, enum operation operation)
 {
     double best[2];
-    compare(c, message, operation, 0);
-    if (operation == EDIT_JUST_ROOM && message->edited > 0)
-        compare(c, message, EDIT_NO_ROOM, 11);
     time_both(operation, message, best);
-    printf("%s\t%zu\t%s\t%.2f\t%.2f\n", c->name, c->len, operation_names[operation], best[0] / (double)c->len,
+    printf("%s\t%zu\t%s\t%.2f\t%.2f\n", c->name, c->len, operations[operation].name, best[0] / (double)c->len,
            best[1] / (double)c->len);
 }
 
@@ -330,9 +412,21 @@ static void count_case(const struct test_case *c, const struct message *message,
         CALLGRIND_TOGGLE_COLLECT;
         libraries[i](operation, message, outputs[i]);
         CALLGRIND_TOGGLE_COLLECT;
-        snprintf(label, sizeof label, "%s\t%zu\t%s\t%s", c->name, c->len, operation_names[operation], library_names[i]);
+        snprintf(label, sizeof label, "%s\t%zu\t%s\t%s", c->name, c->len, operations[operation].name, library_names[i]);
         CALLGRIND_DUMP_STATS_AT(label);
     }
+}
+
+static void measure(const struct test_case *c, const struct message *message, enum operation operation, int timing)
+{
+    if (timing)
+        compare(c, message, operation);
+    if (!operations[operation].measured)
+        return;
+    if (timing)
+        time_case(c, message, operation);
+    else
+        count_case(c, message, operation);
 }
 
 int main(int argc, char **argv)
@@ -347,14 +441,9 @@ int main(int argc, char **argv)
     }
     for (size_t i = 0; i < sizeof cases / sizeof cases[0]; i++) {
         make(&message, &cases[i]);
-        for (int operation = timing ? CHECK : NOTHING; operation < MEASURED; operation++) {
-            if (!suits(&cases[i], (enum operation)operation))
-                continue;
-            if (timing)
-                time_case(&cases[i], &message, (enum operation)operation);
-            else
-                count_case(&cases[i], &message, (enum operation)operation);
-        }
+        for (int operation = timing ? CHECK : NOTHING; operation < OPERATIONS; operation++)
+            if (suits(&cases[i], &message, (enum operation)operation))
+                measure(&cases[i], &message, (enum operation)operation, timing);
     }
     return 0;
 }

@@ -1,8 +1,9 @@
 /*
- * A polling daemon's loop over the C interface. Each line of standard input is a text in Windows-1251, without its newline, of any length
- * and with plain punctuation. It is edited first, and for the message that it becomes one line is printed: the codes of the tape in
- * decimal, or the refusal, whose place counts in the edited message. Where the input can't be read any further or there is no memory
- * left, the daemon says so on standard error and ends with nothing spoken of that line.
+ * A polling daemon's loop over the C interface. Each line of standard input is a text in UTF-8, without its newline, of any length and
+ * with plain punctuation. It is read and edited first, and for the message that it becomes one line is printed: the message as it was
+ * understood, in UTF-8, a colon and a space, and the codes of the tape in decimal; or the refusal, whose place counts in the line if the
+ * number is 13, else in the edited message. Where the input can't be read any further or there is no memory left, the daemon says so on
+ * standard error and ends with nothing spoken of that line.
  *
  *     cc -I include examples/daemon.c target/staticlib/libcapi.a -o daemon
  */
@@ -11,9 +12,9 @@
 
 #include "govorun.h"
 
-/* A line, and as much room for its edited form, which is never longer. */
+/* A line, and as much room for what is read of it and for that edited, which are never longer. */
 struct line {
-    uint8_t *text, *edited;
+    uint8_t *text, *read, *edited;
     size_t len, room;
 };
 
@@ -32,6 +33,7 @@ static uint8_t *memory(uint8_t *old, size_t bytes)
 static void make_room(struct line *line, size_t room)
 {
     line->text = memory(line->text, room);
+    line->read = memory(line->read, room);
     line->edited = memory(line->edited, room);
     line->room = room;
 }
@@ -58,37 +60,50 @@ static void print_refusal(uint32_t number, size_t place)
     printf("refused %lu at %zu\n", (unsigned long)number, place);
 }
 
-static void print_tape(const uint8_t *tape, size_t length)
+static void print_spoken(const uint8_t *text, size_t length, const uint8_t *tape, size_t codes)
 {
-    for (size_t i = 0; i < length; i++)
+    fwrite(text, 1, length, stdout);
+    fputs(": ", stdout);
+    for (size_t i = 0; i < codes; i++)
         printf("%s%d", i == 0 ? "" : " ", tape[i]);
     putchar('\n');
 }
 
-/* Asks how long the tape will be, lends just so much, and prints what comes. */
+/* Asks how long the tape will be and lends just so much, for the text twice the message, which is the most; and prints what comes. */
 static void speak(const uint8_t *msg, size_t len)
 {
     govorun_counts counts = govorun_check(msg, len);
-    govorun_answer answer;
-    uint8_t *tape;
+    govorun_answer spoken, shown;
+    uint8_t *tape, *text;
 
     if (counts.number != 0) {
         print_refusal(counts.number, counts.place);
         return;
     }
     tape = memory(NULL, counts.codes);
-    answer = govorun_transcribe(msg, len, tape, counts.codes);
-    if (answer.number != 0)
-        print_refusal(answer.number, answer.place);
+    text = memory(NULL, 2 * len);
+    spoken = govorun_transcribe(msg, len, tape, counts.codes);
+    shown = govorun_write_utf8(msg, len, text, 2 * len);
+    if (spoken.number != 0)
+        print_refusal(spoken.number, spoken.place);
+    else if (shown.number != 0)
+        print_refusal(shown.number, shown.place);
     else
-        print_tape(tape, answer.length);
+        print_spoken(text, shown.length, tape, spoken.length);
+    free(text);
     free(tape);
 }
 
-static void edit_and_speak(struct line *line)
+static void read_and_speak(struct line *line)
 {
-    govorun_text edited = govorun_edit(line->text, line->len, line->edited, line->len);
+    govorun_text read = govorun_read_utf8(line->text, line->len, line->read, line->room);
+    govorun_text edited;
 
+    if (read.number != 0) {
+        print_refusal(read.number, read.place);
+        return;
+    }
+    edited = govorun_edit(line->read, read.length, line->edited, line->room);
     if (edited.number != 0)
         print_refusal(edited.number, edited.place);
     else
@@ -97,16 +112,17 @@ static void edit_and_speak(struct line *line)
 
 int main(void)
 {
-    struct line line = { NULL, NULL, 0, 0 };
+    struct line line = { NULL, NULL, NULL, 0, 0 };
 
     /* Room from the start: the unit is handed no NULL, even for an empty line. */
     make_room(&line, 4096);
     while (read_line(&line)) {
-        edit_and_speak(&line);
+        read_and_speak(&line);
         /* Whoever polls waits for this line. */
         fflush(stdout);
     }
     free(line.text);
+    free(line.read);
     free(line.edited);
     if (ferror(stdin))
         fputs("daemon: standard input could not be read\n", stderr);

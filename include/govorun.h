@@ -4,7 +4,7 @@
  * Link with target/staticlib/libcapi.a, which `rt staticlib capi` writes.
  *
  * Every function here is proved to do what it promises, but for the stack, for all bytes, lengths and outputs whatever:
- *   - it reads only msg[0 .. len) (of the editor text[0 .. len)) and cuts[0 .. n), and writes only out[0 .. cap);
+ *   - it reads only msg[0 .. len) (of editor and reader text[0 .. len)) and cuts[0 .. n), and writes only out[0 .. cap);
  *   - it always returns; it allocates nothing, keeps nothing between calls and calls nothing outside;
  *   - it uses at most 4,096 bytes of stack, its return address with them (measured by the tests on the worst messages, not proved);
  *   - a refusal leaves every byte of out as it was; on acceptance out begins with the answer and its other bytes are kept.
@@ -12,7 +12,8 @@
  * msg, text nor cuts. Where a length is 0 the pointer may be anything but NULL. Calls from several threads don't disturb one another.
  *
  * A message is Windows-1251: words with one gap (0x20) or pause ('#') between neighbours, a stress mark ('*') right after a
- * stressed vowel, at most 4,096 bytes. A text with commas and stops is edited first, by govorun_edit.
+ * stressed vowel, at most 4,096 bytes. A text in UTF-8 is read first, by govorun_read_utf8, and one with commas and stops is then
+ * edited, by govorun_edit. govorun_write_utf8 turns a message back.
  */
 #ifndef GOVORUN_H
 #define GOVORUN_H
@@ -65,7 +66,12 @@ govorun_answer govorun_transcribe(const uint8_t *msg, size_t len, uint8_t *out, 
  */
 govorun_answer govorun_join(const uint8_t *msg, size_t len, const size_t *cuts, size_t n, uint8_t *out, size_t cap);
 
-/* number 0: accepted, place 0, length bytes of out were written. 11: refused, length 0, and the place is the length of the full answer. */
+/*
+ * For texts of any length. number 0: accepted, place 0, length bytes of out were written. Any other number: refused, length 0, and
+ *   11  cap is too small                             the length of the full answer
+ *   13  what stands there in UTF-8 is not taken      the first byte of it
+ * 13, then 11.
+ */
 typedef struct {
     uint32_t number;
     size_t place, length;
@@ -79,6 +85,20 @@ typedef struct {
  * limit of number 2. To edit it again changes nothing, nor does it to edit a message that the check accepts.
  */
 govorun_text govorun_edit(const uint8_t *text, size_t len, uint8_t *out, size_t cap);
+
+/*
+ * Reads a text in UTF-8 (RFC 3629): each Russian letter, small or capital, ё and Ё among them, each mark, gap and pause and each of
+ * . , ; : ? ! - ( ) " ' becomes its own byte, in Windows-1251 and unedited. 13 where the next sequence is malformed or is any other
+ * character, at its first byte, also where cap is too small. A text may have any length, 0 too, and 1 to 10 are not looked for. At
+ * most len bytes are written, so an output of len bytes is always enough.
+ */
+govorun_text govorun_read_utf8(const uint8_t *text, size_t len, uint8_t *out, size_t cap);
+
+/*
+ * Writes a message in UTF-8, each letter as it stands, small or capital. 1 to 10 as for the check, then 11. At most 2 * len bytes.
+ * govorun_read_utf8 gives the message back; and where a text was read and is an accepted message, this gives the text back.
+ */
+govorun_answer govorun_write_utf8(const uint8_t *msg, size_t len, uint8_t *out, size_t cap);
 
 #ifdef __cplusplus
 }

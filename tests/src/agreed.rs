@@ -1,18 +1,33 @@
-//! The operations as all implementations agree on them. Each call asks the library, in `print` the
-//! program, and ends the test unless the answer and every byte of the output are those of the
-//! implementation written from the paper; then it hands the answer on.
+//! The operations as all implementations agree on them. Each call asks the library, in `print` and
+//! `speak` a program, and ends the test unless the answer and every byte of the output are those of
+//! the implementation written from the papers; then it hands the answer on.
 
+use std::thread;
 use std::time::Duration;
 
-use crate::answers::{expected_print, Answer, Whole};
+use crate::answers::{Answer, Whole};
+use crate::program::{Program, GOVORUN, SPEAK};
 use crate::refusals::Refusal;
 use crate::text::hex;
 use crate::trial::{Operation, Trial};
-use crate::{program, unit, Counts, Joined};
+use crate::{unit, Counts, Joined};
+
+/// How many processes run at a time where there are many inputs.
+const WORKERS: usize = 2;
 
 /// The editor with an output of `cap` bytes.
 pub fn edit(text: &[u8], cap: usize) -> Result<Vec<u8>, Refusal> {
     with_output(Operation::Edit, text, cap).map(|(edited, _)| edited)
+}
+
+/// The reader of UTF-8 with an output of `cap` bytes.
+pub fn read_utf8(text: &[u8], cap: usize) -> Result<Vec<u8>, Refusal> {
+    with_output(Operation::ReadUtf8, text, cap).map(|(read, _)| read)
+}
+
+/// The writer of UTF-8 with an output of `cap` bytes.
+pub fn write_utf8(msg: &[u8], cap: usize) -> Result<Vec<u8>, Refusal> {
+    with_output(Operation::WriteUtf8, msg, cap).map(|(written, _)| written)
 }
 
 /// The message check.
@@ -37,11 +52,31 @@ pub fn join(msg: &[u8], cuts: &[usize], cap: usize) -> Result<Joined, Refusal> {
     with_output(Operation::Join(cuts), msg, cap).map(|(tape, live)| Joined { tape, live })
 }
 
-/// What the program prints.
+/// What the program `govorun` prints for a message.
 pub fn print(input: &[u8]) -> String {
-    let given = program::piped(input, input.len().max(1), Duration::ZERO);
-    assert_eq!(given, expected_print(input), "message {}", hex(input));
+    printed(GOVORUN, input)
+}
+
+/// What the program `speak` prints for a text in UTF-8.
+pub fn speak(input: &[u8]) -> String {
+    printed(SPEAK, input)
+}
+
+fn printed(program: Program, input: &[u8]) -> String {
+    let given = program.piped(input, input.len().max(1), Duration::ZERO);
+    assert_eq!(given, (program.expected)(input), "input {}", hex(input));
     given
+}
+
+/// Tries a program on all inputs; the workers take them in turns.
+pub fn print_all(program: Program, inputs: &[Vec<u8>]) {
+    println!("{} inputs", inputs.len());
+    thread::scope(|scope| {
+        for worker in 0..WORKERS {
+            let mine = inputs.iter().skip(worker).step_by(WORKERS);
+            scope.spawn(move || mine.map(|input| printed(program, input)).for_each(drop));
+        }
+    });
 }
 
 /// An operation with this output lent to it: its answer, and the output afterwards.

@@ -1,8 +1,12 @@
 //! What an operation must answer and leave in the lent output, as the paper's refusal section
 //! says it: a refusal keeps every byte of the output, an answer takes its beginning only.
 
+use crate::editing::edited;
 use crate::refusals::Refusal;
-use crate::{edit, fit, join, names, tape};
+use crate::{edit, fit, join, names, read_utf8, tape, write_utf8};
+
+/// The most bytes of standard input that the program `speak` takes.
+pub const MAX_INPUT: usize = 65_536;
 
 /// The four numbers of an answer, wide enough for whatever the library gives. An accepted message
 /// has number 0 and place 0.
@@ -17,7 +21,7 @@ pub struct Answer {
 impl Answer {
     /// The refusal, unless the message was accepted.
     pub fn refusal(self) -> Option<Refusal> {
-        let number = u8::try_from(self.number).expect("no number is above 12");
+        let number = u8::try_from(self.number).expect("no number is above 13");
         let place = self.place;
         (number != 0).then_some(Refusal { number, place })
     }
@@ -29,6 +33,14 @@ pub type Whole = Result<(Vec<u8>, usize), Refusal>;
 
 pub fn whole_edit(text: &[u8]) -> Whole {
     edit(text, usize::MAX).map(|edited| (edited, 0))
+}
+
+pub fn whole_read_utf8(text: &[u8]) -> Whole {
+    read_utf8(text, usize::MAX).map(|read| (read, 0))
+}
+
+pub fn whole_write_utf8(msg: &[u8]) -> Whole {
+    write_utf8(msg, usize::MAX).map(|written| (written, 0))
 }
 
 pub fn whole_names(msg: &[u8]) -> Whole {
@@ -69,13 +81,28 @@ pub fn lent(whole: &Whole, before: &[u8]) -> (Answer, Vec<u8>) {
     (answer, after)
 }
 
-/// What the program prints for the bytes of its standard input.
+/// What the program `govorun` prints for the bytes of its standard input, a message.
 pub fn expected_print(input: &[u8]) -> String {
     match tape(input, usize::MAX) {
         Ok(tape) => {
             let codes: Vec<String> = tape.iter().map(u8::to_string).collect();
             codes.join(" ") + "\n"
         }
-        Err(Refusal { number, place }) => format!("refused {number} at {place}\n"),
+        Err(refusal) => print_refusal(refusal),
     }
+}
+
+/// What the program `speak` prints for the bytes of its standard input, a text in UTF-8.
+pub fn expected_speech(input: &[u8]) -> String {
+    if input.len() > MAX_INPUT {
+        return print_refusal(Refusal::new(2, 0));
+    }
+    match read_utf8(input, usize::MAX) {
+        Ok(read) => expected_print(&edited(&read)),
+        Err(refusal) => print_refusal(refusal),
+    }
+}
+
+fn print_refusal(refusal: Refusal) -> String {
+    format!("refused {} at {}\n", refusal.number, refusal.place)
 }

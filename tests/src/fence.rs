@@ -1,16 +1,25 @@
 //! Memory between two pages that nobody may touch: a step outside it ends the test at once.
 
-use std::ffi::c_void;
+use std::ffi::{c_char, c_void};
+use std::fs::File;
+use std::io::Write;
+use std::os::fd::{AsRawFd, FromRawFd};
 use std::slice::from_raw_parts_mut;
 
 const PAGE: usize = 4096;
+/// How many bytes of what is repeated stand in memory once.
+const STRETCH: usize = 1 << 21;
 
 const PROT_NONE: i32 = 0;
 const PROT_READ_WRITE: i32 = 3;
 /// MAP_PRIVATE, MAP_ANONYMOUS and MAP_NORESERVE: zeros, and no memory until they are touched.
 const FLAGS: i32 = 0x02 | 0x20 | 0x4000;
+/// MAP_PRIVATE, MAP_FIXED and MAP_NORESERVE: the bytes of a file in the place of what was there,
+/// and memory only for the pages that are changed.
+const FROM_FILE: i32 = 0x02 | 0x10 | 0x4000;
 
 extern "C" {
+    fn memfd_create(name: *const c_char, flags: u32) -> i32;
     fn mmap(at: *mut c_void, len: usize, prot: i32, flags: i32, fd: i32, from: i64) -> *mut c_void;
     fn mprotect(at: *mut c_void, len: usize, prot: i32) -> i32;
     fn munmap(at: *mut c_void, len: usize) -> i32;
@@ -39,6 +48,19 @@ impl Fenced {
         Fenced { fence, length }
     }
 
+    /// At least so many bytes, the same few over and over.
+    pub fn filled(at_least: usize, repeated: &[u8]) -> Self {
+        let mut filled = Fenced::new(at_least.next_multiple_of(STRETCH));
+        let file = stretch(repeated);
+        for part in filled.whole().chunks_exact_mut(STRETCH) {
+            let (at, fd) = (part.as_mut_ptr().cast(), file.as_raw_fd());
+            // SAFETY: the part is ours, and whole pages.
+            let mapped = unsafe { mmap(at, STRETCH, PROT_READ_WRITE, FROM_FILE, fd, 0) };
+            assert_eq!(mapped, at, "the system puts the bytes there");
+        }
+        filled
+    }
+
     /// All bytes.
     pub fn whole(&mut self) -> &mut [u8] {
         // SAFETY: the pages after the first are ours, readable and writable.
@@ -55,6 +77,20 @@ impl Fenced {
         let start = self.length - count;
         &mut self.whole()[start..]
     }
+}
+
+/// A file without a name that holds a stretch of these bytes, repeated.
+fn stretch(repeated: &[u8]) -> File {
+    let count = STRETCH / repeated.len();
+    assert_eq!(count * repeated.len(), STRETCH, "whole repetitions");
+    // SAFETY: the name ends in 0.
+    let opened = unsafe { memfd_create(c"stretch".as_ptr(), 0) };
+    assert_ne!(opened, -1, "the system gives a file");
+    // SAFETY: the file was just opened, for us alone.
+    let mut file = unsafe { File::from_raw_fd(opened) };
+    let written = file.write_all(&repeated.repeat(count));
+    written.expect("room for a stretch");
+    file
 }
 
 /// The bytes at one of the two fences.

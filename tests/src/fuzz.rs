@@ -1,9 +1,12 @@
-//! What a fuzzer's bytes stand for: a list of cuts and a message. `fuzz/` has the target.
+//! What a fuzzer's bytes stand for: a list of cuts and a message, or a text in its place. `fuzz/`
+//! has the target.
 
 use crate::editing::edited;
 use crate::gen::Rng;
 use crate::message::breaks;
-use crate::trial;
+use crate::text::hex;
+use crate::trial::{self, Operation, Trial};
+use crate::{read_utf8, write_utf8};
 
 /// How many bytes a cut that is written out takes.
 const WRITTEN: usize = 3;
@@ -34,15 +37,37 @@ impl<'a> Input<'a> {
         Input { cuts, msg }
     }
 
-    /// Tries all operations, and says what is wrong with the library's answer. If the editor changes
-    /// the message, what it becomes is tried too, cut at every break.
+    /// Tries all operations, reader and writer too, and says what is wrong with the library's answer.
+    /// If the editor changes the message, or if it is a text in UTF-8, what it becomes is tried as
+    /// well, cut at every break; and if it is written, that is read back.
     pub fn compare(&self, rng: &mut Rng) -> Result<(), String> {
         compare(rng, self.msg, &self.cuts)?;
-        let edited = edited(self.msg);
-        if edited != self.msg {
-            compare(rng, &edited, &breaks(&edited))?;
+        self.compare_made(rng, &edited(self.msg))?;
+        if let Ok(read) = read_utf8(self.msg, usize::MAX) {
+            self.compare_made(rng, &edited(&read))?;
+        }
+        if let Ok(written) = write_utf8(self.msg, usize::MAX) {
+            compare_read(rng, &written, self.msg)?;
         }
         Ok(())
+    }
+
+    /// Tries what the message becomes, if that is another.
+    fn compare_made(&self, rng: &mut Rng, made: &[u8]) -> Result<(), String> {
+        if made == self.msg {
+            return Ok(());
+        }
+        compare(rng, made, &breaks(made))
+    }
+}
+
+/// What was written of a message must be read as the message.
+fn compare_read(rng: &mut Rng, written: &[u8], msg: &[u8]) -> Result<(), String> {
+    let trial = Trial::new(Operation::ReadUtf8, written);
+    trial.with_output(rng, msg.len())?;
+    match trial.whole() {
+        Ok((read, _)) if read == msg => Ok(()),
+        whole => Err(format!("{whole:?} is read back of {}", hex(msg))),
     }
 }
 

@@ -7,6 +7,7 @@ pub mod extreme;
 pub mod lexicon;
 pub mod noise;
 pub mod punctuated;
+pub mod utf8;
 
 pub use accepted::{message, message_of_any_length, word};
 pub use cuts::{bad_cuts, every_list, good_cuts, BadCut};

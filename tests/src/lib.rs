@@ -1,9 +1,10 @@
-//! A second implementation of document 01 and of request 1 of document 02, written from the papers
-//! for comparison. It says what each operation must answer; it is plain rather than fast.
+//! A second implementation of document 01 and of requests 1 and 2 of document 02, written from the
+//! papers for comparison. It says what each operation must answer; it is plain rather than fast.
 //!
-//! The modules follow the papers: letters, refusals, the five passes, codes, joints; and editing.
-//! Beside them stand `gen` with the messages to try, `unit` and `program` with the library and the
-//! program under test, and what holds them to each other: `trial`, and `agreed` for the tests.
+//! The modules follow the papers: letters, refusals, the five passes, codes, joints; then editing
+//! and UTF-8. Beside them stand `gen` with the messages to try, `unit` and `program` with the
+//! library and the programs under test, and what holds them to each other: `trial`, and `agreed`
+//! for the tests.
 
 pub mod agreed;
 pub mod answers;
@@ -26,10 +27,11 @@ pub mod text;
 pub mod transcription;
 pub mod trial;
 pub mod unit;
+pub mod utf8;
 pub mod voicing;
 pub mod vowels;
 
-pub use answers::{expected_print, Answer};
+pub use answers::{expected_print, expected_speech, Answer};
 pub use codes::spell;
 pub use refusals::Refusal;
 pub use text::{cp1251, hex, show};
@@ -53,6 +55,17 @@ pub struct Joined {
 /// The editor with an output of `cap` bytes.
 pub fn edit(text: &[u8], cap: usize) -> Result<Vec<u8>, Refusal> {
     fit(editing::edited(text), cap)
+}
+
+/// The reader of UTF-8 with an output of `cap` bytes.
+pub fn read_utf8(text: &[u8], cap: usize) -> Result<Vec<u8>, Refusal> {
+    fit(utf8::read(text)?, cap)
+}
+
+/// The writer of UTF-8 with an output of `cap` bytes.
+pub fn write_utf8(msg: &[u8], cap: usize) -> Result<Vec<u8>, Refusal> {
+    accept(msg)?;
+    fit(utf8::written(msg), cap)
 }
 
 /// The message check: refusals 1 to 10, or the lengths of the answers.

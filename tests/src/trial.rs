@@ -1,7 +1,10 @@
-//! One call of the library beside what the paper asks of it: the answer, and every byte of the
+//! One call of the library beside what the papers ask of it: the answer, and every byte of the
 //! lent memory and around it.
 
-use crate::answers::{lent, whole_edit, whole_join, whole_names, whole_tape, Answer, Whole};
+use crate::answers::{
+    lent, whole_edit, whole_join, whole_names, whole_read_utf8, whole_tape, whole_write_utf8,
+    Answer, Whole,
+};
 use crate::gen::{noise, Rng};
 use crate::text::{hex, show};
 use crate::unit;
@@ -16,16 +19,20 @@ const SHORT: usize = 12;
 #[derive(Clone, Copy, Debug)]
 pub enum Operation<'a> {
     Edit,
+    ReadUtf8,
+    WriteUtf8,
     Name,
     Transcribe,
     Join(&'a [usize]),
 }
 
 impl Operation<'_> {
-    /// The answer that the paper asks for, before an output is lent.
+    /// The answer that the papers ask for, before an output is lent.
     fn whole(self, msg: &[u8]) -> Whole {
         match self {
             Operation::Edit => whole_edit(msg),
+            Operation::ReadUtf8 => whole_read_utf8(msg),
+            Operation::WriteUtf8 => whole_write_utf8(msg),
             Operation::Name => whole_names(msg),
             Operation::Transcribe => whole_tape(msg),
             Operation::Join(cuts) => whole_join(msg, cuts),
@@ -36,9 +43,19 @@ impl Operation<'_> {
     fn call(self, msg: &[u8], out: &mut [u8]) -> Answer {
         match self {
             Operation::Edit => unit::edit(msg, out).into(),
+            Operation::ReadUtf8 => unit::read_utf8(msg, out).into(),
+            Operation::WriteUtf8 => unit::write_utf8(msg, out).into(),
             Operation::Name => unit::name(msg, out).into(),
             Operation::Transcribe => unit::transcribe(msg, out).into(),
             Operation::Join(cuts) => unit::join(msg, cuts, out).into(),
+        }
+    }
+
+    /// What it is given, for a report.
+    fn told(self, msg: &[u8]) -> String {
+        match self {
+            Operation::ReadUtf8 => told(msg, &String::from_utf8_lossy(msg)),
+            _ => told(msg, &show(msg)),
         }
     }
 }
@@ -95,11 +112,11 @@ pub fn check(rng: &mut Rng, msg: &[u8]) -> Result<(), String> {
     }
     Err(format!(
         "the check gives {given:?} in the place of {expected:?}\n{}",
-        told(msg)
+        told(msg, &show(msg))
     ))
 }
 
-/// An operation on a message, with the answer that the paper asks for.
+/// An operation on a message, with the answer that the papers ask for.
 pub struct Trial<'a> {
     operation: Operation<'a>,
     msg: &'a [u8],
@@ -113,6 +130,11 @@ impl<'a> Trial<'a> {
             msg,
             whole: operation.whole(msg),
         }
+    }
+
+    /// The answer that the papers ask for, before an output is lent.
+    pub fn whole(&self) -> &Whole {
+        &self.whole
     }
 
     /// The length of the whole answer; 0 for a refusal.
@@ -152,18 +174,14 @@ impl<'a> Trial<'a> {
     }
 
     fn told(&self, wrong: &str) -> String {
-        format!("{:?} {wrong}\n{}", self.operation, told(self.msg))
+        let operation = self.operation;
+        format!("{operation:?} {wrong}\n{}", operation.told(self.msg))
     }
 }
 
-/// The message for a report.
-fn told(msg: &[u8]) -> String {
-    format!(
-        "message of {} bytes: {}\n{}",
-        msg.len(),
-        hex(msg),
-        show(msg)
-    )
+/// A message or a text for a report.
+fn told(msg: &[u8], shown: &str) -> String {
+    format!("{} bytes: {}\n{shown}", msg.len(), hex(msg))
 }
 
 fn told_memory(out: &Placed, expected: &[u8]) -> String {
@@ -174,9 +192,11 @@ fn told_memory(out: &Placed, expected: &[u8]) -> String {
 }
 
 /// The operations that write to an output.
-pub fn writing(cuts: &[usize]) -> [Operation<'_>; 4] {
+pub fn writing(cuts: &[usize]) -> [Operation<'_>; 6] {
     [
         Operation::Edit,
+        Operation::ReadUtf8,
+        Operation::WriteUtf8,
         Operation::Name,
         Operation::Transcribe,
         Operation::Join(cuts),

@@ -42,6 +42,8 @@ pub mod raw {
     #[link(name = "capi", kind = "static")]
     extern "C" {
         pub fn govorun_edit(text: *const u8, len: usize, out: *mut u8, cap: usize) -> Text;
+        pub fn govorun_read_utf8(text: *const u8, len: usize, out: *mut u8, cap: usize) -> Text;
+        pub fn govorun_write_utf8(msg: *const u8, len: usize, out: *mut u8, cap: usize) -> Answer;
         pub fn govorun_check(msg: *const u8, len: usize) -> Counts;
         pub fn govorun_name(msg: *const u8, len: usize, out: *mut u8, cap: usize) -> Answer;
         pub fn govorun_transcribe(msg: *const u8, len: usize, out: *mut u8, cap: usize) -> Answer;
@@ -60,6 +62,16 @@ pub fn edit(text: &[u8], out: &mut [u8]) -> Text {
     // SAFETY: a slice points to as many bytes as it says, and what is borrowed for writing overlaps
     // nothing else; so too below.
     unsafe { raw::govorun_edit(text.as_ptr(), text.len(), out.as_mut_ptr(), out.len()) }
+}
+
+pub fn read_utf8(text: &[u8], out: &mut [u8]) -> Text {
+    // SAFETY: as above.
+    unsafe { raw::govorun_read_utf8(text.as_ptr(), text.len(), out.as_mut_ptr(), out.len()) }
+}
+
+pub fn write_utf8(msg: &[u8], out: &mut [u8]) -> Answer {
+    // SAFETY: as above.
+    unsafe { raw::govorun_write_utf8(msg.as_ptr(), msg.len(), out.as_mut_ptr(), out.len()) }
 }
 
 pub fn check(msg: &[u8]) -> Counts {
@@ -96,7 +108,7 @@ impl From<Answer> for crate::Answer {
     }
 }
 
-/// The editor counts no live cuts.
+/// Editor and reader count no live cuts.
 impl From<Text> for crate::Answer {
     fn from(given: Text) -> Self {
         crate::Answer {

@@ -1,20 +1,22 @@
-//! The daemon in C: it builds without a warning, edits each line and answers as expected, and
-//! touches no memory that is not its own.
+//! The daemon in C: it builds without a warning, reads and edits each line and answers as expected,
+//! and touches no memory that is not its own.
 
 use std::fs::File;
-use std::io::Write;
+use std::io::{BufRead, BufReader, Write};
 use std::path::{Path, PathBuf};
 use std::process::{Command, Stdio};
 use std::sync::OnceLock;
 
 use govorun_tests::editing::edited;
 use govorun_tests::gen::damaged::{Spot, SPOTS};
-use govorun_tests::gen::noise::string;
+use govorun_tests::gen::noise::{bytes, string};
 use govorun_tests::gen::punctuated::BREAKS;
+use govorun_tests::gen::utf8::{taken, untaken};
 use govorun_tests::gen::{damaged, message, message_of_any_length, punctuated, Rng};
 use govorun_tests::input::{directory, impatient};
 use govorun_tests::unit::ARCHIVE;
-use govorun_tests::{cp1251, expected_print};
+use govorun_tests::utf8::{read, written};
+use govorun_tests::{expected_print, write_utf8};
 
 /// What to do about a missing tool.
 const SET_UP: &str = "tests/setup installs what is missing";
@@ -51,55 +53,91 @@ fn output(command: &mut Command, input: &[u8]) -> String {
     String::from_utf8_lossy(&output.stdout).into_owned()
 }
 
-/// Lines of the daemon's input, with and without punctuation.
+/// Lines of the daemon's input, with and without punctuation, and some that can't be read.
 fn lines() -> Vec<Vec<u8>> {
     let mut rng = Rng::for_test(60);
-    let plain = "|ду*б ра*д|са*д к до*му|а7|#|\0|а\r";
+    let plain = "|ду*б ра*д|Ду*б Ра*д|са*д к до*му|Ёлка|а7|#|\0|а\r";
     let sentences = "Насо*сная, ста*нция.|\"Ду*б\" - (ра*д)?!|...| - |а, 7|-ьа";
     let texts = plain.split('|').chain(sentences.split('|'));
-    let mut lines: Vec<Vec<u8>> = texts.map(cp1251).collect();
-    lines.extend((0..40).map(|_| message_of_any_length(&mut rng)));
-    for number in 1..=10 {
-        lines.extend(SPOTS.map(|spot: Spot| damaged(&mut rng, number, spot).0));
+    let mut lines: Vec<Vec<u8>> = texts.map(Vec::from).collect();
+    lines.extend(messages(&mut rng).iter().map(|msg| written(msg)));
+    for sequence in untaken() {
+        let [before, after] = [(); 2].map(|()| taken(&mut rng, 20));
+        lines.push([before.as_bytes(), &sequence, after.as_bytes()].concat());
     }
-    for length in [1, 30, 300, 4095, 4096, 4097, 4098, 20_000] {
-        let msg = message(&mut rng, length);
-        lines.push(punctuated(&mut rng, &msg, 9));
-        lines.push(msg);
-    }
-    lines.push(string(&mut rng, BREAKS, 10_000));
+    lines.push(bytes(&mut rng, 10_000));
     // A newline would make two lines of one.
     lines.retain(|line| !line.contains(&b'\n'));
     lines
+}
+
+/// Messages and texts that become some, accepted and refused.
+fn messages(rng: &mut Rng) -> Vec<Vec<u8>> {
+    let mut messages: Vec<Vec<u8>> = (0..40).map(|_| message_of_any_length(rng)).collect();
+    for number in (1..=10).filter(|&number| number != 3) {
+        messages.extend(SPOTS.map(|spot: Spot| damaged(rng, number, spot).0));
+    }
+    for length in [1, 30, 300, 4095, 4096, 4097, 4098, 20_000] {
+        let msg = message(rng, length);
+        messages.push(punctuated(rng, &msg, 9));
+        messages.push(msg);
+    }
+    messages.push(string(rng, BREAKS, 10_000));
+    messages
+}
+
+/// What the daemon must print for a line: the message as it was understood and its codes, or a
+/// refusal.
+fn expected(line: &[u8]) -> String {
+    let msg = match read(line) {
+        Ok(read) => edited(&read),
+        Err(refusal) => return format!("refused 13 at {}\n", refusal.place),
+    };
+    let print = expected_print(&msg);
+    match write_utf8(&msg, usize::MAX) {
+        Ok(shown) => format!("{}: {print}", String::from_utf8_lossy(&shown)),
+        Err(_) => print,
+    }
 }
 
 /// Hands the lines to a command and compares every line that it prints.
 fn answers_as_expected(command: &mut Command, lines: &[Vec<u8>]) {
     let mut input = lines.join(&b'\n');
     input.push(b'\n');
-    let expected = lines.iter().map(|line| expected_print(&edited(line)));
     let printed = output(command, &input);
     assert_eq!(printed.lines().count(), lines.len());
-    for (given, expected) in printed.lines().zip(expected) {
-        assert_eq!(given, expected.trim_end());
+    for (given, line) in printed.lines().zip(lines) {
+        assert_eq!(given, expected(line).trim_end());
     }
 }
 
 #[test]
 fn daemon_answers_each_line() {
     let lines = lines();
-    assert!(lines.len() >= 90);
+    assert!(lines.len() >= 200);
     answers_as_expected(&mut Command::new(daemon()), &lines);
+}
+
+#[test]
+fn daemon_shows_what_it_understood() {
+    let run = |line: &str| output(&mut Command::new(daemon()), line.as_bytes());
+    let spoken = "Ду*б#ра*д: 24 6 39 63 41 1 45\n";
+    assert_eq!(run("\"Ду*б\", - (ра*д)!"), spoken);
+    assert_eq!(run("Ду*б#ра*д\n"), spoken);
+    assert_eq!(run("ду*б☃"), "refused 13 at 7\n");
+    assert_eq!(run("- а, б*"), "refused 5 at 3\n");
 }
 
 /// Only what is left of a line after editing must not be too long.
 #[test]
 fn daemon_on_long_lines() {
-    let run = |line: String| output(&mut Command::new(daemon()), &cp1251(&line));
-    let spoken = vec!["7"; 2048].join(" 63 ") + "\n";
-    assert_eq!(run("а, ".repeat(2048)), spoken);
+    let run = |line: String| output(&mut Command::new(daemon()), line.as_bytes());
+    let shown = vec!["а"; 2048].join("#");
+    let spoken = vec!["7"; 2048].join(" 63 ");
+    assert_eq!(run("а, ".repeat(2048)), format!("{shown}: {spoken}\n"));
     assert_eq!(run("а, ".repeat(2049)), "refused 2 at 0\n");
-    assert_eq!(run("-".repeat(100_000) + "а"), "7\n");
+    assert_eq!(run("-".repeat(100_000) + "а"), "а: 7\n");
+    assert_eq!(run("а".repeat(100_000) + "7"), "refused 13 at 200000\n");
 }
 
 #[test]
@@ -107,8 +145,28 @@ fn daemon_at_the_end_of_its_input() {
     let run = |input: &[u8]| output(&mut Command::new(daemon()), input);
     assert_eq!(run(b""), "");
     assert_eq!(run(b"\n"), "refused 1 at 0\n");
-    assert_eq!(run(b"\xE0"), "7\n");
-    assert_eq!(run(b"\xE0\n\n\xE0"), "7\nrefused 1 at 0\n7\n");
+    assert_eq!(run("а".as_bytes()), "а: 7\n");
+    let three = "а: 7\nrefused 1 at 0\nи: 10\n";
+    assert_eq!(run("а\n\nи".as_bytes()), three);
+}
+
+/// Whoever polls waits for the answer to a line before the next one is sent.
+#[test]
+fn daemon_answers_before_the_next_line() {
+    let mut command = Command::new("timeout");
+    command.arg("20").arg(daemon());
+    let started = command.stdin(Stdio::piped()).stdout(Stdio::piped()).spawn();
+    let mut child = started.expect("timeout is installed");
+    let mut pipe = child.stdin.take().expect("a pipe was asked for");
+    let mut answers = BufReader::new(child.stdout.take().expect("a pipe was asked for"));
+    for (line, expected) in [("а\n", "а: 7\n"), ("7\n", "refused 13 at 0\n")] {
+        pipe.write_all(line.as_bytes()).expect("the daemon reads");
+        let mut answer = String::new();
+        answers.read_line(&mut answer).expect("the daemon answers");
+        assert_eq!(answer, expected);
+    }
+    drop(pipe);
+    assert!(child.wait().expect("the daemon ends").success());
 }
 
 /// What a command prints and what it complains of before it fails.
@@ -128,9 +186,9 @@ fn print_before_failing(input: Stdio) -> String {
 
 #[test]
 fn daemon_speaks_no_part_of_a_line() {
-    let (input, _end) = impatient(&cp1251("ду*б\nго*л"));
-    assert_eq!(print_before_failing(input), expected_print(&cp1251("ду*б")));
-    let (input, _end) = impatient(&cp1251("го*л"));
+    let (input, _end) = impatient("ду*б\nго*л".as_bytes());
+    assert_eq!(print_before_failing(input), "ду*б: 24 6 39\n");
+    let (input, _end) = impatient("го*л".as_bytes());
     assert_eq!(print_before_failing(input), "");
     assert_eq!(print_before_failing(directory()), "");
 }

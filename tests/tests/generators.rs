@@ -1,10 +1,12 @@
 //! The generators do what they promise: their accepted messages are accepted, their damaged ones
-//! refused as made, their lists of cuts good or bad as asked. This tries the check from both sides.
+//! refused as made, their lists of cuts good or bad as asked, their texts in UTF-8 read or refused.
+//! This tries the check and the reader from both sides.
 
-use govorun_tests::agreed::{check, join, tape};
+use govorun_tests::agreed::{check, join, read_utf8, tape};
 use govorun_tests::gen::cuts::BAD_CUTS;
 use govorun_tests::gen::damaged::{Spot, SPOTS};
 use govorun_tests::gen::lexicon;
+use govorun_tests::gen::utf8::{taken, untaken};
 use govorun_tests::gen::{
     bad_cuts, damaged, every_list, good_cuts, message, message_of_any_length, noise, Rng,
 };
@@ -120,5 +122,27 @@ fn random_bytes_get_an_answer() {
             assert!((1..=10).contains(&refusal.number), "{}", hex(&msg));
             assert!(refusal.place < msg.len().max(1), "{}", hex(&msg));
         }
+    }
+}
+
+#[test]
+fn texts_of_what_is_taken_are_read() {
+    let mut rng = Rng::for_test(13);
+    for characters in 0..600 {
+        let text = taken(&mut rng, characters);
+        let read = read_utf8(text.as_bytes(), characters);
+        assert_eq!(read, Ok(cp1251(&text)), "{text}");
+    }
+}
+
+#[test]
+fn wrong_sequences_are_refused_at_their_first_byte() {
+    let sequences = untaken();
+    let malformed = |sequence: &&Vec<u8>| std::str::from_utf8(sequence).is_err();
+    let count = sequences.iter().filter(malformed).count();
+    assert!(count >= 60 && sequences.len() - count >= 60);
+    for sequence in sequences {
+        let refused = read_utf8(&sequence, usize::MAX);
+        assert_eq!(refused, Err(Refusal::new(13, 0)), "{}", hex(&sequence));
     }
 }

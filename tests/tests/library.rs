@@ -10,7 +10,7 @@ use govorun_tests::gen::{
 };
 use govorun_tests::message::breaks;
 use govorun_tests::trial::{self, Operation, Trial};
-use govorun_tests::{check, cp1251, hex, tape, unit};
+use govorun_tests::{check, cp1251, hex, unit};
 
 /// All operations on one message with one list of cuts.
 fn agrees(rng: &mut Rng, msg: &[u8], cuts: &[usize]) {
@@ -188,6 +188,9 @@ fn extreme_messages_with_many_cuts() {
     }
 }
 
+/// As many bytes as an answer can have.
+const MOST: usize = 2 * 4096;
+
 /// An operation with all its memory at fences: the bytes of the message, the cuts and the output
 /// stand right after a fence or right before one.
 struct AtFences {
@@ -201,12 +204,12 @@ impl AtFences {
         AtFences {
             msg: Fenced::new(4096 + 100),
             cuts: Fenced::new(2048 * size_of::<usize>()),
-            out: Fenced::new(2 * 4096),
+            out: Fenced::new(MOST),
         }
     }
 
-    /// All operations, with outputs of these lengths.
-    fn agree(&mut self, side: Side, msg: &[u8], cuts: &[usize], caps: &[usize]) {
+    /// All operations, with no output, one byte too few, just enough and some more.
+    fn agree(&mut self, side: Side, msg: &[u8], cuts: &[usize]) {
         let placed = side(&mut self.msg, msg.len());
         placed.copy_from_slice(msg);
         let list = as_places(side(&mut self.cuts, size_of_val(cuts)));
@@ -214,7 +217,9 @@ impl AtFences {
         assert_eq!(unit::check(placed), check(msg).into(), "{}", hex(msg));
         for operation in trial::writing(list) {
             let trial = Trial::new(operation, msg);
-            for &cap in caps {
+            let full = trial.length();
+            for cap in [0, full.saturating_sub(1), full, full + 10] {
+                let cap = cap.min(MOST);
                 let tried = trial.in_place(placed, side(&mut self.out, cap));
                 tried.unwrap_or_else(|difference| panic!("{difference}"));
             }
@@ -230,12 +235,10 @@ fn nothing_outside_is_touched() {
         let side = SIDES[round % 2];
         let number = 3 + round as u8 % 8;
         let (bad, _) = damaged(&mut rng, number, SPOTS[round % 3]);
-        memory.agree(side, &bad, &[], &[1]);
+        memory.agree(side, &bad, &[]);
         let msg = message_of_any_length(&mut rng);
         let cuts = good_cuts(&mut rng, &msg);
-        let full = tape(&msg, usize::MAX).expect("an accepted message").len();
-        let longer = (full + 10).min(2 * 4096);
-        memory.agree(side, &msg, &cuts, &[0, full - 1, full, longer]);
+        memory.agree(side, &msg, &cuts);
     }
 }
 
@@ -273,6 +276,7 @@ fn lengths_above_32_bits() {
         unit::name(long, &mut out),
         unit::transcribe(long, &mut out),
         unit::join(long, &[1], &mut out),
+        unit::write_utf8(long, &mut out),
     ] {
         assert_eq!((answer.number, answer.place, out), (2, 0, [9; 8]));
     }
@@ -280,6 +284,7 @@ fn lengths_above_32_bits() {
     assert_eq!(unit::name(&msg, lent).length, 2);
     assert_eq!(unit::transcribe(&msg, lent).length, 3);
     assert_eq!(unit::join(&msg, &[1], lent).length, 3);
+    assert_eq!(unit::write_utf8(&msg, lent).length, 5);
     let mut zeros = Fenced::new(HUGE * size_of::<usize>());
     let answer = unit::join(&msg, as_places(zeros.whole()), &mut out);
     assert_eq!((answer.number, answer.place, out), (12, 0, [9; 8]));

@@ -1,29 +1,22 @@
-//! The built program beside the expected print.
+//! The built program `govorun` beside the expected print.
 
 use std::fs::File;
 use std::path::Path;
 use std::process::Stdio;
-use std::thread;
 use std::time::Duration;
 
-use govorun_tests::agreed::print;
+use govorun_tests::agreed::{print, print_all};
 use govorun_tests::gen::damaged::SPOTS;
 use govorun_tests::gen::noise::{bytes, string};
-use govorun_tests::gen::{damaged, lexicon, message, message_of_any_length, word, Rng};
-use govorun_tests::program::{piped, printed, start};
+use govorun_tests::gen::{
+    damaged, extreme_messages, lexicon, message, message_of_any_length, word, Rng,
+};
+use govorun_tests::program::{printed, GOVORUN};
 use govorun_tests::{cp1251, expected_print, hex};
 
-const WORKERS: usize = 2;
-
-/// Compares all messages; the workers take them in turns.
+/// Compares all messages.
 fn compare_all(messages: &[Vec<u8>]) {
-    println!("{} messages", messages.len());
-    thread::scope(|scope| {
-        for worker in 0..WORKERS {
-            let mine = messages.iter().skip(worker).step_by(WORKERS);
-            scope.spawn(|| mine.map(|msg| print(msg)).for_each(drop));
-        }
-    });
+    print_all(GOVORUN, messages);
 }
 
 #[test]
@@ -61,6 +54,7 @@ fn accepted_messages() {
     let mut messages: Vec<Vec<u8>> = (0..6500).map(|_| message_of_any_length(&mut rng)).collect();
     messages.extend((0..500).map(|_| word(&mut rng)));
     messages.extend((1..=100).map(|short| message(&mut rng, 4097 - short)));
+    messages.extend(extreme_messages(&mut rng, 0));
     compare_all(&messages);
 }
 
@@ -125,7 +119,7 @@ fn input_that_comes_in_pieces() {
         (9000, 4096),
     ] {
         let msg = message(&mut rng, length);
-        let given = piped(&msg, piece, wait);
+        let given = GOVORUN.piped(&msg, piece, wait);
         assert_eq!(given, expected_print(&msg), "message {}", hex(&msg));
     }
 }
@@ -138,8 +132,11 @@ fn input_from_a_file() {
         let msg = message(&mut rng, length);
         std::fs::write(&path, &msg).expect("a file for the message");
         let file = File::open(&path).expect("the file is there");
-        let given = printed(start(file.into()), &msg);
+        let given = printed(GOVORUN.start(file.into()), &msg);
         assert_eq!(given, expected_print(&msg), "message {}", hex(&msg));
     }
-    assert_eq!(printed(start(Stdio::null()), &[]), "refused 1 at 0\n");
+    assert_eq!(
+        printed(GOVORUN.start(Stdio::null()), &[]),
+        "refused 1 at 0\n"
+    );
 }

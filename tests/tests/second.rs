@@ -1,11 +1,12 @@
 //! Parts of the paper derived once more, in another manner, and held to the library and the second
 //! implementation over all short strings of small alphabets and over random ones.
 
-use govorun_tests::agreed::{check, edit, names, tape};
-use govorun_tests::gen::noise::{every_string, string};
+use govorun_tests::agreed::{check, edit, names, read_utf8, tape};
+use govorun_tests::gen::noise::{bytes, every_string, string};
+use govorun_tests::gen::utf8::{taken, TAKEN};
 use govorun_tests::gen::{message_of_any_length, Rng};
 use govorun_tests::letters::is_vowel;
-use govorun_tests::{cp1251, show, spell, Refusal};
+use govorun_tests::{cp1251, hex, show, spell, Refusal};
 
 /// What an automaton that reads from left to right remembers of the word so far.
 #[derive(Clone, Copy, PartialEq)]
@@ -184,6 +185,22 @@ fn edited_by_rewriting(text: &str) -> String {
     edited.trim_matches([' ', '#']).to_string()
 }
 
+/// What is read of a text, by taking a character off its start, one of eighty, as long as the rest
+/// begins with one.
+fn read_by_taking_off(text: &[u8]) -> Result<Vec<u8>, Refusal> {
+    let eighty: Vec<String> = TAKEN.chars().map(String::from).collect();
+    let mut rest = text;
+    let mut read = Vec::new();
+    while let Some(one) = eighty.iter().find(|one| rest.starts_with(one.as_bytes())) {
+        rest = &rest[one.len()..];
+        read.extend(cp1251(one));
+    }
+    match rest.len() {
+        0 => Ok(read),
+        left => Err(Refusal::new(13, text.len() - left)),
+    }
+}
+
 #[test]
 fn refusals_agree_with_the_automaton() {
     every_string(&cp1251("аябйъь* 7"), 6, &mut agrees_with_automaton);
@@ -258,5 +275,23 @@ fn editing_agrees_with_rewriting() {
     for _ in 0..5000 {
         let length = rng.below(60);
         agrees(&string(&mut rng, b"ab\n #.,;:?!-()\"'", length));
+    }
+}
+
+#[test]
+fn reading_agrees_with_taking_off() {
+    let agrees = &mut |text: &[u8]| {
+        let expected = read_by_taking_off(text);
+        assert_eq!(read_utf8(text, usize::MAX), expected, "{}", hex(text));
+    };
+    every_string(b"\xD0\xD1\x81\x91\xB0 *", 6, agrees);
+    every_string(b"\xD0\xE0\x90\x80\xB0\xF0#", 5, agrees);
+    let mut rng = Rng::for_test(12);
+    for _ in 0..20_000 {
+        let (length, broken) = (rng.below(30), rng.below(3));
+        let text = taken(&mut rng, length).into_bytes();
+        let broken = bytes(&mut rng, broken);
+        let at = rng.below(text.len() + 1);
+        agrees(&[&text[..at], &broken, &text[at..]].concat());
     }
 }

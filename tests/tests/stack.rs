@@ -6,9 +6,11 @@ use std::arch::asm;
 use govorun_tests::check;
 use govorun_tests::fence::Fenced;
 use govorun_tests::gen::damaged::SPOTS;
+use govorun_tests::gen::utf8::{taken, untaken};
 use govorun_tests::gen::{damaged, extreme_messages, noise, punctuated, Rng};
 use govorun_tests::message::breaks;
 use govorun_tests::unit::{raw, Text};
+use govorun_tests::utf8::written;
 
 /// The most that a call may take, in bytes, its return address with it, as the header says it.
 fn bound() -> usize {
@@ -57,7 +59,7 @@ impl Stack {
 }
 
 /// Calls a function of up to six whole numbers on another stack. All answers of the interface but
-/// the editor's come back in two registers, the number in the lower half of the first.
+/// editor's and reader's come back in two registers, the number in the lower half of the first.
 ///
 /// # Safety
 /// The function takes these arguments, and `top` is the end of a long enough stack.
@@ -88,6 +90,8 @@ unsafe fn call_on(top: *mut u8, function: *const (), arguments: [usize; 6]) -> u
 #[derive(Debug, Default)]
 struct Deepest {
     edit: usize,
+    read_utf8: usize,
+    write_utf8: usize,
     check: usize,
     name: usize,
     transcribe: usize,
@@ -98,6 +102,7 @@ impl Deepest {
     /// Calls all functions on a message, with this list of cuts and an output of this length.
     fn measure(&mut self, stack: &mut Stack, msg: &[u8], cuts: &[usize], cap: usize) {
         self.measure_edit(stack, msg, cap);
+        self.measure_read(stack, msg, cap);
         let mut out = vec![0; cap];
         let (msg, len) = (msg.as_ptr() as usize, msg.len());
         let (cuts, n) = (cuts.as_ptr() as usize, cuts.len());
@@ -111,6 +116,7 @@ impl Deepest {
         let joins = [msg, len, cuts, n, out, cap];
         let number = deepest(&mut self.check, raw::govorun_check as _, &[msg, len]);
         let others = [
+            deepest(&mut self.write_utf8, raw::govorun_write_utf8 as _, &writes),
             deepest(&mut self.name, raw::govorun_name as _, &writes),
             deepest(&mut self.transcribe, raw::govorun_transcribe as _, &writes),
             deepest(&mut self.join, raw::govorun_join as _, &joins),
@@ -121,28 +127,43 @@ impl Deepest {
         assert!(others.iter().all(right), "{number} {others:?}");
     }
 
-    /// Calls the editor. Its answer does not fit two registers, so the place for it is an argument,
-    /// and the first.
     fn measure_edit(&mut self, stack: &mut Stack, text: &[u8], cap: usize) {
-        let mut out = vec![0; cap];
-        let mut answer = Text {
-            number: u32::MAX,
-            place: 0,
-            length: 0,
-        };
-        let (text, len) = (text.as_ptr() as usize, text.len());
-        let (at, out) = (&raw mut answer as usize, out.as_mut_ptr() as usize);
-        let (_, touched) = stack.call(raw::govorun_edit as _, &[at, text, len, out, cap]);
+        let (number, touched) = call_on_text(stack, raw::govorun_edit as _, text, cap);
         self.edit = touched.max(self.edit);
-        assert!(answer.number == 0 || (cap < len && answer.number == 11));
+        assert!(number == 0 || (cap < text.len() && number == 11));
+    }
+
+    /// Calls the reader, and gives the number of its answer.
+    fn measure_read(&mut self, stack: &mut Stack, text: &[u8], cap: usize) -> u32 {
+        let (number, touched) = call_on_text(stack, raw::govorun_read_utf8 as _, text, cap);
+        self.read_utf8 = touched.max(self.read_utf8);
+        assert!([0, 13].contains(&number) || (cap < text.len() && number == 11));
+        number
     }
 
     fn at_most(&self, bound: usize) {
         println!("bytes of stack: {self:?}");
-        for used in [self.edit, self.check, self.name, self.transcribe, self.join] {
+        let messages = [self.check, self.name, self.transcribe, self.join];
+        let texts = [self.edit, self.read_utf8, self.write_utf8];
+        for used in messages.into_iter().chain(texts) {
             assert!(used <= bound, "{used} bytes of stack, over {bound}");
         }
     }
+}
+
+/// Calls editor or reader. Their answer does not fit two registers, so the place for it is an
+/// argument, and the first. Gives its number and how many bytes of stack the call touched.
+fn call_on_text(stack: &mut Stack, function: *const (), text: &[u8], cap: usize) -> (u32, usize) {
+    let mut out = vec![0; cap];
+    let mut answer = Text {
+        number: u32::MAX,
+        place: 0,
+        length: 0,
+    };
+    let (text, len) = (text.as_ptr() as usize, text.len());
+    let (at, out) = (&raw mut answer as usize, out.as_mut_ptr() as usize);
+    let (_, touched) = stack.call(function, &[at, text, len, out, cap]);
+    (answer.number, touched)
 }
 
 #[test]
@@ -186,6 +207,26 @@ fn texts_with_punctuation() {
         let text = punctuated(&mut rng, &msg, 5);
         for cap in [text.len(), 0] {
             deepest.measure(&mut stack, &text, &[], cap);
+        }
+    }
+    deepest.at_most(bound());
+}
+
+/// Long texts, whole and with a wrong sequence at their end.
+#[test]
+fn texts_in_utf_8() {
+    let mut rng = Rng::for_test(73);
+    let mut stack = Stack::new(&mut rng);
+    let mut deepest = Deepest::default();
+    for msg in extreme_messages(&mut rng, 50) {
+        let text = written(&punctuated(&mut rng, &msg, 3));
+        assert_eq!(deepest.measure_read(&mut stack, &text, text.len()), 0);
+        assert_eq!(deepest.measure_read(&mut stack, &text, 0), 11);
+    }
+    for sequence in untaken() {
+        let text = [taken(&mut rng, 5000).as_bytes(), &sequence].concat();
+        for cap in [text.len(), 0] {
+            assert_eq!(deepest.measure_read(&mut stack, &text, cap), 13);
         }
     }
     deepest.at_most(bound());

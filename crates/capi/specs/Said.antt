@@ -1,4 +1,4 @@
--- What the C interface says of an answer: the paper's four numbers, and of the editor's three, since no cut is live there.
+-- What the C interface says of an answer: the paper's four numbers, and of the editor's and the reader's three, since no cut is live there.
 -- Assumes nothing: these are definitions.
 use mathlib.Core.Path.{_≡_}
 use Rattle.spec.specs.Answers.{numberOf, placeOf, lengthOf, liveOf, checkedNumber, checkedPlace, checkedCodes, checkedNames}
@@ -22,7 +22,7 @@ pub record Counted (a : Checked) (r : GovorunCounts) : Type 0 where
   pub codes : r .codes ≡ checkedCodes a
   pub names : r .names ≡ checkedNames a
 
--- and of the editor's
+-- and of the editor's and the reader's
 pub record Told (a : Answer) (r : GovorunText) : Type 0 where
   pub number : r .number ≡ numberOf a
   pub place : r .place ≡ placeOf a

@@ -1,6 +1,7 @@
 // The C interface: include/govorun.h says what each function promises. Each carries its operation's promise on, in four numbers, or in three for a text of any length.
 ghost use Rattle.spec.specs.Answers.{CheckPromise, NamePromise, TranscribePromise, JoinPromise, Carried};
 ghost use Rattle.spec.specs.Editing.{EditPromise};
+ghost use Rattle.spec.specs.Utf8.{ReadPromise, WritePromise};
 ghost use Rattle.laws.proofs.Bounds.{Small, SmallCheck};
 ghost use Rattle.capi.specs.Said.{Said, Counted, Told};
 use editor::edit;
@@ -10,6 +11,8 @@ use spec::Answer;
 use spec::Checked;
 use transcriber::naming::name;
 use transcriber::tape::transcribe;
+use utf8::reader::read_utf8;
+use utf8::writer::write_utf8;
 
 #[repr(C)]
 pub struct GovorunAnswer {
@@ -104,7 +107,14 @@ pub extern "C" fn govorun_join(m: &[u8], cuts: &[usize], out: &mut [u8]) -> Govo
     say(join(m, cuts, out))
 }
 
-// The editor's answer in three numbers, which may be as large as a text is long.
+#[no_mangle]
+pub extern "C" fn govorun_write_utf8(m: &[u8], out: &mut [u8]) -> GovorunAnswer
+    ensures { λ r. ⌜ Carried (WritePromise (now (m .entry)) (now (out .entry)) (now (out .exit))) Said r ⌝ }
+{
+    say(write_utf8(m, out))
+}
+
+// The answer for a text in three numbers, which may be as large as it is long.
 fn tell(a: Answer) -> GovorunText
     ensures { λ r. ⌜ Told a r ⌝ }
 {
@@ -127,4 +137,11 @@ pub extern "C" fn govorun_edit(text: &[u8], out: &mut [u8]) -> GovorunText
     ensures { λ r. ⌜ Carried (EditPromise (now (text .entry)) (now (out .entry)) (now (out .exit))) Told r ⌝ }
 {
     tell(edit(text, out))
+}
+
+#[no_mangle]
+pub extern "C" fn govorun_read_utf8(text: &[u8], out: &mut [u8]) -> GovorunText
+    ensures { λ r. ⌜ Carried (ReadPromise (now (text .entry)) (now (out .entry)) (now (out .exit))) Told r ⌝ }
+{
+    tell(read_utf8(text, out))
 }

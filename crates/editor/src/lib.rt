@@ -44,7 +44,7 @@ fn is_gap(b: u8) -> bool
 }
 
 // Does it stand for a break?
-fn is_break(b: u8) -> bool
+pub fn is_break(b: u8) -> bool
     ensures { λ r. ⌜ r ≡ breaks b ⌝ }
 {
     is_pause(b) | is_gap(b)

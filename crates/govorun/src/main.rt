@@ -1,40 +1,10 @@
 // The program: all of standard input is the message, and its text is printed.
-ghost use Prim.Native.Nat.{_≤_};
-ghost use lib.ListN.{length};
-ghost use Rattle.govorun.specs.Reading.{readOf};
-
-mod text;
-
+use console::Input;
+use console::standard::read_input;
+use console::text::TEXT;
+use console::text::print_message;
 use libc::STDERR_FILENO;
-use libc::STDIN_FILENO;
 use libc::STDOUT_FILENO;
-use text::TEXT;
-use text::print_message;
-
-// What came of standard input: so many bytes, or a read failed.
-enum Input {
-    Bytes(usize),
-    Failed,
-}
-
-// Reads until the input ends or the buffer is full. A read that fails is told from the end, so that no part of a message passes for the whole.
-fn read_input(message: &mut [u8]) -> Input
-    ensures { λ r. ⌜ readOf r ≤ length (now (message .exit)) ⌝ }
-{
-    let mut n = 0;
-    while n < message.len() {
-        let got = libc::read(STDIN_FILENO, &mut message[n..]);
-        if got < 0 {
-            return Input::Failed;
-        }
-        let more = io::count(got, &message[n..]);
-        if more == 0 {
-            return Input::Bytes(n);
-        }
-        n += more;
-    }
-    Input::Bytes(n)
-}
 
 // One byte more than the longest message tells that a message is too long.
 fn main() {

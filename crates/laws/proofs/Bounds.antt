@@ -2,9 +2,10 @@
 use Rattle.laws.proofs.Kit.{ℕ, suc, _≤_, ⊎-elim, List, [], _∷_, arith, leb, length, eq-eqb, ne-eqb}
 use Rattle.spec.specs.Joints.{joined, isLive, liveCount, badCut}
 use Rattle.spec.specs.Answers.{numberOf, placeOf, lengthOf, liveOf, checkedNumber, checkedPlace, checkedCodes, checkedNames, within, afterCheck, nameAnswer, tapeAnswer, joinAnswer}
+use Rattle.spec.specs.Utf8.{encoded, writeAnswer}
 use Rattle.spec.specs.{Tape.tape, Tape.names, Refusals.checkOf, declared.Checked.Checked, declared.Answer.Answer}
 use Rattle.laws.proofs.Cuts.{judged, rising-to, bad-bound, rising-length}
-use Rattle.laws.proofs.{Accepted.check-finds, Accepted.given-range, Classes.cond-both, Cutting.equal-lengths, Sizes.tape-size, Sizes.names-size}
+use Rattle.laws.proofs.{Accepted.check-finds, Accepted.given-range, Classes.cond-both, Cutting.equal-lengths, Sizes.tape-size, Sizes.names-size, Utf8.encoded-size}
 use Rattle.spec.specs.declared.Answer.the-variants as answer
 
 -- the check's answer in numbers that are small
@@ -56,6 +57,11 @@ module _ (m : List ℕ) where
   pub tape-small : (room : ℕ) → Small (tapeAnswer m room)
   unfolding tapeAnswer
   tape-small room = after-small _ (λ s. within-small room (length (tape m)) 0 (omega (arith, tape-size m)) (omega arith))
+
+  -- The writer's answer is small.
+  pub write-small : (room : ℕ) → Small (writeAnswer m room)
+  unfolding writeAnswer
+  write-small room = after-small _ (λ s. within-small room (length (encoded m)) 0 (omega (arith, encoded-size m)) (omega arith))
 
   -- The joiner's answer is small, whatever the cuts.
   pub join-small : (cuts : List ℕ) (room : ℕ) → Small (joinAnswer m cuts room)

@@ -1,5 +1,5 @@
--- A test has two outcomes, so what holds in both holds; and a class is a list of bytes, so what holds of all its letters is one computation over that list.
-use Rattle.laws.proofs.Kit.{ℕ, suc, _<_, _≤_, _≡_, refl, sym, ap, _∙_, Bool, true, false, cond, _||_, true≢false, false≢true, _⊎_, inl, inr, List, [], _∷_, _++_, map, arith, eqb, leb, eqb-true, leb-true, leb-false}
+-- A test has two outcomes, so what holds in both holds; and a class is a list of bytes, so what holds of all its letters is one computation over that list, as what holds of all numbers below a bound is.
+use Rattle.laws.proofs.Kit.{ℕ, zero, suc, _<_, _≤_, _≡_, refl, sym, ap, _∙_, Bool, true, false, cond, _||_, true≢false, false≢true, _⊎_, inl, inr, List, [], _∷_, _++_, map, arith, eqb, leb, eqb-true, eqb-false, leb-true, leb-false}
 use Rattle.spec.specs.Letters.{isBreak, isMark, plainVowels, softeningVowels, isVowel, isObstruent, isPaired}
 use Rattle.spec.specs.Refusals.{vowelByte, signByte, hardSignByte, consonantByte}
 use Rattle.spec.specs.{Tables.among, Alphabet.gap, Alphabet.pause, Codes.markOf}
@@ -49,6 +49,25 @@ pub among-same : {A : Type 0} (f g : ℕ → A) (xs : List ℕ) (b : ℕ) → ma
 unfolding among
 among-same f g [] b e h = absurd (false≢true h)
 among-same f g (x ∷ xs) b e h = either (eqb b x) (λ d. rw (eqb-true b x d) (cc)) (λ d. among-same f g xs b (cc) (rw d at h))
+
+-- the numbers below n
+abbrev pub below : ℕ → List ℕ
+below zero = []
+below (suc n) = n ∷ below n
+
+-- two functions that agree on the numbers below n agree at each of them
+pub below-same : {A : Type 0} (f g : ℕ → A) (n b : ℕ) → map f (below n) ≡ map g (below n) → b < n → f b ≡ g b
+below-same f g zero b e h = absurd (omega arith)
+below-same f g (suc n) b e h = by (eqb b n) refl (below-same f g n b (cc))
+  where
+    by : (t : Bool) → eqb b n ≡ t → (b < n → f b ≡ g b) → f b ≡ g b
+    by true d r = rw (eqb-true b n d) (cc)
+    by false d r = r (omega (arith, eqb-false b n d))
+
+-- so do two functions of two numbers
+pub pairs-same : {A : Type 0} (f g : ℕ → ℕ → A) (n p k c : ℕ) → map (λ x. map (f x) (below p)) (below n) ≡ map (λ x. map (g x) (below p)) (below n)
+    → k < n → c < p → f k c ≡ g k c
+pairs-same f g n p k c e h l = below-same (f k) (g k) p c (below-same (λ x. map (f x) (below p)) (λ x. map (g x) (below p)) n k e h) l
 
 -- a byte outside a list is none of its bytes
 pub among-none : (xs : List ℕ) (b x : ℕ) → among xs b ≡ false → among xs x ≡ true → eqb b x ≡ false

@@ -2,22 +2,24 @@
 use Rattle.laws.proofs.Kit.{ℕ, _≤_, _≡_, refl, sym, ap, _∙_, cond, _⊎_, inl, inr, ⊎-elim, _↔_, List, [], _∷_, _<_, false≢true, arith, eqb, length, take, drop, length-append, length-drop, take-at, eq-eqb, ne-eqb, le-leb, lt-leb}
 use Rattle.spec.specs.Joints.{Rising, joined, liveCount, badCutFrom, badCut}
 use Rattle.spec.specs.Answers.{numberOf, placeOf, lengthOf, liveOf, checkedNumber, checkedPlace, checkedCodes, checkedNames, within, afterCheck, outputAfter, nameAnswer, tapeAnswer, joinAnswer, Promise}
-use Rattle.spec.specs.Demands.{Due, turnedAway, wrongCut, tooShort, CarriedOut, Settled, Exactly, Demand1, Demand2, Demand3, EditDue, EditedDemands}
-use Rattle.spec.specs.Editing.{edited, editAnswer, EditPromise}
+use Rattle.spec.specs.Demands.{Due, turnedAway, wrongCut, tooShort, CarriedOut, Settled, Exactly, Demand1, Demand2, Demand3, EditDue, EditedDemands, ReadDue, unreadable, noRoom, ReadDemands, WriteDemands}
+use Rattle.spec.specs.Editing.{edited, editAnswer}
+use Rattle.spec.specs.Utf8.{encoded, decoded, readTo, readAnswer, writeAnswer, Readable, ReadPromise}
 use Rattle.spec.specs.{Tape.tape, Tape.names, Refusals.refusal, Refusals.checkOf, Refusals.fits, Refusals.NoneFits, Refusals.Given, declared.Answer.Answer, declared.Answer.the-variants.Written, declared.Answer.the-variants.Refused}
 use Rattle.laws.proofs.Accepted.{check-finds, passes-none, none-accepted, given-range, given-refused, empty-given, long-given}
 use Rattle.laws.proofs.Edited.{edited-size, edited-twice, accepted-own, edited-never-four, only-breaks}
+use Rattle.laws.proofs.Utf8.{read-most, whole-run, run-once, run-whole, stops-at, stops-once, read-back, run-formed, encoded-size, decoded-size, accepted-rows}
 use Rattle.laws.proofs.Cuts.{judged, first-bad, rising-to, full-rising, full-every}
 use Rattle.laws.proofs.{Classes.below-or, Cutting.counts-none, Cutting.two-tapes}
 
--- The ways in which an operation can end: what is due is its text where it accepts and there is room, and else a number and its place.
-pub record Ways (Accepted : Type 0) (Number : ℕ → ℕ → Type 0) (text : List ℕ) (count : ℕ) (out : List ℕ) (due : Answer) : Type 0 where
+-- The ways in which an operation can end: what is due is its text where it accepts and there is room, and else a number, up to its last one, and its place.
+pub record Ways (last : ℕ) (Accepted : Type 0) (Number : ℕ → ℕ → Type 0) (text : List ℕ) (count : ℕ) (out : List ℕ) (due : Answer) : Type 0 where
   pub written : Accepted → length text ≤ length out → due ≡ Written (length text) count
   pub refused : (n p : ℕ) → Number n p → due ≡ Refused (refusal n p)
-  pub ends : (Accepted × (length text ≤ length out)) ⊎ ((n : ℕ) × (p : ℕ) × Number n p × (1 ≤ n) × (n ≤ 12))
+  pub ends : (Accepted × (length text ≤ length out)) ⊎ ((n : ℕ) × (p : ℕ) × Number n p × (1 ≤ n) × (n ≤ last))
 
 -- An operation that promises what is due
-module _ {Accepted : Type 0} {Number : ℕ → ℕ → Type 0} {text : List ℕ} {count : ℕ} {out : List ℕ} {due : Answer} (ways : Ways Accepted Number text count out due)
+module _ {last : ℕ} {Accepted : Type 0} {Number : ℕ → ℕ → Type 0} {text : List ℕ} {count : ℕ} {out : List ℕ} {due : Answer} (ways : Ways last Accepted Number text count out due)
     {out′ : List ℕ} {r : Answer} (kept : Promise due text out out′ r) where
   -- carries it out where that is its text
   pub carried : Accepted → length text ≤ length out → CarriedOut text count out out′ r
@@ -25,7 +27,7 @@ module _ {Accepted : Type 0} {Number : ℕ → ℕ → Type 0} {text : List ℕ}
   carried a h = let p = rw (ways .written a h) at kept in record { output = p .output; number = p .number; place = p .place; length = p .length; live = p .live }
 
   -- is settled
-  pub settled : Settled Number text count out out′ r
+  pub settled : Settled last Number text count out out′ r
   unfolding outputAfter numberOf placeOf lengthOf liveOf
   settled = ⊎-elim
       (λ w. let c = carried (w .0) (w .1) in record { ended = inl c; size = ap length (c .output) ∙ simp (length-append, length-drop) (omega (arith, w .1)) })
@@ -58,6 +60,12 @@ module _ {Accepted : Type 0} {Number : ℕ → ℕ → Type 0} {text : List ℕ}
     );
   }
 
+  -- and what it has written where it answers no number is its text
+  pub handed : numberOf r ≡ 0 → take (lengthOf r) out′ ≡ text
+  unfolding numberOf
+  handed z = ⊎-elim (λ w. let c = carried (w .0) (w .1) in rw (c .length, c .output) (take-at text (drop (length text) out) (length text) refl))
+      (λ d. absurd (omega (arith, z, kept .number ∙ ap numberOf (ways .refused _ _ (d .2)), d .3))) (ways .ends)
+
 -- What is due after the check and the list of cuts ends in these ways.
 module _ (m cuts text : List ℕ) (count : ℕ) (out : List ℕ) where
   abbrev dueAfter : Answer
@@ -75,7 +83,7 @@ module _ (m cuts text : List ℕ) (count : ℕ) (out : List ℕ) where
   refused-due n p (wrongCut i f b) = rw (none-accepted m f, first-bad m cuts i b, ne-eqb i (length cuts) (omega (arith, b .within)))
   refused-due n p (tooShort f r h) = rw (none-accepted m f, eq-eqb _ _ (rising-to m cuts r), lt-leb (length text) (length out) h)
 
-  pub check-ways : (Accepted : Type 0) → (Accepted ↔ (NoneFits m × Rising m cuts)) → Ways Accepted (Due m cuts (length text) (length out)) text count out dueAfter
+  pub check-ways : (Accepted : Type 0) → (Accepted ↔ (NoneFits m × Rising m cuts)) → Ways 12 Accepted (Due m cuts (length text) (length out)) text count out dueAfter
   check-ways Accepted same = record {
     written = λ a. written-due (same .0 a .0) (same .0 a .1);
     refused = refused-due;
@@ -87,12 +95,12 @@ module _ (m cuts text : List ℕ) (count : ℕ) (out : List ℕ) where
   }
 
 -- the naming operation and the transcriber have no cuts
-without-cuts : (m text out : List ℕ) → Ways (NoneFits m) (Due m [] (length text) (length out)) text 0 out (dueAfter m [] text 0 out)
+without-cuts : (m text out : List ℕ) → Ways 12 (NoneFits m) (Due m [] (length text) (length out)) text 0 out (dueAfter m [] text 0 out)
 without-cuts m text out = check-ways m [] text 0 out (NoneFits m) (λ f. (f, tt), λ a. a .0)
 
 -- the joiner has
 with-cuts : (m cuts out : List ℕ)
-    → Ways (NoneFits m × Rising m cuts) (Due m cuts (length (joined m cuts)) (length out)) (joined m cuts) (liveCount m cuts) out (dueAfter m cuts (joined m cuts) (liveCount m cuts) out)
+    → Ways 12 (NoneFits m × Rising m cuts) (Due m cuts (length (joined m cuts)) (length out)) (joined m cuts) (liveCount m cuts) out (dueAfter m cuts (joined m cuts) (liveCount m cuts) out)
 with-cuts m cuts out = check-ways m cuts (joined m cuts) (liveCount m cuts) out (NoneFits m × Rising m cuts) (λ a. a, λ a. a)
 
 -- Demand 1.
@@ -139,21 +147,13 @@ demand3 m f = record {
 }
 
 -- The editor ends in these ways.
-edit-ways : (t out : List ℕ) → Ways (Unit {0}) (EditDue t (length out)) (edited t) 0 out (editAnswer t (length out))
+edit-ways : (t out : List ℕ) → Ways 11 (Unit {0}) (EditDue t (length out)) (edited t) 0 out (editAnswer t (length out))
 unfolding editAnswer within
 edit-ways t out = record {
   written = λ a h. rw (le-leb (length (edited t)) (length out) h);
   refused = λ n p d. rw (d .0, d .1, lt-leb (length (edited t)) (length out) (d .2));
   ends = ⊎-elim (λ h. inr (_, _, (refl, refl, h), omega arith, omega arith)) (λ h. inl (tt, h)) (below-or (length out) (length (edited t)));
 }
-
--- what it has written where it answers no number
-edit-handed : (t out out′ : List ℕ) (r : Answer) → EditPromise t out out′ r → numberOf r ≡ 0 → take (lengthOf r) out′ ≡ edited t
-unfolding numberOf
-edit-handed t out out′ r k z = ⊎-elim
-    (λ h. absurd (omega (arith, z, k .number ∙ ap numberOf (edit-ways t out .refused _ _ (refl, refl, h)))))
-    (λ h. let c = carried (edit-ways t out) k tt h in rw (c .length, c .output) (take-at (edited t) (drop (length (edited t)) out) (length (edited t)) refl))
-    (below-or (length out) (length (edited t)))
 
 -- numbers 1 and 2 go by the length alone
 empty-exactly : (m : List ℕ) → Given m 1 0 ↔ (m ≡ [])
@@ -170,7 +170,7 @@ pub edited-demands : (t : List ℕ) → EditedDemands t
 edited-demands t = record {
   settled = λ out out′ r k. settled (edit-ways t out) k;
   exact = λ out out′ r k. exactly (edit-ways t out) k;
-  handed = edit-handed t;
+  handed = λ out out′ r k. handed (edit-ways t out) k;
   size = edited-size t;
   twice = edited-twice t;
   own = accepted-own t;
@@ -180,4 +180,65 @@ edited-demands t = record {
   demand1 = demand1 (edited t);
   demand2 = demand2 (edited t);
   demand3 = demand3 (edited t);
+}
+
+-- The reader ends in these ways.
+read-ways : (t out : List ℕ) → Ways 13 (Readable t) (ReadDue t (length out)) (decoded t) 0 out (readAnswer t (length out))
+unfolding readAnswer within
+read-ways t out = record {
+  written = λ a h. rw (eq-eqb (readTo t) (length t) (run-whole t (a .0) (a .1)), le-leb (length (decoded t)) (length out) h);
+  refused = refused;
+  ends = ⊎-elim (λ h. inr (_, _, unreadable _ (stops-at t h), omega arith, omega arith))
+      (λ h.
+      let a : Readable t = (decoded t, whole-run t (omega (arith, read-most t))) in
+      ⊎-elim (λ l. inr (_, _, noRoom a l, omega arith, omega arith)) (λ l. inl (a, l)) (below-or (length out) (length (decoded t)))) (below-or (readTo t) (length t));
+}
+  where
+    refused : (n p : ℕ) → ReadDue t (length out) n p → readAnswer t (length out) ≡ Refused (refusal n p)
+    refused n p (unreadable q s) = let e = stops-once t q s in rw (e, ne-eqb (readTo t) (length t) (omega (arith, e, s .within)))
+    refused n p (noRoom a h) = rw (eq-eqb (readTo t) (length t) (run-whole t (a .0) (a .1)), lt-leb (length (decoded t)) (length out) h)
+
+-- where it is refused with 13 the text is no run
+unreadable-no-run : {t : List ℕ} {room : ℕ} (n p : ℕ) → ReadDue t room n p → n ≡ 13 → Readable t → ⊥
+unreadable-no-run {t} n p (unreadable q s) e a = absurd (omega (arith, s .within, stops-once t q s, run-whole t (a .0) (a .1)))
+unreadable-no-run n p (noRoom a h) e b = absurd (omega (arith, e))
+
+-- and where it is none, it is
+no-run-unreadable : (t out out′ : List ℕ) (r : Answer) → ReadPromise t out out′ r → (Readable t → ⊥) → numberOf r ≡ 13
+unfolding numberOf
+no-run-unreadable t out out′ r k f = ⊎-elim (λ h. k .number ∙ ap numberOf (read-ways t out .refused _ _ (unreadable _ (stops-at t h))))
+    (λ h. absurd (f (decoded t, whole-run t (omega (arith, read-most t))))) (below-or (readTo t) (length t))
+
+-- The writer has no cuts.
+write-ways : (m out : List ℕ) → Ways 12 (NoneFits m) (Due m [] (length (encoded m)) (length out)) (encoded m) 0 out (writeAnswer m (length out))
+unfolding writeAnswer badCut badCutFrom
+write-ways m out = without-cuts m (encoded m) out
+
+-- What holds for a text that is to be read.
+pub read-demands : (t : List ℕ) → ReadDemands t
+read-demands t = record {
+  settled = λ out out′ r k. settled (read-ways t out) k;
+  exact = λ out out′ r k. exactly (read-ways t out) k;
+  others = λ out out′ r k. (λ z. unreadable-no-run 13 (placeOf r) (exactly (read-ways t out) k .refuses 13 (placeOf r) (omega arith) .0 (z, refl)) refl, no-run-unreadable t out out′ r k);
+  malformed = λ out out′ r k f. no-run-unreadable t out out′ r k (λ a. f (rw (a .1 .text) (run-formed (a .0) (a .1 .rows))));
+  once = run-once t;
+  size = omega (arith, decoded-size t, read-most t);
+  handed = λ out out′ r k. handed (read-ways t out) k;
+  edits = edited-demands (decoded t);
+  back = λ a f out out′ r k h.
+      let e : encoded (decoded t) ≡ t = sym (whole-run t (run-whole t (a .0) (a .1)) .text) in
+      rw e at (carried (write-ways (decoded t) out) k f (rw e h));
+}
+
+-- What holds for a message that is to be written.
+pub write-demands : (m : List ℕ) → WriteDemands m
+write-demands m = record {
+  settled = λ out out′ r k. settled (write-ways m out) k;
+  exact = λ out out′ r k. exactly (write-ways m out) k;
+  wellFormed = λ f. run-formed m (accepted-rows m f);
+  size = encoded-size m;
+  back = λ f out out′ r k h.
+      let rows = accepted-rows m f in
+      let e = read-back m rows in
+      rw e at (carried (read-ways (encoded m) out) k (m, record { rows = rows; text = refl }) (rw e h));
 }

@@ -17,5 +17,6 @@ pub mod Beside
 pub mod MarkIndex
 pub mod Heard
 pub mod Edited
+pub mod Utf8
 pub mod Putting
 pub mod Kit

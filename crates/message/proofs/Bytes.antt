@@ -1,30 +1,12 @@
 -- What holds of every number below a bound is one computation, so a byte's tests go by its class.
 use Rattle.laws.proofs.Kit.{ℕ, zero, suc, _<_, _≡_, refl, Bool, true, false, _&&_, _||_, List, [], _∷_, map, arith, eqb, leb, eqb-true, eqb-false, leb-true, ne-eqb}
+use Rattle.laws.proofs.Classes.{below, below-same}
 use Rattle.spec.specs.Alphabet.{«д», «е», «ё», «и», «т», «ю», «я»}
 use Rattle.spec.specs.Letters.{small, isMark, isBreak, isConsonant}
 use Rattle.spec.specs.Refusals.{vowelByte, signByte, hardSignByte, consonantByte, letterByte}
 use Rattle.spec.specs.Tables.{among}
 use Rattle.message.specs.Classes.{classOf, isBreakClass, isSignClass, isConsonantClass, isVowelClass, isLetterClass, isTOrD}
 use Rattle.message.proofs.Computed.{everything}
-
--- the numbers below n
-abbrev pub below : ℕ → List ℕ
-below zero = []
-below (suc n) = n ∷ below n
-
--- two functions that agree on the numbers below n agree at each of them
-pub below-same : {A : Type 0} (f g : ℕ → A) (n b : ℕ) → map f (below n) ≡ map g (below n) → b < n → f b ≡ g b
-below-same f g zero b e h = absurd (omega arith)
-below-same f g (suc n) b e h = by (eqb b n) refl (below-same f g n b (cc))
-  where
-    by : (t : Bool) → eqb b n ≡ t → (b < n → f b ≡ g b) → f b ≡ g b
-    by true d r = rw (eqb-true b n d) (cc)
-    by false d r = r (omega (arith, eqb-false b n d))
-
--- so do two functions of two numbers
-pub pairs-same : {A : Type 0} (f g : ℕ → ℕ → A) (n p k c : ℕ) → map (λ x. map (f x) (below p)) (below n) ≡ map (λ x. map (g x) (below p)) (below n)
-    → k < n → c < p → f k c ≡ g k c
-pairs-same f g n p k c e h l = below-same (f k) (g k) p c (below-same (λ x. map (f x) (below p)) (λ x. map (g x) (below p)) n k e h) l
 
 -- the tests of a byte
 abbrev tests : ℕ → List Bool

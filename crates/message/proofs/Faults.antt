@@ -5,8 +5,8 @@ use Rattle.spec.specs.{Letters.isMark, Letters.isBreak, declared.Checked.the-va
 use Rattle.message.specs.Classes.{classOf, isBreakClass, isSignClass, isConsonantClass, isVowelClass, isLetterClass, classAt}
 use Rattle.message.specs.Steps.{isVowelKind, isHardSignKind, isVowelSignKind, isSignKind, nextKind, faultIn, kindAt, codesTo, namesTo, lettersAt, faultHere}
 use Rattle.laws.proofs.Accepted.{countsOf, ClearAt, fault-clear, first-refused, passes-accepted}
-use Rattle.laws.proofs.Classes.{refuted, below-or}
-use Rattle.message.proofs.{Bytes.pairs-same, Bytes.ByClass, Bytes.by-class, StepTable.Entry, StepTable.entry-holds, StepTable.silent-asks, Computed.everything}
+use Rattle.laws.proofs.Classes.{refuted, below-or, pairs-same}
+use Rattle.message.proofs.{Bytes.ByClass, Bytes.by-class, StepTable.Entry, StepTable.entry-holds, StepTable.silent-asks, Computed.everything}
 
 -- what the rows ask of the bytes before
 abbrev asked : List ℕ → List Bool

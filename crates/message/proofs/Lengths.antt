@@ -9,8 +9,8 @@ use Rattle.message.specs.Steps.{isSignKind, kindAt, widthIn, widthAt, co
 use Rattle.message.specs.Places.{leftAt, factsAt, toneAt, soundAt, tapeAt, wordAt, letterOf, codesAt, namesAt, Steady}
 use Rattle.message.specs.Fused.{vowelCodes, letterCodes}
 use Rattle.message.proofs.Tail.{tape-start, tape-end, tape-letter, tape-mark, tape-break, names-start, names-end, names-vowel, names-other, names-break}
-use Rattle.message.proofs.{Bytes.pairs-same, Bytes.by-class, Bytes.letter-class, Before.kind-at, Silent.elided-at, StepTable.class-spoken, Faults.kind-small, Computed.everything}
-use Rattle.laws.proofs.Classes.{cond-app, either}
+use Rattle.message.proofs.{Bytes.by-class, Bytes.letter-class, Before.kind-at, Silent.elided-at, StepTable.class-spoken, Faults.kind-small, Computed.everything}
+use Rattle.laws.proofs.Classes.{cond-app, either, pairs-same}
 
 -- how many codes a letter makes, elision apart: k and g say that a consonant or a sign stands before it, s, v, e and i that it is a sign, a vowel, one of е ё ю я, or и
 abbrev heard : Bool → Bool → Bool → Bool → Bool → Bool → ℕ

@@ -4,8 +4,8 @@ use Rattle.spec.specs.Alphabet.{«з», «н», «р», «с»}
 use Rattle.spec.specs.{Tables.among, Letters.small, Elision.elidesT, Elision.elidesD, Elision.elidesAmong}
 use Rattle.message.specs.Classes.{classOf, classAt, isBreakClass, isConsonantClass, isSignClass, tabulate, classes, letterAt, letterBefore, elidedAt, silentAt}
 use Rattle.message.specs.Steps.{isSignKind, nextKind, faultIn, widthIn, namesIn, askIn, stopIn, packed, pairs, kindAt, widthAt, nameUnit, askUnit, stopUnit}
-use Rattle.message.proofs.{Bytes.below, Bytes.pairs-same, Bytes.by-class, Bytes.not-both, Elided.other-stays, Elided.only-where, Computed.everything}
-use Rattle.laws.proofs.Classes.{among-none, either}
+use Rattle.message.proofs.{Bytes.by-class, Bytes.not-both, Elided.other-stays, Elided.only-where, Computed.everything}
+use Rattle.laws.proofs.Classes.{among-none, either, below, pairs-same}
 
 -- past the start, the letter before place i is the one at i - 1
 pub before-at : (m : List ℕ) (i : ℕ) → (i ≡ 0 → ⊥) → letterAt m (i - 1) ≡ letterBefore m i
@@ -41,7 +41,7 @@ before-spoken m zero h n = after-spoken 0 _ _ _ refl
 before-spoken m (suc i) h n = after-spoken (small (getD m i 0)) _ _ _ (class-before (getD m i 0) (h i) (rw (ne-eqb (classOf (getD m i 0)) 7 (n i refl))))
 
 -- a table has at each place what it says
-tabulate-at : (f : ℕ → ℕ) (i n j : ℕ) → j < n → getD (tabulate f i n) j 0 ≡ f (i + j)
+pub tabulate-at : (f : ℕ → ℕ) (i n j : ℕ) → j < n → getD (tabulate f i n) j 0 ≡ f (i + j)
 unfolding tabulate
 tabulate-at f i zero j h = absurd (omega arith)
 tabulate-at f i (suc n) zero h = let e : i ≡ i + 0 = omega arith in ap f e

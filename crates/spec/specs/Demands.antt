@@ -1,8 +1,8 @@
 -- The operator's three demands (paper 00) as statements over what the operations promise. Each operation's contract is its promise, and `demand1`, `demand2` and `demand3` of crate laws prove these of it.
--- A dispatcher's text is covered by them through its edited form (paper 02, slip 1): `edited-demands`.
+-- A dispatcher's text is covered by them through its edited form (paper 02, slip 1): `edited-demands`; one in UTF-8 (slip 2) through the bytes that are read: `read-demands`.
 -- That no step goes outside the lent memory and that every step ends is no statement over values: it is proved of each function by the language.
 -- Assumes nothing: these are definitions.
-use Prim.Native.Nat.{ℕ, _<_, _≤_}
+use Prim.Native.Nat.{ℕ, _*_, _<_, _≤_}
 use mathlib.Core.Path.{_≡_}
 use mathlib.Core.Bool.{true, false}
 use mathlib.Core.Logic.{_⊎_, _↔_}
@@ -14,6 +14,7 @@ use Rattle.spec.specs.Refusals.{fits, NoneFits, Given}
 use Rattle.spec.specs.Joints.{Rising, CutOf, breaks, joined, EachPart, markIndex, SplitAt, DiffersAt, isLive, NoneLive, liveCount, FirstBad}
 use Rattle.spec.specs.Answers.{numberOf, placeOf, lengthOf, liveOf, checkedNumber, checkedPlace, checkedCodes, checkedNames, CheckPromise, NamePromise, TranscribePromise, JoinPromise}
 use Rattle.spec.specs.Editing.{OnlyBreaks, edited, EditPromise}
+use Rattle.spec.specs.Utf8.{WellFormed, encoded, decoded, RunOf, Readable, StopsAt, ReadPromise, WritePromise}
 use Rattle.spec.specs.declared.Checked.{Checked}
 use Rattle.spec.specs.declared.Answer.{Answer}
 
@@ -32,17 +33,17 @@ pub record CarriedOut (text : List ℕ) (count : ℕ) (out out′ : List ℕ) (r
   pub length : lengthOf r ≡ length text
   pub live : liveOf r ≡ count
 
--- It is refused with a number of the table and the place that belongs to it; the refusal holds nothing else, and the output keeps every byte.
-pub record TurnedAway (Number : ℕ → ℕ → Type 0) (out out′ : List ℕ) (r : Answer) : Type 0 where
+-- It is refused with a number of the tables, up to the last one that it has, and the place that belongs to it; the refusal holds nothing else, and the output keeps every byte.
+pub record TurnedAway (last : ℕ) (Number : ℕ → ℕ → Type 0) (out out′ : List ℕ) (r : Answer) : Type 0 where
   pub output : out′ ≡ out
-  pub number : (1 ≤ numberOf r) × (numberOf r ≤ 12)
+  pub number : (1 ≤ numberOf r) × (numberOf r ≤ last)
   pub place : Number (numberOf r) (placeOf r)
   pub length : lengthOf r ≡ 0
   pub live : liveOf r ≡ 0
 
 -- One or the other, and nothing is put outside the output: it is as long as it was.
-pub record Settled (Number : ℕ → ℕ → Type 0) (text : List ℕ) (count : ℕ) (out out′ : List ℕ) (r : Answer) : Type 0 where
-  pub ended : CarriedOut text count out out′ r ⊎ TurnedAway Number out out′ r
+pub record Settled (last : ℕ) (Number : ℕ → ℕ → Type 0) (text : List ℕ) (count : ℕ) (out out′ : List ℕ) (r : Answer) : Type 0 where
+  pub ended : CarriedOut text count out out′ r ⊎ TurnedAway last Number out out′ r
   pub size : length out′ ≡ length out
 
 -- The check's refusal holds no counts, and it is lent nothing.
@@ -58,11 +59,11 @@ pub record Demand1 (m : List ℕ) : Type 0 where
   pub check : (r : Checked) → CheckPromise m r → (checkedNumber r ≡ 0) ⊎ CheckTurnedAway m r
   -- and so each operation that is lent an output: carried out, or refused with every byte left
   pub naming : (out out′ : List ℕ) (r : Answer) → NamePromise m out out′ r
-      → Settled (Due m [] (length (names m)) (length out)) (names m) 0 out out′ r
+      → Settled 12 (Due m [] (length (names m)) (length out)) (names m) 0 out out′ r
   pub transcriber : (out out′ : List ℕ) (r : Answer) → TranscribePromise m out out′ r
-      → Settled (Due m [] (length (tape m)) (length out)) (tape m) 0 out out′ r
+      → Settled 12 (Due m [] (length (tape m)) (length out)) (tape m) 0 out out′ r
   pub joiner : (cuts out out′ : List ℕ) (r : Answer) → JoinPromise m cuts out out′ r
-      → Settled (Due m cuts (length (joined m cuts)) (length out)) (joined m cuts) (liveCount m cuts) out out′ r
+      → Settled 12 (Due m cuts (length (joined m cuts)) (length out)) (joined m cuts) (liveCount m cuts) out out′ r
 
 -- An operation accepts exactly what it must, where Accepted says what that is, and refuses exactly as it must.
 pub record Exactly (Accepted : Type 0) (Number : ℕ → ℕ → Type 0) (text : List ℕ) (count : ℕ) (out out′ : List ℕ) (r : Answer) : Type 0 where
@@ -127,7 +128,7 @@ EditDue t room n p = (n ≡ 11) × (p ≡ length (edited t)) × (room < length (
 -- The demands for a text t of any bytes and any length, through its edited form.
 pub record EditedDemands (t : List ℕ) : Type 0 where
   -- the editor is carried out, or refused with every byte left
-  pub settled : (out out′ : List ℕ) (r : Answer) → EditPromise t out out′ r → Settled (EditDue t (length out)) (edited t) 0 out out′ r
+  pub settled : (out out′ : List ℕ) (r : Answer) → EditPromise t out out′ r → Settled 11 (EditDue t (length out)) (edited t) 0 out out′ r
   -- lent an output long enough, it accepts every text
   pub exact : (out out′ : List ℕ) (r : Answer) → EditPromise t out out′ r → Exactly (Unit {0}) (EditDue t (length out)) (edited t) 0 out out′ r
   -- what it has written is the edited text, the message that is handed on
@@ -147,3 +148,40 @@ pub record EditedDemands (t : List ℕ) : Type 0 where
   pub demand1 : Demand1 (edited t)
   pub demand2 : Demand2 (edited t)
   pub demand3 : NoneFits (edited t) → Demand3 (edited t)
+
+-- The reader's numbers: 13, where the text is readable no further, and then 11.
+pub data ReadDue (t : List ℕ) (room : ℕ) : ℕ → ℕ → Type 0 where
+  unreadable : (p : ℕ) → StopsAt t p → ReadDue t room 13 p
+  noRoom : Readable t → room < length (decoded t) → ReadDue t room 11 (length (decoded t))
+
+-- What holds for a text t of any bytes and any length that is to be read as UTF-8.
+pub record ReadDemands (t : List ℕ) : Type 0 where
+  -- the reader is carried out, or refused with every byte left
+  pub settled : (out out′ : List ℕ) (r : Answer) → ReadPromise t out out′ r → Settled 13 (ReadDue t (length out)) (decoded t) 0 out out′ r
+  -- lent an output long enough, it accepts exactly the runs of the table's sequences
+  pub exact : (out out′ : List ℕ) (r : Answer) → ReadPromise t out out′ r → Exactly (Readable t) (ReadDue t (length out)) (decoded t) 0 out out′ r
+  -- however much is lent, it refuses all others with 13, and so every malformed text
+  pub others : (out out′ : List ℕ) (r : Answer) → ReadPromise t out out′ r → (numberOf r ≡ 13) ↔ (Readable t → ⊥)
+  pub malformed : (out out′ : List ℕ) (r : Answer) → ReadPromise t out out′ r → (WellFormed t → ⊥) → numberOf r ≡ 13
+  -- there is one way to cut it
+  pub once : (m : List ℕ) → RunOf t m → m ≡ decoded t
+  -- an output as long as the text is long enough
+  pub size : length (decoded t) ≤ length t
+  -- what it has written are the bytes that are handed on, to the editor first
+  pub handed : (out out′ : List ℕ) (r : Answer) → ReadPromise t out out′ r → numberOf r ≡ 0 → take (lengthOf r) out′ ≡ decoded t
+  pub edits : EditedDemands (decoded t)
+  -- where they are an accepted message the writer gives the text back
+  pub back : Readable t → NoneFits (decoded t) → (out out′ : List ℕ) (r : Answer) → WritePromise (decoded t) out out′ r → length t ≤ length out
+      → CarriedOut t 0 out out′ r
+
+-- What holds for any bytes m that are to be written as UTF-8.
+pub record WriteDemands (m : List ℕ) : Type 0 where
+  -- the writer is carried out, or refused by the check's numbers and then 11, with every byte left
+  pub settled : (out out′ : List ℕ) (r : Answer) → WritePromise m out out′ r → Settled 12 (Due m [] (length (encoded m)) (length out)) (encoded m) 0 out out′ r
+  -- lent an output long enough, it accepts exactly what the check accepts
+  pub exact : (out out′ : List ℕ) (r : Answer) → WritePromise m out out′ r → Exactly (NoneFits m) (Due m [] (length (encoded m)) (length out)) (encoded m) 0 out out′ r
+  -- what it writes is UTF-8, and at most twice as long as the message
+  pub wellFormed : NoneFits m → WellFormed (encoded m)
+  pub size : length (encoded m) ≤ 2 * length m
+  -- the reader gives the message back, with letters as they stood
+  pub back : NoneFits m → (out out′ : List ℕ) (r : Answer) → ReadPromise (encoded m) out out′ r → length m ≤ length out → CarriedOut m 0 out out′ r

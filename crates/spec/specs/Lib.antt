@@ -12,5 +12,6 @@ pub mod Refusals
 pub mod Joints
 pub mod Answers
 pub mod Editing
+pub mod Utf8
 pub mod Demands
 pub mod Printed

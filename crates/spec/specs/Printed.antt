@@ -1,12 +1,16 @@
--- Paper 01, 'Joints', the program: the text that it prints for a message, in ASCII.
+-- Paper 01, 'Joints', the program: the text that it prints for a message, in ASCII. And the text that a second program prints for a text in UTF-8, with paper 02's slips 1 and 2 before it.
 -- Assumes nothing: these are definitions.
 use Prim.Native.Nat.{ℕ, zero, suc, _+_, _/_, _%_}
 use mathlib.Core.Bool.{cond}
 use mathlib.Core.List.{List, [], _∷_, _++_}
 use lib.Dec.{leb}
+use lib.ListN.{length}
 use Rattle.spec.specs.Tables.{ascii}
 use Rattle.spec.specs.Tape.{tape}
+use Rattle.spec.specs.Refusals.{refusal}
 use Rattle.spec.specs.Answers.{tapeAnswer}
+use Rattle.spec.specs.Editing.{edited}
+use Rattle.spec.specs.Utf8.{decoded, readAnswer}
 use Rattle.spec.specs.declared.Answer.{Answer}
 use Rattle.spec.specs.declared.Answer.the-variants.{Written, Refused}
 
@@ -33,3 +37,15 @@ printedAnswer (Refused r) codes = ascii "refused " ++ (decimal (r .number) ++ (a
 -- The whole text for a message m: the transcriber's answer, lent two bytes of output for each byte of the longest message, and a newline.
 unfoldable pub printed : List ℕ → List ℕ
 printed m = printedAnswer (tapeAnswer m 8192) (tape m) ++ ascii "\n"
+
+-- what is answered after the reader: its refusal, where it has one
+unfoldable pub afterReading : Answer → Answer → Answer
+afterReading (Written n k) a = a
+afterReading (Refused r) a = Refused r
+
+-- A text t in UTF-8 is read, lent as much as it has, then edited and transcribed as a message is; the editor, lent as much, refuses nothing. One of over 65,536 bytes is refused as a message of over 4,096 is.
+unfoldable pub textAnswer : List ℕ → Answer
+textAnswer t = cond (leb (length t) 65536) (afterReading (readAnswer t (length t)) (tapeAnswer (edited (decoded t)) 8192)) (Refused (refusal 2 0))
+
+unfoldable pub printedText : List ℕ → List ℕ
+printedText t = printedAnswer (textAnswer t) (tape (edited (decoded t))) ++ ascii "\n"

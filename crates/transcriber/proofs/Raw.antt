@@ -6,9 +6,9 @@ use Rattle.spec.specs.Syllables.{coverAfter, incomplete, levelOf, syllableOf, n
 use Rattle.spec.specs.{Tables.among, Refusals.vowelByte, Vowels.initial, Vowels.hardEnd, Vowels.glides, declared.Cover.Cover}
 use Rattle.message.specs.Classes.{classOf, isBreakClass, isSignClass, isLetterClass}
 use Rattle.message.specs.Places.{Steady, Left, stepLeft, leftAt, letterOf, wordAt, markedAt, factsAt}
-use Rattle.message.proofs.Bytes.{below, below-same, by-class, letter-class, not-both, vowel-break, vowel-mark}
+use Rattle.message.proofs.Bytes.{by-class, letter-class, not-both, vowel-break, vowel-mark}
 use Rattle.message.proofs.{Before.vowel-before, Left.left-letter, Computed.everything}
-use Rattle.laws.proofs.Classes.{among-same, either}
+use Rattle.laws.proofs.Classes.{among-same, either, below, below-same}
 use Rattle.transcriber.specs.Sounds.{byteBefore, Before, classBefore, isHardOrPaired, Told, syllableBy, glideBy, hardBefore}
 use Rattle.transcriber.specs.Levels.{levelBy}
 

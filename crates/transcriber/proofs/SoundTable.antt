@@ -1,7 +1,8 @@
 -- The code's table by its rule: what it gives for a letter and a sound is the letter's code before that sound, by one computation over all of them.
 use Rattle.laws.proofs.Kit.{ℕ, _+_, _*_, _%_, _<_, _≤_, _≡_, refl, true, cond, List, [], _∷_, arith, eqb, leb, getD, eqb-true, leb-true}
+use Rattle.laws.proofs.Classes.{below-same, pairs-same}
 use Rattle.spec.specs.{Letters.small, Letters.isConsonant, Refusals.consonantByte, Codes.isSound, Codes.isVoicing}
-use Rattle.message.proofs.{Bytes.below-same, Bytes.pairs-same, Computed.everything}
+use Rattle.message.proofs.Computed.{everything}
 use Rattle.transcriber.specs.Sounds.{toneBy, codeBy, codeBefore, Heard, alike, rowIn, softRow, soundRow, codeRow, firstRows, soundTable}
 use Rattle.transcriber.proofs.Raw.{where-same}
 

@@ -7,8 +7,8 @@ use Rattle.message.specs.Classes.{classOf, isBreakClass, isSignClass, isConsona
 use Rattle.message.specs.Fused.{toneBefore, vowelCodes, consonantCode, letterCodes}
 use Rattle.message.specs.Places.{Steady, leftAt, letterOf, markBefore, tapeAt, wordAt, toneAt, soundAt, codesAt, toneAfter, soundAfter}
 use Rattle.message.proofs.Tail.{tape-letter, tape-mark, tape-break, word-letter, word-mark, word-break, word-end, tone-letter, sound-letter, tone-mark, sound-mark, tone-break, sound-break, tone-end, sound-end}
-use Rattle.message.proofs.{Bytes.below, Bytes.by-class, Computed.everything, Left.mark-within, StepTable.class-spoken, Silent.elided-at}
-use Rattle.laws.proofs.{Classes.cond-same, Codes.vowel-sound, MarkIndex.sound-range, Putting.Put, Putting.put-none}
+use Rattle.message.proofs.{Bytes.by-class, Computed.everything, Left.mark-within, StepTable.class-spoken, Silent.elided-at}
+use Rattle.laws.proofs.{Classes.cond-same, Codes.vowel-sound, MarkIndex.sound-range, Putting.Put, Putting.put-none, Classes.below}
 use Rattle.transcriber.specs.Sounds.{classBefore, ByRow, rowOf, syllableBy, glideBy, hardBefore, toneBy, codeBy, Tells, codeBefore, Heard, soundTable}
 use Rattle.transcriber.specs.Walk.{VowelAt, syllableAt, Stands, Sung, sungCodes, pieceAt, Ready, ReadyFor, Stepped}
 use Rattle.transcriber.specs.{Levels.farLevel, Levels.levelBefore, Levels.LevelsAt, declared.Right.Right, declared.Vowel.Vowel}

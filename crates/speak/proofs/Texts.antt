@@ -1,0 +1,92 @@
+-- With buffers as long as the longest text the reader refuses with 13 alone and the editor nothing, so what is answered goes by the text.
+use Rattle.laws.proofs.Kit.{ℕ, _<_, _≤_, arith, _≡_, refl, sym, ap, _∙_, Bool, true, false, true≢false, ⊎-elim, List, [], length, take, drop, length-append, take-at, le-leb, lt-leb}
+use Rattle.spec.specs.Answers.{numberOf, placeOf, lengthOf, within, tapeAnswer}
+use Rattle.spec.specs.Editing.{edited, editAnswer, EditPromise}
+use Rattle.spec.specs.Utf8.{decoded, readAnswer, ReadPromise}
+use Rattle.spec.specs.Printed.{printedAnswer, afterReading, textAnswer}
+use Rattle.spec.specs.Demands.{CarriedOut, ReadDue, unreadable, noRoom}
+use Rattle.spec.specs.{Refusals.refusal, declared.Refusal.Refusal, declared.Answer.Answer, declared.Answer.the-variants.Written, declared.Answer.the-variants.Refused}
+use Rattle.laws.proofs.{Demands.edited-demands, Demands.read-demands}
+use Rattle.console.proofs.Texts.{decimal-size, refusal-length}
+
+-- no answer is both
+abbrev isWritten : Answer → Bool
+isWritten (Written n k) = true
+isWritten (Refused r) = false
+
+-- Where an operation was carried out, the first n bytes of its output are its text.
+pub record Part (text out : List ℕ) (n : ℕ) : Type 0 where
+  pub bytes : take n out ≡ text
+  pub size : n ≡ length (take n out)
+  pub within : n ≤ length out
+
+part : {text out out′ : List ℕ} {count n k : ℕ} {a : Answer} → CarriedOut text count out out′ a → a ≡ Written n k → Part text out′ n
+unfolding lengthOf
+part {text} {out} {out′} {n = n} c e =
+    let l : n ≡ length text = sym (ap lengthOf e) ∙ c .length in
+    let b : take n out′ ≡ text = rw (c .output, l) (take-at text (drop (length text) out) (length text) refl) in
+    record { bytes = b; size = rw b l; within = omega (arith, l, ap length (c .output), length-append text (drop (length text) out)) }
+
+-- The editor, lent as much as it is given
+module _ (m : List ℕ) {out out′ : List ℕ} {a : Answer} (p : EditPromise m out out′ a) (h : length m ≤ length out) where
+  -- puts the edited text
+  pub edit-part : {n k : ℕ} → a ≡ Written n k → Part (edited m) out′ n
+  edit-part e = let d = edited-demands m in part (d .exact out out′ a p .gives (omega (arith, d .size)) tt) e
+
+  -- and refuses nothing
+  pub edit-never : {r : Refusal} → a ≡ Refused r → ⊥
+  unfolding editAnswer within
+  edit-never e =
+      let f : editAnswer m (length out) ≡ Written (length (edited m)) 0 = rw (le-leb (length (edited m)) (length out) (omega (arith, edited-demands m .size))) in
+      true≢false (ap isWritten (sym f ∙ sym (p .answer) ∙ e))
+
+-- a refusal with small numbers is short in print, whatever tape there might be
+pub refusal-short : (r : Refusal) → r .number ≤ 13 → r .place ≤ 65536 → length (printedAnswer (Refused r) []) ≤ 40
+refusal-short r n p = omega (arith, refusal-length r [], decimal-size 1 (r .number) (omega (arith, n)), decimal-size 4 (r .place) (omega (arith, p)))
+
+-- a place that the reader gives is within the text
+due-place : {t : List ℕ} {room : ℕ} (n p : ℕ) → ReadDue t room n p → p ≤ length t
+due-place n p (unreadable q s) = omega (arith, s .within)
+due-place {t} n p (noRoom a l) = read-demands t .size
+
+-- The reader, lent as much as the text has
+module _ (t : List ℕ) {out out′ : List ℕ} {a : Answer} (p : ReadPromise t out out′ a) (h : length t ≤ length out) where
+  -- puts what is read
+  pub read-part : {n k : ℕ} → a ≡ Written n k → Part (decoded t) out′ n
+  unfolding numberOf
+  read-part e =
+      let d = read-demands t in
+      let x = d .exact out out′ a p in
+      let s : length (decoded t) ≤ length out = omega (arith, d .size) in
+      part (x .gives s (x .accepts s .0 (ap numberOf e))) e
+
+  -- which is no longer than the text
+  pub read-short : {n : ℕ} → Part (decoded t) out′ n → length (take n out′) ≤ length t
+  read-short w = omega (arith, ap length (w .bytes), read-demands t .size)
+
+  -- and answers as where it is lent just that
+  same-answer : readAnswer t (length t) ≡ a
+  unfolding readAnswer within
+  same-answer = rw (p .answer, le-leb (length (decoded t)) (length out) (omega (arith, read-demands t .size)), le-leb (length (decoded t)) (length t) (read-demands t .size))
+
+  -- its numbers have few digits
+  few : (numberOf a ≤ 13) × (placeOf a ≤ length t)
+  few = ⊎-elim (λ c. (omega (arith, c .number), omega (arith, c .place))) (λ d. (d .number .1, due-place _ _ (d .place))) (read-demands t .settled out out′ a p .ended)
+
+  module _ (short : length t ≤ 65536) where
+    -- what is read is edited and spoken
+    pub text-spoken : {n k : ℕ} → a ≡ Written n k → textAnswer t ≡ tapeAnswer (edited (decoded t)) 8192
+    unfolding textAnswer afterReading
+    text-spoken e = rw (le-leb (length t) 65536 short, same-answer, e)
+
+    -- what is not is refused, in few digits
+    pub text-refused : {r : Refusal} → a ≡ Refused r → (textAnswer t ≡ Refused r) × (length (printedAnswer (Refused r) []) ≤ 40)
+    unfolding textAnswer afterReading numberOf placeOf
+    text-refused {r} e =
+        let f = rw e at few in
+        (rw (le-leb (length t) 65536 short, same-answer, e), refusal-short r (f .0) (omega (arith, f .1)))
+
+-- A text that is too long is refused as such.
+pub text-long : (t : List ℕ) → 65536 < length t → textAnswer t ≡ Refused (refusal 2 0)
+unfolding textAnswer
+text-long t h = rw (lt-leb (length t) 65536 h)

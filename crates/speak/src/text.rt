@@ -1,0 +1,69 @@
+// What is printed for a text in UTF-8: the reader's refusal, or what the transcriber answers for the edited bytes. The buffers that it takes are lent.
+ghost use mathlib.Core.Path.{_≡_};
+ghost use Prim.Native.Nat.{_≤_};
+ghost use lib.ListN.{length, take};
+ghost use Rattle.io.specs.Counts.{Counts};
+ghost use Rattle.spec.specs.Tape.{tape};
+ghost use Rattle.spec.specs.Answers.{tapeAnswer};
+ghost use Rattle.spec.specs.Editing.{edited};
+ghost use Rattle.spec.specs.Utf8.{decoded};
+ghost use Rattle.spec.specs.Printed.{printedAnswer, textAnswer, printedText};
+ghost use Rattle.console.specs.Putting.{Put};
+use console::text::TEXT;
+use console::text::put_answer;
+use console::text::put_bytes;
+use console::text::put_refusal;
+use editor::edit;
+use spec::Answer;
+use spec::Refusal;
+use utf8::reader::read_utf8;
+
+// The longest text that is read.
+pub const TEXT_MAX: usize = 65536;
+
+// Edits what was read, and puts what the transcriber answers. The editor has room for every text that long, so it refuses nothing.
+fn put_edited(m: &[u8], plain: &mut [u8], print: &mut [u8]) -> usize
+    requires { ⌜ (length (now m) ≤ length (now plain)) × (32768 ≤ length (now print)) ⌝ }
+    ensures { λ r. ⌜ Put (printedAnswer (tapeAnswer (edited (now (m .entry))) 8192) (tape (edited (now (m .entry))))) (now (print .entry)) (now (print .exit)) 0 r ⌝ }
+    ensures { λ r. ⌜ r ≤ 32768 ⌝ }
+{
+    match edit(m, plain) {
+        Answer::Written { length, live: _ } => put_answer(&plain[..length], print),
+        Answer::Refused(r) => put_refusal(r, print),
+    }
+}
+
+// Reads the text, and puts what comes of it.
+fn put_read(t: &[u8], read: &mut [u8], plain: &mut [u8], print: &mut [u8]) -> usize
+    requires { ⌜ (length (now read) ≡ 65536) × (length (now plain) ≡ 65536) × (32768 ≤ length (now print)) ⌝ }
+    ensures { λ r. ⌜ Put (printedAnswer (textAnswer (now (t .entry))) (tape (edited (decoded (now (t .entry)))))) (now (print .entry)) (now (print .exit)) 0 r ⌝ }
+    ensures { λ r. ⌜ r ≤ 32768 ⌝ }
+{
+    if TEXT_MAX < t.len() {
+        return put_refusal(
+            Refusal {
+                number: 2,
+                place: 0,
+            },
+            print,
+        );
+    }
+    match read_utf8(t, read) {
+        Answer::Written { length, live: _ } => put_edited(&read[..length], plain, print),
+        Answer::Refused(r) => put_refusal(r, print),
+    }
+}
+
+// Puts the whole of what is printed, and answers how long it is.
+pub fn print_text(
+    t: &[u8],
+    read: &mut [u8; TEXT_MAX],
+    plain: &mut [u8; TEXT_MAX],
+    print: &mut [u8; TEXT],
+) -> usize
+    ensures { λ r. ⌜ Counts r (now (print .exit)) ⌝ }
+    ensures { λ r. ⌜ take r (now (print .exit)) ≡ printedText (now (t .entry)) ⌝ }
+{
+    let end = put_read(t, read, plain, print);
+    put_bytes(print, end, b"\n")
+}

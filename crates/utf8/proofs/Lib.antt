@@ -1,0 +1,4 @@
+pub mod Answering
+pub mod Computed
+pub mod Sequences
+pub mod Walking

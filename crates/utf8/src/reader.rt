@@ -1,0 +1,123 @@
+// The reader (paper 02, slip 2). The text is gone over twice: nothing may be written before all of it is known to be readable and to have room.
+ghost use mathlib.Core.Path.{_≡_};
+ghost use Prim.Native.Nat.{_+_, _≤_};
+ghost use lib.ListN.{length};
+ghost use Rattle.spec.specs.Tables.{among};
+ghost use Rattle.spec.specs.Utf8.{asciiBytes, decoded, readTo, ReadPromise};
+ghost use Rattle.laws.proofs.Putting.{Put};
+ghost use Rattle.utf8.specs.Tables.{leads, letters};
+ghost use Rattle.utf8.specs.Walk.{Stands, Reaches};
+use crate::Extent;
+use crate::tables::LeadTable;
+use crate::tables::LetterTable;
+use crate::tables::is_letter;
+use crate::tables::lead_table;
+use crate::tables::letter;
+use crate::tables::letter_table;
+use editor::is_break;
+use spec::Answer;
+use spec::Refusal;
+
+// Does the octet stand for itself: the stress mark, a break or a mark of punctuation?
+fn is_single(b: u8) -> bool
+    ensures { λ r. ⌜ r ≡ among asciiBytes b ⌝ }
+{
+    (b == b'*') | is_break(b)
+}
+
+// How far it is readable where at most one octet is left, at place i, and n bytes were read before.
+fn measure_last(text: &[u8], i: usize, n: usize) -> Extent
+    requires { ⌜ Stands (now text) i n × (length (now text) ≤ i + 1) ⌝ }
+    ensures { λ r. ⌜ Reaches (now (text .entry)) r ⌝ }
+{
+    if i < text.len() {
+        if is_single(text[i]) {
+            return Extent {
+                octets: i + 1,
+                bytes: n + 1,
+            };
+        }
+    }
+    Extent {
+        octets: i,
+        bytes: n,
+    }
+}
+
+// How far the text is readable. The loop stops before the last octet, so that one may always follow.
+fn measure(text: &[u8], t: &LeadTable) -> Extent
+    requires { ⌜ now t ≡ leads ⌝ }
+    ensures { λ r. ⌜ Reaches (now (text .entry)) r ⌝ }
+{
+    let mut i = 0;
+    let mut n = 0;
+    if text.len() == 0 {
+        return Extent {
+            octets: 0,
+            bytes: 0,
+        };
+    }
+    let last = text.len() - 1;
+    while i < last {
+        let lead = text[i];
+        let next = text[i + 1];
+        if is_single(lead) {
+            i += 1;
+            n += 1;
+        } else if is_letter(lead, next, t) {
+            i += 2;
+            n += 1;
+        } else {
+            return Extent {
+                octets: i,
+                bytes: n,
+            };
+        }
+    }
+    measure_last(text, i, n)
+}
+
+// Writes the bytes of a text that is readable to its end, where there is room for them.
+fn copy(text: &[u8], out: &mut [u8], t: &LetterTable)
+    requires { ⌜ (now t ≡ letters) × (readTo (now text) ≡ length (now text)) × (length (decoded (now text)) ≤ length (now out)) ⌝ }
+    ensures { λ _. ⌜ Put (decoded (now (text .entry))) (now (out .entry)) (now (out .exit)) (length (decoded (now (text .entry)))) 0 ⌝ }
+{
+    let mut i = 0;
+    let mut n = 0;
+    while i < text.len() {
+        let b = text[i];
+        if b < 0x80 {
+            out[n] = b;
+            i += 1;
+            n += 1;
+        } else {
+            out[n] = letter(b, text[i + 1], t);
+            i += 2;
+            n += 1;
+        }
+    }
+}
+
+// Reads a text into the lent output, or refuses and leaves every byte.
+pub fn read_utf8(text: &[u8], out: &mut [u8]) -> Answer
+    ensures { λ r. ⌜ ReadPromise (now (text .entry)) (now (out .entry)) (now (out .exit)) r ⌝ }
+{
+    let leads = lead_table();
+    let extent = measure(text, &leads);
+    if extent.octets < text.len() {
+        return Answer::Refused(Refusal {
+            number: 13,
+            place: extent.octets,
+        });
+    }
+    let length = extent.bytes;
+    if out.len() < length {
+        return Answer::Refused(Refusal {
+            number: 11,
+            place: length,
+        });
+    }
+    let letters = letter_table();
+    copy(text, out, &letters);
+    Answer::Written { length, live: 0 }
+}
