@@ -212,7 +212,7 @@ static const struct {
     uint32_t number; /* what both libraries must answer with */
 } operations[OPERATIONS] = {
     [NOTHING] = {"nothing", FOR_ALL, 1, 0},
-    [CHECK] = {"check", FOR_MESSAGES, 1, 0},
+    [CHECK] = {"check", FOR_MESSAGES | FOR_WRITER, 1, 0},
     [NAME] = {"name", FOR_MESSAGES, 1, 0},
     [TRANSCRIBE] = {"transcribe", FOR_MESSAGES, 1, 0},
     [JOIN_NO_CUT] = {"join, no cut", FOR_MESSAGES, 1, 0},

@@ -1,5 +1,5 @@
 -- What holds of every number below a bound is one computation, so a byte's tests go by its class.
-use Rattle.laws.proofs.Kit.{ℕ, zero, suc, _<_, _≡_, refl, Bool, true, false, _&&_, _||_, List, [], _∷_, map, arith, eqb, leb, eqb-true, eqb-false, leb-true, ne-eqb}
+use Rattle.laws.proofs.Kit.{ℕ, _<_, _≡_, refl, Bool, true, false, _&&_, _||_, List, [], _∷_, map, arith, eqb, leb, leb-true, ne-eqb}
 use Rattle.laws.proofs.Classes.{below, below-same}
 use Rattle.spec.specs.Alphabet.{«д», «е», «ё», «и», «т», «ю», «я»}
 use Rattle.spec.specs.Letters.{small, isMark, isBreak, isConsonant}

@@ -3,4 +3,5 @@ pub mod EditingExamples
 pub mod NameExamples
 pub mod PrintedExamples
 pub mod RefusalExamples
+pub mod Utf8Examples
 pub mod Words

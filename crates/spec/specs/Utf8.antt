@@ -92,6 +92,7 @@ unfoldable pub byteIn : List Character → List ℕ → ℕ
 byteIn [] s = 0
 byteIn (x is c ∷ rows) s = cond (same s (octets c)) x (byteIn rows s)
 
+-- both by the whole table: the sequence of a byte, the byte of a sequence, and whether that is one of the table's
 unfoldable pub sequence : ℕ → List ℕ
 sequence b = sequenceIn characters b
 

@@ -1,5 +1,5 @@
 -- Both walks go by sequences: what stands at a place tells how far the next one reaches, and that it adds one byte.
-use Rattle.laws.proofs.Kit.{ℕ, zero, suc, _+_, _-_, _*_, _<_, _≤_, arith, add-one, _≡_, refl, sym, ap, _∙_, _⊎_, inl, inr, ⊎-elim, Bool, true, false, true≢false, false≢true, List, [], _∷_, _++_, append-nil, length, take, drop, getD, set, length-append, length-drop, drop-cons, drop-drop, drop-of-length-le, getD-drop, take-all, take-suc, leb, leb-true, and-eq-true-iff}
+use Rattle.laws.proofs.Kit.{ℕ, zero, suc, _+_, _<_, _≤_, arith, add-one, _≡_, refl, sym, ap, _∙_, _⊎_, ⊎-elim, true, false, List, [], _∷_, _++_, append-nil, length, take, drop, getD, set, length-append, length-drop, drop-cons, drop-drop, drop-of-length-le, getD-drop, take-all, take-suc}
 use Rattle.spec.specs.Tables.{among}
 use Rattle.spec.specs.Utf8.{asciiBytes, hasRow, sequence, byteOf, isTaken, encoded, decoded, readTo, AllRows}
 use Rattle.laws.proofs.Classes.{either, below-or}

@@ -25,23 +25,20 @@ fn is_single(b: u8) -> bool
     (b == b'*') | is_break(b)
 }
 
-// How far it is readable where at most one octet is left, at place i, and n bytes were read before.
-fn measure_last(text: &[u8], i: usize, n: usize) -> Extent
-    requires { ⌜ Stands (now text) i n × (length (now text) ≤ i + 1) ⌝ }
+// How far it is readable where so many octets were read before, which became so many bytes, and at most one is left.
+fn measure_last(text: &[u8], octets: usize, bytes: usize) -> Extent
+    requires { ⌜ Stands (now text) octets bytes × (length (now text) ≤ octets + 1) ⌝ }
     ensures { λ r. ⌜ Reaches (now (text .entry)) r ⌝ }
 {
-    if i < text.len() {
-        if is_single(text[i]) {
+    if octets < text.len() {
+        if is_single(text[octets]) {
             return Extent {
-                octets: i + 1,
-                bytes: n + 1,
+                octets: octets + 1,
+                bytes: bytes + 1,
             };
         }
     }
-    Extent {
-        octets: i,
-        bytes: n,
-    }
+    Extent { octets, bytes }
 }
 
 // How far the text is readable. The loop stops before the last octet, so that one may always follow.
@@ -59,10 +56,11 @@ fn measure(text: &[u8], t: &LeadTable) -> Extent
     }
     let last = text.len() - 1;
     while i < last {
+        let after = i + 1;
         let lead = text[i];
-        let next = text[i + 1];
+        let next = text[after];
         if is_single(lead) {
-            i += 1;
+            i = after;
             n += 1;
         } else if is_letter(lead, next, t) {
             i += 2;

@@ -1,5 +1,5 @@
 -- The editor puts the edited text, and the transcriber's answer for it is put.
-use Rattle.laws.proofs.Kit.{arith, sym, _∙_, needs}
+use Rattle.laws.proofs.Kit.{needs}
 use Rattle.spec.specs.Editing.{edited}
 use Rattle.speak.proofs.Texts.{Part, edit-part, edit-never}
 use Rattle.speak.proofs.text.put_edited.Statement.{statement}

@@ -25,7 +25,7 @@ refused : (c : tie.After-r)
 refused c =
     let e = c .before .before .before .before in
     let b = e .before .before in
-    text-refused (b .before .before .before .before .before .args .t .now) (e .read-utf8 .ensures) (room b) (b .if1 .left) (c .r .given .1)
+    text-refused (b .before .before .before .before .before .args .t .now) (e .read-utf8 .ensures) (room b) (omega (arith, b .if1 .left)) (c .r .given .1)
 
 pub put-read-spec : {M : Type 1} → statement M
 unfolding printedAnswer
@@ -37,7 +37,7 @@ put-read-spec =
     (λ c.
     let p = c .before .before in
     let b = p .before .before in
-    (rw (text-long _ (b .if1 .taken)) (p .put-refusal .ensures), omega (arith, p .put-refusal .ensures .place, refusal-short (refusal 2 0) (omega arith) (omega arith))))
+    (rw (text-long (b .before .before .before .before .before .args .t .now) (omega (arith, b .if1 .taken))) (p .put-refusal .ensures), omega (arith, p .put-refusal .ensures .place, refusal-short (refusal 2 0) (omega arith) (omega arith))))
     (λ c κs. search needs) (λ c. search needs)
     (λ c. read (c .before) .within)
     (λ c. read (c .before .before) .size)
@@ -55,7 +55,7 @@ put-read-spec =
     let l = p .before .before .before .before .before in
     let e = l .before .before .before .before in
     let b = e .before .before in
-    rw (text-spoken (b .before .before .before .before .before .args .t .now) (e .read-utf8 .ensures) (room b) (b .if1 .left) (l .length .given .1)) (rw (read l .bytes) at (p .put-edited .ensures)))
+    rw (text-spoken (b .before .before .before .before .before .args .t .now) (e .read-utf8 .ensures) (room b) (omega (arith, b .if1 .left)) (l .length .given .1)) (rw (read l .bytes) at (p .put-edited .ensures)))
     (λ c. search needs) (λ c. search needs)
     (λ c.
     let p = c .before .before in

@@ -1,5 +1,5 @@
 -- The stress mark and what the editor takes for a break are the definition's list.
-use Rattle.laws.proofs.Kit.{_∙_, arith, needs}
+use Rattle.laws.proofs.Kit.{arith, needs}
 use Rattle.utf8.proofs.Sequences.{single-told}
 use Rattle.utf8.proofs.reader.is_single.Statement.{statement}
 use Rattle.utf8.proofs.reader.is_single.Tie as tie

@@ -1,5 +1,5 @@
 -- A letter's octets lie in ranges that the table covers, and it has the letter there.
-use Rattle.laws.proofs.Kit.{_<_, _≤_, sym, _∙_, arith, needs}
+use Rattle.laws.proofs.Kit.{_<_, sym, _∙_, arith, needs}
 use Rattle.utf8.proofs.Sequences.{letters-read, pair-byte, lead-within, next-within}
 use Rattle.utf8.proofs.tables.letter.Statement.{statement}
 use Rattle.utf8.proofs.tables.letter.Tie as tie

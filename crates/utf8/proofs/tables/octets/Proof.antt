@@ -1,5 +1,5 @@
 -- The table has the octets of each letter, from Ё on.
-use Rattle.laws.proofs.Kit.{_-_, _<_, _≡_, sym, _∙_, arith, getD, needs}
+use Rattle.laws.proofs.Kit.{_-_, _<_, _≡_, arith, getD, needs}
 use Rattle.utf8.specs.Tables.{sequenceOf}
 use Rattle.utf8.proofs.Sequences.{letter-sequence, letter-within, sequences-read, sequence-small}
 use Rattle.utf8.proofs.tables.octets.Statement.{statement}
@@ -21,5 +21,5 @@ octets-spec =
     (λ c. search needs)
     (λ c. search needs)
     (λ c. let s = c .before in omega (arith, read s, sequence-small (s .args .b - 0xA8) (within s)))
-    (λ c. search needs)
+    (λ c. let s = c .before in omega (arith, read s, sequence-small (s .args .b - 0xA8) (within s)))
     (λ c. let s = c .before in record { both = rw (read s) (letter-sequence _ (s .pre .2) (s .pre .1)) }))

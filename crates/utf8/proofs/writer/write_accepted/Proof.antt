@@ -15,7 +15,7 @@ write-accepted-spec =
     (tie.spec
     (λ c. search needs)
     (λ c κs. let s = c .before .before .before in (accepted-rows _ (s .pre), none-passes _ (s .pre) .short))
-    (λ c. promised-short (c .before .measure .ensures) 0 (c .if2 .taken))
+    (λ c. promised-short (c .before .measure .ensures) 0 (omega (arith, c .if2 .taken)))
     (λ c κs. search needs)
     (λ c κs. let t = c .before .before in let j = t .before in (t .sequence-table .ensures, accepted-rows _ (j .before .before .before .pre), room j))
     (λ c. search needs)

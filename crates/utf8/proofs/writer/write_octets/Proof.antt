@@ -4,7 +4,7 @@ use lib.ListN.{length-set}
 use Rattle.spec.specs.Utf8.{hasRow}
 use Rattle.laws.proofs.Putting.{put-length}
 use Rattle.utf8.proofs.Sequences.{single-sequence}
-use Rattle.utf8.proofs.Walking.{row-at, Writes, writes-none, writes-room, writes-single, writes-letter, writes-end, ahead-end}
+use Rattle.utf8.proofs.Walking.{row-at, Writes, writes-none, writes-room, writes-single, writes-letter, writes-end}
 use Rattle.utf8.proofs.writer.write_octets.Statement.{statement}
 use Rattle.utf8.proofs.writer.write_octets.Tie as tie
 
