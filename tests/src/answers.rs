@@ -19,6 +19,16 @@ pub struct Answer {
 }
 
 impl Answer {
+    /// The answer of an operation that takes no cuts, so that none is live.
+    pub fn without_cuts(number: u32, place: usize, length: usize) -> Answer {
+        Answer {
+            number,
+            place,
+            length,
+            live: 0,
+        }
+    }
+
     /// The refusal, unless the message was accepted.
     pub fn refusal(self) -> Option<Refusal> {
         let number = u8::try_from(self.number).expect("no number is above 13");

@@ -5,6 +5,7 @@ use crate::answers::{
     lent, whole_edit, whole_join, whole_names, whole_read_utf8, whole_tape, whole_write_utf8,
     Answer, Whole,
 };
+use crate::fence::{Fenced, Side};
 use crate::gen::{noise, Rng};
 use crate::text::{hex, show};
 use crate::unit;
@@ -140,6 +141,31 @@ impl<'a> Trial<'a> {
     /// The length of the whole answer; 0 for a refusal.
     pub fn length(&self) -> usize {
         self.whole.as_ref().map_or(0, |(written, _)| written.len())
+    }
+
+    /// Lengths of outputs around that of the answer; none; and that of the text, always enough for
+    /// one that is edited or read.
+    fn text_caps(&self) -> Vec<usize> {
+        let full = self.length();
+        let around = full.saturating_sub(2)..=full + 2;
+        around.chain([0, self.msg.len()]).collect()
+    }
+
+    /// Tries the operation with outputs of these lengths.
+    pub fn with_text_outputs(&self, rng: &mut Rng) -> Result<(), String> {
+        let mut caps = self.text_caps().into_iter();
+        caps.try_for_each(|cap| self.with_output(rng, cap))
+    }
+
+    /// Tries it on this copy of the text, with outputs of these lengths on one side of fenced memory.
+    pub fn within_fences(
+        &self,
+        text: &[u8],
+        side: Side,
+        outputs: &mut Fenced,
+    ) -> Result<(), String> {
+        let mut caps = self.text_caps().into_iter();
+        caps.try_for_each(|cap| self.in_place(text, side(outputs, cap)).map(drop))
     }
 
     /// Tries the operation with an output of `cap` bytes, and says what is wrong with it.

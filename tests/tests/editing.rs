@@ -87,12 +87,7 @@ fn every_other_byte_passes() {
 
 #[test]
 fn answers_and_lent_output() {
-    let answer = |number, place, length| Answer {
-        number,
-        place,
-        length,
-        live: 0,
-    };
+    let answer = Answer::without_cuts;
     let tried = |text, before: &[u8]| lent(Operation::Edit, &cp1251(text), before);
     let written = cp1251("а#7");
     let longer = [&written[..], &[9, 9]].concat();
@@ -168,13 +163,6 @@ fn text(rng: &mut Rng, length: usize, share: usize) -> Vec<u8> {
     (0..length).map(|_| byte(rng)).collect()
 }
 
-/// Lengths of outputs around that of the answer; none; and that of the text, always enough.
-fn caps(trial: &Trial, text: &[u8]) -> Vec<usize> {
-    let full = trial.length();
-    let around = full.saturating_sub(2)..=full + 2;
-    around.chain([0, text.len()]).collect()
-}
-
 #[test]
 fn long_texts() {
     let mut rng = Rng::for_test(82);
@@ -183,10 +171,8 @@ fn long_texts() {
         let length = rng.between(1, longest);
         let text = text(&mut rng, length, SHARES[round % 8]);
         let trial = Trial::new(Operation::Edit, &text);
-        for cap in caps(&trial, &text) {
-            let tried = trial.with_output(&mut rng, cap);
-            tried.unwrap_or_else(|difference| panic!("{difference}"));
-        }
+        let tried = trial.with_text_outputs(&mut rng);
+        tried.unwrap_or_else(|difference| panic!("{difference}"));
     }
 }
 
@@ -218,10 +204,8 @@ fn nothing_outside_is_touched() {
         let placed = side(&mut texts, length);
         placed.copy_from_slice(&text);
         let trial = Trial::new(Operation::Edit, &text);
-        for cap in caps(&trial, &text) {
-            let tried = trial.in_place(placed, output_side(&mut outputs, cap));
-            tried.unwrap_or_else(|difference| panic!("{difference}"));
-        }
+        let tried = trial.within_fences(placed, output_side, &mut outputs);
+        tried.unwrap_or_else(|difference| panic!("{difference}"));
     }
 }
 

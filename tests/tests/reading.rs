@@ -92,12 +92,7 @@ fn malformed_sequences() {
 
 #[test]
 fn answers_and_lent_output() {
-    let answer = |number, place, length| Answer {
-        number,
-        place,
-        length,
-        live: 0,
-    };
+    let answer = Answer::without_cuts;
     let tried = |text: &str, before: &[u8]| lent(Operation::ReadUtf8, text.as_bytes(), before);
     let written = cp1251("Ё, я");
     let longer = [&written[..], &[9, 9]].concat();
@@ -267,13 +262,6 @@ fn refused_at(rng: &mut Rng, text: &[u8], place: usize, characters: usize) {
     }
 }
 
-/// Lengths of outputs around that of the answer; none; and that of the text, always enough.
-fn caps(trial: &Trial, text: &[u8]) -> Vec<usize> {
-    let full = trial.length();
-    let around = full.saturating_sub(2)..=full + 2;
-    around.chain([0, text.len()]).collect()
-}
-
 #[test]
 fn long_texts() {
     let mut rng = Rng::for_test(93);
@@ -283,10 +271,8 @@ fn long_texts() {
         let text = taken(&mut rng, characters).into_bytes();
         let trial = Trial::new(Operation::ReadUtf8, &text);
         assert_eq!(trial.length(), characters);
-        for cap in caps(&trial, &text) {
-            let tried = trial.with_output(&mut rng, cap);
-            tried.unwrap_or_else(|difference| panic!("{difference}"));
-        }
+        let tried = trial.with_text_outputs(&mut rng);
+        tried.unwrap_or_else(|difference| panic!("{difference}"));
     }
 }
 
@@ -308,10 +294,8 @@ fn nothing_outside_is_touched() {
         let placed = side(&mut texts, text.len());
         placed.copy_from_slice(&text);
         let trial = Trial::new(Operation::ReadUtf8, &text);
-        for cap in caps(&trial, &text) {
-            let tried = trial.in_place(placed, output_side(&mut outputs, cap));
-            tried.unwrap_or_else(|difference| panic!("{difference}"));
-        }
+        let tried = trial.within_fences(placed, output_side, &mut outputs);
+        tried.unwrap_or_else(|difference| panic!("{difference}"));
     }
 }
 

@@ -59,12 +59,7 @@ fn refusals_of_the_check_come_first() {
 
 #[test]
 fn answers_and_lent_output() {
-    let answer = |number, place, length| Answer {
-        number,
-        place,
-        length,
-        live: 0,
-    };
+    let answer = Answer::without_cuts;
     let tried = |text: &str, before: &[u8]| lent(Operation::WriteUtf8, &cp1251(text), before);
     let written = "Ё#я*".as_bytes().to_vec();
     let longer = [&written[..], &[9, 9]].concat();
