@@ -120,25 +120,30 @@ pub measure-end : {t : List ℕ} {i n : ℕ} → Stands t i n → length t ≤ i
 unfolding decoded
 measure-end {t} {i} s l = stands-stop s (rw (drop-of-length-le t l))
 
--- What stands at a place of a text that is readable to its end
-module _ {t : List ℕ} {i n : ℕ} (s : Stands t i n) (whole : readTo t ≡ length t) (h : i < length t) (bytes : (j : ℕ) → getD t j 0 < 256) where
+-- What stands at the place of a loop that has not read all of the bytes
+module _ {t : List ℕ} {i n : ℕ} (s : Stands t i n) (more : n < length (decoded t)) (bytes : (j : ℕ) → getD t j 0 < 256) where
   -- something is read there
   some-read : decoded (drop i t) ≡ [] → ⊥
-  some-read d = absurd (omega (arith, stands-stop s d .0, whole))
+  some-read d = absurd (omega (arith, stands-stop s d .1))
+
+  -- so the text has not ended
+  pub copy-within : i < length t
+  unfolding decoded
+  copy-within = ⊎-elim (λ h. h) (λ l. absurd (some-read (rw (drop-of-length-le t l)))) (below-or i (length t))
 
   -- an octet below 0x80 that stands for itself
   pub copy-single : getD t i 0 < 0x80 → Next t i 1 (getD t i 0 ∷ [])
-  copy-single l = either (isTaken (getD t i 0 ∷ [])) (next-single t i h) (λ e. ⊎-elim
+  copy-single l = either (isTaken (getD t i 0 ∷ [])) (next-single t i copy-within) (λ e. ⊎-elim
       (λ w. either (isTaken (getD t i 0 ∷ getD t (i + 1) 0 ∷ []))
       (λ f. absurd (omega (arith, lead-within (getD t i 0) (getD t (i + 1) 0) (bytes (i + 1)) f .0)))
-      (λ f. absurd (some-read (next-neither t i h w e f))))
-      (λ w. absurd (some-read (next-alone t i h w e))) (below-or (i + 1) (length t)))
+      (λ f. absurd (some-read (next-neither t i copy-within w e f))))
+      (λ w. absurd (some-read (next-alone t i copy-within w e))) (below-or (i + 1) (length t)))
 
   -- or the first one of a letter's
   pub copy-letter : 0x80 ≤ getD t i 0 → Next t i 2 (getD t i 0 ∷ getD t (i + 1) 0 ∷ [])
-  copy-letter l = let e = no-single s h (bytes i) (large-other (getD t i 0) l) in ⊎-elim
-      (λ w. either (isTaken (getD t i 0 ∷ getD t (i + 1) 0 ∷ [])) (next-pair t i h w e) (λ f. absurd (some-read (next-neither t i h w e f))))
-      (λ w. absurd (some-read (next-alone t i h w e))) (below-or (i + 1) (length t))
+  copy-letter l = let e = no-single s copy-within (bytes i) (large-other (getD t i 0) l) in ⊎-elim
+      (λ w. either (isTaken (getD t i 0 ∷ getD t (i + 1) 0 ∷ [])) (next-pair t i copy-within w e) (λ f. absurd (some-read (next-neither t i copy-within w e f))))
+      (λ w. absurd (some-read (next-alone t i copy-within w e))) (below-or (i + 1) (length t))
 
 -- The reader's second loop: what is read up to place i was put.
 pub record Copies (t out₀ out : List ℕ) (i n : ℕ) : Type 0 where
@@ -150,7 +155,7 @@ copies-none t out = record { stands = stands-none t; put = put-none out 0 }
 
 module _ {t out₀ out : List ℕ} {i n : ℕ} (s : Copies t out₀ out i n) (room : length (decoded t) ≤ length out₀) where
   -- one byte more is put
-  pub copies-more : {k : ℕ} {o : List ℕ} (x : Next t i k o) → Copies t out₀ (set out n (byteOf o)) (i + k) (n + 1)
+  copies-more : {k : ℕ} {o : List ℕ} (x : Next t i k o) → Copies t out₀ (set out n (byteOf o)) (i + k) (n + 1)
   copies-more {k} {o} x =
       let b = next-byte (s .stands) x in
       let l = put-length _ _ _ _ _ (omega (arith, b .0)) (s .put) in
@@ -163,21 +168,20 @@ module _ {t out₀ out : List ℕ} {i n : ℕ} (s : Copies t out₀ out i n) (ro
   copies-room x = let b = next-byte (s .stands) x in omega (arith, put-length _ _ _ _ _ (omega (arith, b .0)) (s .put), b .0)
 
   -- It is the octet itself, or the letter's byte.
-  module _ (whole : readTo t ≡ length t) (h : i < length t) (bytes : (j : ℕ) → getD t j 0 < 256) where
+  module _ (more : n < length (decoded t)) (bytes : (j : ℕ) → getD t j 0 < 256) where
     pub copies-single : getD t i 0 < 0x80 → Copies t out₀ (set out n (getD t i 0)) (i + 1) (n + 1)
     copies-single l =
-        let x = copy-single (s .stands) whole h bytes l in
+        let x = copy-single (s .stands) more bytes l in
         rw (single-byte (getD t i 0) (sym (single-taken (getD t i 0) (bytes i)) ∙ x .taken)) at (copies-more x)
 
     pub copies-letter : {b : ℕ} → 0x80 ≤ getD t i 0 → b ≡ byteOf (getD t i 0 ∷ getD t (i + 1) 0 ∷ []) → Copies t out₀ (set out n b) (i + 2) (n + 1)
-    copies-letter l e = rw e (copies-more (copy-letter (s .stands) whole h bytes l))
+    copies-letter l e = rw e (copies-more (copy-letter (s .stands) more bytes l))
 
 -- At the end all of it is put.
-pub copies-end : {t out₀ out : List ℕ} {i n : ℕ} → Copies t out₀ out i n → length t ≤ i → Put (decoded t) out₀ out (length (decoded t)) 0
+pub copies-end : {t out₀ out : List ℕ} {i n : ℕ} → Copies t out₀ out i n → length (decoded t) ≤ n → Put (decoded t) out₀ out (length (decoded t)) 0
 copies-end {t} {out₀} {out} {i} {n} s l =
-    let e = measure-end (s .stands) l .1 in
-    let a : take n (decoded t) ≡ decoded t = rw e (take-all (length (decoded t)) (decoded t) (omega arith)) in
-    rw (← e) (rw a at (s .put))
+    let e : n ≡ length (decoded t) = omega (arith, s .stands .most) in
+    rw (← e) (rw (take-all n (decoded t) l) at (s .put))
 
 -- Every byte of a message with rows has one.
 pub row-at : (m : List ℕ) (i : ℕ) → AllRows m → i < length m → hasRow (getD m i 0) ≡ true

@@ -3,7 +3,7 @@ ghost use mathlib.Core.Path.{_≡_};
 ghost use Prim.Native.Nat.{_+_, _≤_};
 ghost use lib.ListN.{length};
 ghost use Rattle.spec.specs.Tables.{among};
-ghost use Rattle.spec.specs.Utf8.{asciiBytes, decoded, readTo, ReadPromise};
+ghost use Rattle.spec.specs.Utf8.{asciiBytes, decoded, ReadPromise};
 ghost use Rattle.laws.proofs.Putting.{Put};
 ghost use Rattle.utf8.specs.Tables.{leads, letters};
 ghost use Rattle.utf8.specs.Walk.{Stands, Reaches};
@@ -41,13 +41,11 @@ fn measure_last(text: &[u8], octets: usize, bytes: usize) -> Extent
     Extent { octets, bytes }
 }
 
-// How far the text is readable. The loop stops before the last octet, so that one may always follow.
+// How far the text is readable. The loop stops before the last octet, so that another always follows.
 fn measure(text: &[u8], t: &LeadTable) -> Extent
     requires { ⌜ now t ≡ leads ⌝ }
     ensures { λ r. ⌜ Reaches (now (text .entry)) r ⌝ }
 {
-    let mut i = 0;
-    let mut n = 0;
     if text.len() == 0 {
         return Extent {
             octets: 0,
@@ -55,6 +53,8 @@ fn measure(text: &[u8], t: &LeadTable) -> Extent
         };
     }
     let last = text.len() - 1;
+    let mut i = 0;
+    let mut n = 0;
     while i < last {
         let after = i + 1;
         let lead = text[i];
@@ -75,14 +75,14 @@ fn measure(text: &[u8], t: &LeadTable) -> Extent
     measure_last(text, i, n)
 }
 
-// Writes the bytes of a text that is readable to its end, where there is room for them.
-fn copy(text: &[u8], out: &mut [u8], t: &LetterTable)
-    requires { ⌜ (now t ≡ letters) × (readTo (now text) ≡ length (now text)) × (length (decoded (now text)) ≤ length (now out)) ⌝ }
-    ensures { λ _. ⌜ Put (decoded (now (text .entry))) (now (out .entry)) (now (out .exit)) (length (decoded (now (text .entry)))) 0 ⌝ }
+// Writes the bytes that are read of a text, so many, where there is room for them. Their number ends the loop, so the text's end is not asked for.
+fn copy(text: &[u8], bytes: usize, out: &mut [u8], t: &LetterTable)
+    requires { ⌜ (now t ≡ letters) × (bytes ≡ length (decoded (now text))) × (bytes ≤ length (now out)) ⌝ }
+    ensures { λ _. ⌜ Put (decoded (now (text .entry))) (now (out .entry)) (now (out .exit)) bytes 0 ⌝ }
 {
     let mut i = 0;
     let mut n = 0;
-    while i < text.len() {
+    while n < bytes {
         let b = text[i];
         if b < 0x80 {
             out[n] = b;
@@ -116,6 +116,6 @@ pub fn read_utf8(text: &[u8], out: &mut [u8]) -> Answer
         });
     }
     let letters = letter_table();
-    copy(text, out, &letters);
+    copy(text, length, out, &letters);
     Answer::Written { length, live: 0 }
 }

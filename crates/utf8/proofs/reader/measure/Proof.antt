@@ -7,10 +7,10 @@ use Rattle.utf8.proofs.reader.measure.Statement.{statement}
 use Rattle.utf8.proofs.reader.measure.Tie as tie
 
 abbrev Inv-loop : tie.InvT-loop
-Inv-loop text t i₀ n₀ last i n = Stands text i n
+Inv-loop text t last i₀ n₀ i n = Stands text i n
 
 abbrev μ-loop : tie.MeasureT-loop
-μ-loop text t i₀ n₀ last i n = length text - i
+μ-loop text t last i₀ n₀ i n = length text - i
 
 -- an octet follows the one at the loop's place
 follows : (c : tie.In-loop Inv-loop μ-loop) → c .before .loop .i + 1 < length (c .before .before .before .before .args .text .now)

@@ -1,5 +1,5 @@
 -- The text is measured, so what is left to read decides number 13, and the room number 11; then it is copied.
-use Rattle.laws.proofs.Kit.{_≡_, refl, arith, length, needs}
+use Rattle.laws.proofs.Kit.{_≡_, arith, length, needs}
 use Rattle.spec.specs.Utf8.{readTo}
 use Rattle.laws.proofs.{Utf8.read-most, Promises.promised-short, Promises.promised-written, Putting.put-first}
 use Rattle.utf8.proofs.Answering.{answered-unreadable, answered-read}
@@ -26,11 +26,11 @@ read-utf8-spec =
     (λ c κs.
     let e = c .before .before .before in
     let k = e .before in
-    (c .before .before .letter-table .ensures, whole k, omega (arith, e .if2 .left, k .before .before .measure .ensures .bytes)))
+    (c .before .before .letter-table .ensures, k .before .before .measure .ensures .bytes, e .if2 .left))
     (λ c. search needs)
     (λ c.
     let p = c .before .before in
     let e = p .before .before .before .before in
     let k = e .before in
     let n = k .before .before .measure .ensures .bytes in
-    rw (answered-read _ _ (whole k)) (promised-written n 0 (e .if2 .left) (rw n (put-first _ _ _ _ _ refl (p .copy .ensures))))))
+    rw (answered-read _ _ (whole k)) (promised-written n 0 (e .if2 .left) (put-first _ _ _ _ _ n (p .copy .ensures)))))
