@@ -41,18 +41,20 @@ before-spoken m zero h n = after-spoken 0 _ _ _ refl
 before-spoken m (suc i) h n = after-spoken (small (getD m i 0)) _ _ _ (class-before (getD m i 0) (h i) (rw (ne-eqb (classOf (getD m i 0)) 7 (n i refl))))
 
 -- a table has at each place what it says
-pub tabulate-at : (f : ℕ → ℕ) (i n j : ℕ) → j < n → getD (tabulate f i n) j 0 ≡ f (i + j)
+tabulate-at : (f : ℕ → ℕ) (i n j : ℕ) → j < n → getD (tabulate f i n) j 0 ≡ f (i + j)
 unfolding tabulate
 tabulate-at f i zero j h = absurd (omega arith)
 tabulate-at f i (suc n) zero h = let e : i ≡ i + 0 = omega arith in ap f e
 tabulate-at f i (suc n) (suc j) h = let e : suc i + j ≡ i + suc j = omega arith in tabulate-at f (suc i) n j (omega arith) ∙ ap f e
 
+-- a table that is made so is read so
+pub tabulate-read : (f : ℕ → ℕ) (n : ℕ) {t : List ℕ} {j : ℕ} → t ≡ tabulate f 0 n → j < n → getD t j 0 ≡ f j
+tabulate-read f n {t} {j} e h = let z : 0 + j ≡ j = omega arith in rw (e, tabulate-at f 0 n j h, z)
+
 -- the table of classes has the class of each byte
 pub class-read : (t : List ℕ) (b : ℕ) → t ≡ classes → b < 256 → getD t b 0 ≡ classOf b
 unfolding classes
-class-read t b e h =
-    let z : 0 + b ≡ b = omega arith in
-    rw (e, tabulate-at classOf 0 256 b h, z)
+class-read t b e h = tabulate-read classOf 256 e h
 
 -- How large the parts of an entry are. A stop is 1 and the fault, and where there is none the class is the next kind.
 pub record Entry (k c : ℕ) : Type 0 where

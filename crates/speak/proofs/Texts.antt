@@ -1,12 +1,13 @@
 -- With buffers as long as the longest text the reader refuses with 13 alone and the editor nothing, so what is answered goes by the text.
-use Rattle.laws.proofs.Kit.{ℕ, _<_, _≤_, arith, _≡_, refl, sym, ap, _∙_, Bool, true, false, true≢false, ⊎-elim, List, [], length, take, drop, length-append, take-at, le-leb, lt-leb}
+use Rattle.laws.proofs.Kit.{ℕ, _<_, _≤_, arith, _≡_, _≢_, refl, sym, ap, _∙_, Bool, true, false, true≢false, ⊎-elim, List, [], length, take, drop, length-append, take-at, eq-eqb, ne-eqb, le-leb, lt-leb}
 use Rattle.spec.specs.Answers.{numberOf, placeOf, lengthOf, within, tapeAnswer}
 use Rattle.spec.specs.Editing.{edited, editAnswer, EditPromise}
-use Rattle.spec.specs.Utf8.{decoded, readAnswer, ReadPromise}
+use Rattle.spec.specs.Utf8.{decoded, readTo, readAnswer, ReadPromise}
 use Rattle.spec.specs.Printed.{printedAnswer, afterReading, textAnswer}
 use Rattle.spec.specs.Demands.{CarriedOut, ReadDue, unreadable, noRoom}
 use Rattle.spec.specs.{Refusals.refusal, declared.Refusal.Refusal, declared.Answer.Answer, declared.Answer.the-variants.Written, declared.Answer.the-variants.Refused}
-use Rattle.laws.proofs.{Demands.edited-demands, Demands.read-demands}
+use Rattle.laws.proofs.{Classes.below-or, Utf8.read-most, Demands.edited-demands, Demands.read-demands}
+use Rattle.console.proofs.Room.{room-for-all}
 use Rattle.console.proofs.Texts.{decimal-size, refusal-length}
 
 -- no answer is both
@@ -90,3 +91,15 @@ module _ (t : List ℕ) {out out′ : List ℕ} {a : Answer} (p : ReadPromise t 
 pub text-long : (t : List ℕ) → 65536 < length t → textAnswer t ≡ Refused (refusal 2 0)
 unfolding textAnswer
 text-long t h = rw (lt-leb (length t) 65536 h)
+
+-- Number 11 is never printed.
+pub text-never : (t : List ℕ) → numberOf (textAnswer t) ≢ 11
+unfolding textAnswer afterReading readAnswer within numberOf
+text-never t e = ⊎-elim (λ h. absurd (omega (arith, rw (lt-leb (length t) 65536 h) at e)))
+    (λ s. ⊎-elim (λ h. absurd (omega (arith, rw (le-leb (length t) 65536 s, ne-eqb (readTo t) (length t) (omega arith)) at e)))
+    (λ h. absurd (omega (
+      arith,
+      room-for-all (edited (decoded t)),
+      rw (le-leb (length t) 65536 s, eq-eqb (readTo t) (length t) (omega (arith, read-most t)), le-leb (length (decoded t)) (length t) (read-demands t .size)) at e,
+    )))
+    (below-or (readTo t) (length t))) (below-or 65536 (length t))

@@ -1,5 +1,5 @@
 -- What the reader's and the writer's tests of octets tell: each is one computation over the 256 octets, since all letters begin with D0 or D1.
-use Rattle.laws.proofs.Kit.{ℕ, _+_, _*_, _-_, _/_, _%_, _<_, _≤_, _≡_, refl, sym, _∙_, Bool, true, false, cond, _&&_, _||_, not, and-false, true≢false, List, [], _∷_, arith, eqb, leb, eqb-true, leb-true, le-leb, lt-leb, and-eq-true-iff, length, getD}
+use Rattle.laws.proofs.Kit.{ℕ, _+_, _*_, _-_, _/_, _%_, _<_, _≤_, _≡_, refl, sym, _∙_, Bool, true, false, cond, _&&_, _||_, not, and-false, true≢false, List, [], _∷_, arith, eqb, leb, eqb-true, leb-true, le-leb, lt-leb, and-eq-true-iff, getD}
 use Rattle.spec.specs.Alphabet.{gap, mark}
 use Rattle.spec.specs.Letters.{between}
 use Rattle.spec.specs.Tables.{among}
@@ -7,7 +7,7 @@ use Rattle.spec.specs.Utf8.{asciiBytes, characters, rowBytes, hasRow, sequence,
 use Rattle.laws.proofs.Classes.{either, refuted, below-same, among-same, among-none}
 use Rattle.laws.proofs.Edited.{breaks}
 use Rattle.utf8.specs.Tables.{leadOf, leads, letterOf, letters, both, sequenceOf, sequences}
-use Rattle.message.proofs.StepTable.{tabulate-at}
+use Rattle.message.proofs.StepTable.{tabulate-read}
 use Rattle.spec.proofs.Computed.{everything}
 
 -- an octet that is taken alone stands for itself
@@ -20,6 +20,7 @@ pub single-told : (b : ℕ) → b < 256 → (eqb b mark || breaks b) ≡ among a
 unfolding everything
 single-told b h = below-same (λ x. eqb x mark || breaks x) (λ x. among asciiBytes x) 256 b refl h
 
+-- its byte is itself
 pub single-byte : (b : ℕ) → among asciiBytes b ≡ true → byteOf (b ∷ []) ≡ b
 unfolding everything
 single-byte b h = among-same (λ x. byteOf (x ∷ [])) (λ x. x) asciiBytes b refl h
@@ -92,11 +93,11 @@ module _ (lead next : ℕ) (h : next < 256) where
 -- what the tables have
 pub leads-read : {t : List ℕ} {b : ℕ} → t ≡ leads → b < 256 → getD t b 0 ≡ leadOf b
 unfolding leads
-leads-read {t} {b} e h = let z : 0 + b ≡ b = omega arith in rw (e, tabulate-at leadOf 0 256 b h, z)
+leads-read = tabulate-read leadOf 256
 
 pub letters-read : {t : List ℕ} {c : ℕ} → t ≡ letters → c < 128 → getD t c 0 ≡ letterOf c
 unfolding letters
-letters-read {t} {c} e h = let z : 0 + c ≡ c = omega arith in rw (e, tabulate-at letterOf 0 128 c h, z)
+letters-read = tabulate-read letterOf 128
 
 -- The octets of a byte of a message: itself below 0x80
 pub single-sequence : (b : ℕ) → hasRow b ≡ true → b < 0x80 → sequence b ≡ b ∷ []
@@ -114,12 +115,8 @@ letter-within b h l = leb-true 0xA8 b (rw (lt-leb b 0x7F (omega arith)) at (amon
 
 pub sequences-read : {t : List ℕ} {j : ℕ} → t ≡ sequences → j < 88 → getD t j 0 ≡ sequenceOf j
 unfolding sequences
-sequences-read {t} {j} e h = let z : 0 + j ≡ j = omega arith in rw (e, tabulate-at sequenceOf 0 88 j h, z)
+sequences-read = tabulate-read sequenceOf 88
 
 pub sequence-small : (j : ℕ) → j < 88 → sequenceOf j ≤ 0xFFFF
 unfolding everything sequenceOf both
 sequence-small j h = leb-true (sequenceOf j) 0xFFFF (below-same (λ x. leb (sequenceOf x) 0xFFFF) (λ _. true) 88 j refl h)
-
-pub letter-width : (b : ℕ) → hasRow b ≡ true → 0x80 ≤ b → length (sequence b) ≡ 2
-unfolding everything
-letter-width b h l = rw (lt-leb b 0x7F (omega arith)) at (among-same (λ x. cond (leb x 0x7F) 2 (length (sequence x))) (λ _. 2) (rowBytes characters) b refl h)
