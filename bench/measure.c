@@ -42,12 +42,21 @@ static const char *const chain_words[] = {"к", "с", "т", "п", "ш", "х", "�
 
 static const char *const letter_words[] = {"к", "с", "в", "а", "у", "о", "и", "я", "б", "э"};
 
-/* Sixty-four vowels with the mark on the first: the level of the last is settled by the farthest byte. */
-static const char *const vowel_words[] = {"а*оуыэеёиюяаоуыэеёиюяаоуыэеёиюяаоуыэеёиюяаоуыэеёиюяаоуыэеёиюяаоуы"};
-
-/* The same vowels, a mark on each: every syllable is stressed, and every second byte is a mark. */
-static const char *const marked_words[] = {
+/*
+ * Words of 64 letters, vowels alone and syllables of two letters: the mark on the first vowel, so that the level of the last is settled by the
+ * farthest byte; on the last; on none; and on every vowel, so that every syllable is stressed.
+ */
+static const char *const vowels_first[] = {"а*оуыэеёиюяаоуыэеёиюяаоуыэеёиюяаоуыэеёиюяаоуыэеёиюяаоуыэеёиюяаоуы"};
+static const char *const vowels_last[] = {"аоуыэеёиюяаоуыэеёиюяаоуыэеёиюяаоуыэеёиюяаоуыэеёиюяаоуыэеёиюяаоуы*"};
+static const char *const vowels_none[] = {"аоуыэеёиюяаоуыэеёиюяаоуыэеёиюяаоуыэеёиюяаоуыэеёиюяаоуыэеёиюяаоуы"};
+static const char *const vowels_every[] = {
     "а*о*у*ы*э*е*ё*и*ю*я*а*о*у*ы*э*е*ё*и*ю*я*а*о*у*ы*э*е*ё*и*ю*я*а*о*у*ы*э*е*ё*и*ю*я*а*о*у*ы*э*е*ё*и*ю*я*а*о*у*ы*э*е*ё*и*ю*я*а*о*у*ы*",
+};
+static const char *const letters_first[] = {"на*восутымэлерёкинювясатомулырэкенёвисютямалорукынэвесётимюлярако"};
+static const char *const letters_last[] = {"навосутымэлерёкинювясатомулырэкенёвисютямалорукынэвесётимюлярако*"};
+static const char *const letters_none[] = {"навосутымэлерёкинювясатомулырэкенёвисютямалорукынэвесётимюлярако"};
+static const char *const letters_every[] = {
+    "на*во*су*ты*мэ*ле*рё*ки*ню*вя*са*то*му*лы*рэ*ке*нё*ви*сю*тя*ма*ло*ру*кы*нэ*ве*сё*ти*мю*ля*ра*ко*",
 };
 
 /* What stands after a word, by turns. */
@@ -186,8 +195,14 @@ static const struct test_case cases[] = {
     {"text", 4096, LIST(words), LIST(gaps_and_pauses), 1, NULL, FOR_MESSAGES | FOR_WRITER},
     {"one-letter words", 4096, LIST(letter_words), LIST(gaps_and_pauses), 1, NULL, FOR_MESSAGES},
     {"chain of voice", 4096, LIST(chain_words), LIST(gaps), 0, "до", FOR_MESSAGES},
-    {"64 vowels", 4096, LIST(vowel_words), LIST(gaps), 0, NULL, FOR_MESSAGES},
-    {"64 marked vowels", 4096, LIST(marked_words), LIST(gaps), 0, NULL, FOR_MESSAGES},
+    {"64 vowels, first", 4096, LIST(vowels_first), LIST(gaps), 0, NULL, FOR_MESSAGES},
+    {"64 vowels, last", 4096, LIST(vowels_last), LIST(gaps), 0, NULL, FOR_MESSAGES},
+    {"64 vowels, none", 4096, LIST(vowels_none), LIST(gaps), 0, NULL, FOR_MESSAGES},
+    {"64 vowels, every", 4096, LIST(vowels_every), LIST(gaps), 0, NULL, FOR_MESSAGES},
+    {"64 letters, first", 4096, LIST(letters_first), LIST(gaps), 0, NULL, FOR_MESSAGES},
+    {"64 letters, last", 4096, LIST(letters_last), LIST(gaps), 0, NULL, FOR_MESSAGES},
+    {"64 letters, none", 4096, LIST(letters_none), LIST(gaps), 0, NULL, FOR_MESSAGES},
+    {"64 letters, every", 4096, LIST(letters_every), LIST(gaps), 0, NULL, FOR_MESSAGES},
     {"clusters", 4096, LIST(cluster_words), LIST(gaps), 0, NULL, FOR_MESSAGES},
     {"every letter", 4096, LIST(alphabets), LIST(gaps_and_pauses), 0, NULL, FOR_WRITER},
     {"punctuated text", 16, LIST(words), LIST(punctuation), 1, NULL, FOR_EDITOR},

@@ -1,4 +1,4 @@
--- An accepted message is steady: each of its bytes has a class, and a mark stands right after a vowel.
+-- An accepted message is steady: it is short, each of its bytes has a class, and a mark stands right after a vowel.
 use Rattle.laws.proofs.Kit.{ℕ, suc, _<_, _≡_, sym, _∙_, true, true≢false, false≢true, List, [], getD, drop}
 use Rattle.spec.specs.Refusals.{vowelByte, first, row3, row5, rows, fitsIn, beforeAt, checkOf}
 use Rattle.spec.specs.{Letters.isMark, declared.Counts.Counts, declared.Checked.the-variants.Accepted}
@@ -22,6 +22,7 @@ unfolding beforeAt first
 accepted-steady m counts e bytes =
     let p = accepted-passes m counts e in
     record {
+      short = p .short;
       bytes = bytes;
       named = λ i h. clear-named (beforeAt m i) (getD m i 0) (drop (suc i) m) (by-class (getD m i 0) (bytes i)) (p .rows i h);
       marks = λ i h. clear-mark (beforeAt m (suc i)) (getD m (suc i) 0) (drop (suc (suc i)) m) (p .rows (suc i) h);

@@ -1,6 +1,6 @@
 -- The tape and the names from a place of a message on, as a walk from the right leaves them, and what the bytes before a place say. These are not the paper's words: `proofs/` shows that they agree with them.
 -- Assumes nothing: these are definitions.
-use Prim.Native.Nat.{ℕ, zero, suc, _<_}
+use Prim.Native.Nat.{ℕ, zero, suc, _<_, _≤_}
 use mathlib.Core.Path.{_≡_}
 use mathlib.Core.Bool.{Bool, true, false, cond, _&&_, _||_, not}
 use mathlib.Core.List.{List, [], _∷_, _++_}
@@ -101,8 +101,9 @@ tailNamesOf l facts (more w x r) = namesFrom facts (l .p) w ++ namesOf r
 unfoldable pub namesAt : List ℕ → ℕ → List ℕ
 namesAt m i = tailNamesOf (leftAt m i) (factsAt m i) (read (drop i m))
 
--- Steady: each byte is below 256 and named, and a mark stands right after a vowel. The check's acceptance gives it.
+-- Steady: no more than 4,096 bytes, each below 256 and named, and a mark stands right after a vowel. The check's acceptance gives it.
 pub record Steady (m : List ℕ) : Type 0 where
+  pub short : length m ≤ 4096
   pub bytes : (i : ℕ) → getD m i 0 < 256
   pub named : (i : ℕ) → i < length m → classOf (getD m i 0) ≡ 0 → ⊥
   pub marks : (i : ℕ) → suc i < length m → isMark (getD m (suc i) 0) ≡ true → vowelByte (getD m i 0) ≡ true

@@ -145,12 +145,6 @@ fourAt m i k = packed k (classAt m i) + packed (classAt m i) (classAt m (i + 1))
 abbrev pub silentFour : List ℕ → ℕ → ℕ
 silentFour m i = silentAt m i + silentAt m (i + 1) + silentAt m (i + 2) + silentAt m (i + 3)
 
--- Four bytes from place i on can be weighed: x has at least as many codes as they lose, and asks where they lose any.
-pub record Weighs (m : List ℕ) (i x : ℕ) : Type 0 where
-  pub within : i + 4 ≤ length m
-  pub enough : silentFour m i ≤ x % askUnit
-  pub plain : x < askUnit → silentFour m i ≡ 0
-
 -- four bytes from any place before r are among the first n
 abbrev pub FoursTo : ℕ → ℕ → Type 0
 FoursTo r n = r ≤ n - 3

@@ -1,13 +1,13 @@
 // The message check: one walk from left to right. Nearly all bytes are passed by fours, since what a byte adds depends on its class and the class before it alone.
 ghost use mathlib.Core.Path.{_≡_};
 ghost use mathlib.Core.Bool.{_&&_};
-ghost use Prim.Native.Nat.{_+_, _*_, _<_, _≤_, _%_};
+ghost use Prim.Native.Nat.{_+_, _*_, _<_, _≤_};
 ghost use lib.Dec.{leb};
 ghost use lib.ListN.{length};
 ghost use Rattle.spec.specs.Refusals.{checkOf};
 ghost use Rattle.spec.specs.Answers.{CheckPromise};
 ghost use Rattle.message.specs.Classes.{classes, isLetterClass, classAt, silentAt};
-ghost use Rattle.message.specs.Steps.{nextKind, packed, tailNames, lettersAt, Sees, Begins, Reads, fourAt, silentFour, Weighs, FoursTo, Goes, Counted, Stands, Judged, finishOf, askUnit, stopUnit};
+ghost use Rattle.message.specs.Steps.{nextKind, packed, tailNames, lettersAt, Sees, Begins, Reads, fourAt, silentFour, FoursTo, Goes, Counted, Stands, Judged, finishOf, stopUnit};
 use crate::Seen;
 use crate::Step;
 use crate::classes::AFTER_VOWEL_STEP;
@@ -84,18 +84,7 @@ fn silent_four(m: &[u8], i: usize) -> usize
     silent_at(m, i) + silent_at(m, i + 1) + silent_at(m, i + 2) + silent_at(m, i + 3)
 }
 
-// What four bytes add, x being the sum of their entries.
-fn weigh_four(m: &[u8], i: usize, x: usize) -> usize
-    requires { ⌜ Weighs (now m) i x ⌝ }
-    ensures { λ r. ⌜ r + silentFour (now (m .entry)) i ≡ x % askUnit ⌝ }
-{
-    if x < ASK {
-        return x;
-    }
-    x % ASK - silent_four(m, i)
-}
-
-// Passes bytes by fours while these begin before place to and need no more than to be added. This loop has nearly all bytes, so it does nothing else.
+// Passes bytes by fours while these begin before place to and need no more than to be added. This loop has nearly all bytes, so it does nothing else: the usual four have neither an ask nor a stop, which one comparison tells.
 fn pass_fours(m: &[u8], to: usize, seen: Seen, t: &ClassTable, s: &PairTable) -> Seen
     requires { ⌜ Goes (now m) (now t) (now s) seen to ⌝ }
     ensures { λ r. ⌜ Sees (now (m .entry)) r × (seen .at ≤ r .at) ⌝ }
@@ -107,7 +96,9 @@ fn pass_fours(m: &[u8], to: usize, seen: Seen, t: &ClassTable, s: &PairTable) ->
     let mut sum = seen.sum;
     while at < to {
         let x = sum_four(m, at, kind, t, s);
-        if STOP <= x {
+        if x < ASK {
+            sum += x;
+        } else if STOP <= x {
             return Seen {
                 at,
                 kind,
@@ -115,8 +106,9 @@ fn pass_fours(m: &[u8], to: usize, seen: Seen, t: &ClassTable, s: &PairTable) ->
                 limit,
                 sum,
             };
+        } else {
+            sum += x % ASK - silent_four(m, at);
         }
-        sum += weigh_four(m, at, x);
         kind = class_of(m[at + 3], t);
         at += 4;
     }

@@ -13,5 +13,6 @@ pub mod Joints
 pub mod Answers
 pub mod Editing
 pub mod Utf8
+pub mod LevelSteps
 pub mod Demands
 pub mod Printed

@@ -1,75 +1,172 @@
--- The levels of vowels, carried from the right: a mark makes the vowel before it stressed, the vowel before that is of level 1, and those further left are of level 2, or 1 where the word has no mark.
-use Rattle.laws.proofs.Kit.{ℕ, suc, _<_, _≡_, refl, sym, ap, _∙_, Bool, true, false, List, length, getD, drop, drop-length}
-use Rattle.spec.specs.{Letters.isBreak, Letters.isMark, Letters.beginsWithMark, Refusals.vowelByte, Syllables.nextStressed, declared.Level.Level, declared.Level.the-variants.Stressed}
-use Rattle.message.specs.Places.{Steady, letterOf, wordAt, markBefore, markedAt}
-use Rattle.message.proofs.Tail.{word-letter, word-break, word-end, marked-within, marked-break, marked-end}
-use Rattle.message.proofs.{Bytes.vowel-break, Bytes.vowel-mark, Left.begins-at, Left.mark-within, Left.unmarked-after}
-use Rattle.laws.proofs.Classes.{break-mark}
-use Rattle.transcriber.specs.Levels.{levelBy, farLevel, levelBefore, nearLevel, LevelsAt}
+-- The run of the levels' step: a mark makes the vowel before it stressed, the vowel before that is of level 1, and those further left are of level 2, or 1 where the word has no mark. No
+-- byte is stepped over more than twice.
+use Rattle.laws.proofs.Kit.{ℕ, zero, suc, _+_, _*_, _<_, _≤_, _≡_, refl, sym, ap, _∙_, Bool, true, false, arith, List, [], _∷_, length, getD, drop, drop-length, add-one}
+use Rattle.spec.specs.Letters.{between, isBreak, isMark, beginsWithMark}
+use Rattle.spec.specs.{Refusals.vowelByte, Syllables.nextStressed, LevelSteps.StepsSuffice, declared.Level.Level}
+use Rattle.message.specs.{Classes.classes, Classes.classOf, Places.Steady, Places.letterOf, Places.wordAt, Places.markBefore, Places.markedAt}
+use Rattle.message.proofs.Tail.{word-letter, word-mark, word-break, word-end, marked-within, marked-break, marked-end}
+use Rattle.message.proofs.{Bytes.vowel-break, Bytes.vowel-mark, Bytes.not-both, Computed.everything, Left.begins-at, Left.mark-within, Left.unmarked-after}
+use Rattle.laws.proofs.Classes.{break-mark, break-vowel, either}
+use Rattle.transcriber.specs.declared.LevelRun.{LevelRun}
+use Rattle.transcriber.specs.Levels.{levelBy, countedBy, numbered, nearly, sinceBy, endRun, stepOver, StepDue, backAt, LookDue, Looked, nearLevel, LevelsAt}
 use Rattle.transcriber.specs.{Sounds.classBefore, Sounds.syllableBy, Walk.syllableAt}
-use Rattle.transcriber.proofs.Raw.{syllable-raw}
+use Rattle.transcriber.proofs.Raw.{syllable-raw, where-same}
 
--- the level before a vowel that is stressed or not
-level-next : (stressed ahead marked : Bool) → levelBefore (levelBy stressed ahead marked) (farLevel marked) ≡ levelBy false stressed marked
-unfolding levelBy
-level-next true ahead marked = refl
-level-next false true true = refl
-level-next false true false = refl
-level-next false false true = refl
-level-next false false false = refl
+-- a letter that is no vowel is no break and no mark
+pub plain-letter : (b : ℕ) → b < 256 → between 4 9 (classOf b) ≡ true → (isBreak b ≡ false) × (isMark b ≡ false) × (vowelByte b ≡ false)
+unfolding everything
+plain-letter b h c =
+    let e = where-same (λ x. between 4 9 (classOf x)) (λ x. isBreak x ∷ isMark x ∷ vowelByte x ∷ []) (λ _. false ∷ false ∷ false ∷ []) [] b refl h c in
+    (cc, cc, cc)
 
--- with no mark near it is the far one
-level-far : (marked : Bool) → farLevel marked ≡ levelBy false false marked
+-- nor is a mark a vowel
+pub mark-vowel : (b : ℕ) → b < 256 → isMark b ≡ true → vowelByte b ≡ false
+unfolding everything
+mark-vowel b = not-both isMark vowelByte b refl
+
+-- the count tells the level, as far as it makes a difference
+level-nearly : (n : ℕ) (marked : Bool) → numbered (countedBy n marked) ≡ numbered (countedBy (nearly n) marked)
+level-nearly zero marked = refl
+level-nearly (suc zero) marked = refl
+level-nearly (suc (suc n)) marked = refl
+
+level-since : (stressed ahead marked : Bool) → numbered (countedBy (sinceBy stressed ahead) marked) ≡ levelBy stressed ahead marked
 unfolding levelBy
-level-far true = refl
-level-far false = refl
+level-since true ahead marked = refl
+level-since false true marked = refl
+level-since false false true = refl
+level-since false false false = refl
+
+-- a vowel is a syllable more
+nearly-more : (n : ℕ) (stressed ahead : Bool) → nearly n ≡ sinceBy stressed ahead → nearly (suc n) ≡ sinceBy false stressed
+nearly-more zero true ahead e = refl
+nearly-more zero false true e = omega (arith, e)
+nearly-more zero false false e = omega (arith, e)
+nearly-more (suc zero) true ahead e = omega (arith, e)
+nearly-more (suc zero) false ahead e = refl
+nearly-more (suc (suc n)) true ahead e = omega (arith, e)
+nearly-more (suc (suc n)) false ahead e = refl
+
+-- back to a break there are no more bytes than all
+pub back-most : (m : List ℕ) (i : ℕ) → backAt m i ≤ i
+unfolding backAt
+back-most m zero = omega arith
+back-most m (suc i) = either (isBreak (getD m i 0)) (λ b. rw b (omega arith)) (λ b. rw b (omega (arith, back-most m i)))
+
+-- a byte that is no break is one more of them
+pub back-within : (m : List ℕ) (i : ℕ) → isBreak (getD m i 0) ≡ false → backAt m (suc i) ≡ suc (backAt m i)
+unfolding backAt
+back-within m i b = rw b
+
+-- and behind a break it is the one
+pub back-break : (m : List ℕ) (i : ℕ) → isBreak (getD m i 0) ≡ true → backAt m (suc i) ≡ 1
+unfolding backAt
+back-break m i b = rw b
+
+-- the run at a place tells the level of the next vowel to the left
+pub levels-near : {m : List ℕ} {i : ℕ} {s : LevelRun} → LevelsAt m i s → numbered (countedBy (s .since) (s .marked)) ≡ nearLevel m i
+levels-near {m} {i} {s} l = level-nearly (s .since) (s .marked) ∙ rw (l .since, l .marked) (level-since (beginsWithMark (drop i m)) (nextStressed (wordAt m i)) (markedAt m i))
+
+-- there is room for a step
+pub levels-due : {t m : List ℕ} {i : ℕ} {s : LevelRun} → t ≡ classes → Steady m → i < length m → LevelsAt m (suc i) s → StepDue t s (getD m i 0)
+levels-due {m = m} {i} e steady h l = record {
+  table = e;
+  named = steady .named i h;
+  steps = omega (arith, l .steps, back-most m (suc i), steady .short);
+  since = omega (arith, l .most, steady .short);
+}
+
+-- the run that is over took so many steps
+pub levels-done : {m : List ℕ} {s : LevelRun} → LevelsAt m 0 s → StepsSuffice m (s .steps)
+unfolding backAt
+levels-done l = record { four = omega (arith, l .steps); two = omega (arith, l .steps); taken = λ u. omega (arith, l .taken u) }
 
 module _ (m : List ℕ) (steady : Steady m) (i : ℕ) (h : i < length m) where
   -- the syllable of a vowel
   pub levels-syllable : {n : Level} → vowelByte (getD m i 0) ≡ true → n ≡ nearLevel m (suc i) → syllableAt m i ≡ syllableBy (classBefore m i) n
   levels-syllable v e = rw (syllable-raw m steady i h, marked-within m steady i h (vowel-break (getD m i 0) (steady .bytes i) v), e)
 
-  -- over a vowel
-  pub levels-vowel : {n f : Level} → vowelByte (getD m i 0) ≡ true → LevelsAt m (suc i) n f → LevelsAt m i (levelBefore n f) f
-  unfolding nextStressed letterOf vowelByte
-  levels-vowel v l =
-      let s = vowel-break (getD m i 0) (steady .bytes i) v in
-      let k = vowel-mark (getD m i 0) (steady .bytes i) v in
-      let w = marked-within m steady i h s in
-      record {
-        near = rw (l .near, l .far, begins-at m i, k, word-letter m steady i h s k, v, w) (level-next (beginsWithMark (drop (suc i) m)) (nextStressed (wordAt m (suc i))) (markedAt m (suc i)));
-        far = l .far ∙ ap farLevel (sym w);
-      }
+  module _ {s : LevelRun} (l : LevelsAt m (suc i) s) where
+    -- over a vowel
+    over-vowel : vowelByte (getD m i 0) ≡ true → LevelsAt m i (record { steps = s .steps + 1; since = s .since + 1; marked = s .marked; edge = false })
+    unfolding nextStressed letterOf vowelByte
+    over-vowel v =
+        let b = vowel-break (getD m i 0) (steady .bytes i) v in
+        let k = vowel-mark (getD m i 0) (steady .bytes i) v in
+        record {
+          since = rw (add-one (s .since), begins-at m i, k, word-letter m steady i h b k, v) (nearly-more (s .since) (beginsWithMark (drop (suc i) m)) (nextStressed (wordAt m (suc i))) (l .since));
+          marked = l .marked ∙ sym (marked-within m steady i h b);
+          most = omega (arith, l .most);
+          steps = omega (arith, l .steps, back-within m i b);
+          taken = λ u. omega (arith, l .taken u, back-within m i b);
+        }
 
-  -- over another letter
-  pub levels-letter : {n f : Level} → isBreak (getD m i 0) ≡ false → isMark (getD m i 0) ≡ false → vowelByte (getD m i 0) ≡ false → LevelsAt m (suc i) n f → LevelsAt m i n f
-  unfolding nextStressed letterOf vowelByte
-  levels-letter s k v l =
-      let w = marked-within m steady i h s in
-      let u : beginsWithMark (drop (suc i) m) ≡ false = begins-at m (suc i) ∙ unmarked-after m steady i v in
-      record {
-        near = l .near ∙ rw (u, begins-at m i, k, word-letter m steady i h s k, v, w);
-        far = l .far ∙ ap farLevel (sym w);
-      }
+    -- over another letter
+    over-letter : isBreak (getD m i 0) ≡ false → isMark (getD m i 0) ≡ false → vowelByte (getD m i 0) ≡ false
+        → LevelsAt m i (record { steps = s .steps + 1; since = s .since; marked = s .marked; edge = false })
+    unfolding nextStressed letterOf vowelByte
+    over-letter b k v =
+        let u : beginsWithMark (drop (suc i) m) ≡ false = begins-at m (suc i) ∙ unmarked-after m steady i v in
+        record {
+          since = l .since ∙ rw (u, begins-at m i, k, word-letter m steady i h b k, v);
+          marked = l .marked ∙ sym (marked-within m steady i h b);
+          most = omega (arith, l .most);
+          steps = omega (arith, l .steps, back-within m i b);
+          taken = λ u. omega (arith, l .taken u, back-within m i b);
+        }
 
-  -- over a mark
-  pub levels-mark : {n f : Level} → isMark (getD m i 0) ≡ true → LevelsAt m (suc i) n f → LevelsAt m i Stressed f
-  unfolding levelBy
-  levels-mark k l = record { near = rw (begins-at m i, k); far = l .far ∙ ap farLevel (sym (marked-within m steady i h (mark-within (getD m i 0) k))) }
+    -- over a mark
+    over-mark : isMark (getD m i 0) ≡ true → LevelsAt m i (record { steps = s .steps + 1; since = 0; marked = true; edge = true })
+    unfolding markedAt markBefore
+    over-mark k =
+        let b = mark-within (getD m i 0) k in
+        record {
+          since = rw (begins-at m i, k);
+          marked = sym (marked-within m steady i h b ∙ rw (b, k));
+          most = omega arith;
+          steps = omega (arith, l .steps, back-within m i b);
+          taken = λ u. omega (arith, l .taken u, back-within m i b);
+        }
 
-  -- over a break, before which another word ends
-  pub levels-break : {f : Level} → isBreak (getD m i 0) ≡ true → f ≡ farLevel (markBefore m i) → LevelsAt m i f f
-  unfolding nextStressed
-  levels-break s e =
-      let w = marked-break m steady i h s in
-      record {
-        near = rw (e, begins-at m i, break-mark (getD m i 0) s, word-break m steady i h s, w) (level-far (markBefore m i));
-        far = rw w e;
-      }
+    -- so over every byte of a word
+    pub levels-over : isBreak (getD m i 0) ≡ false → LevelsAt m i (stepOver s (getD m i 0))
+    levels-over b =
+        either (vowelByte (getD m i 0)) (λ v. rw v (over-vowel v))
+        (λ v. either (isMark (getD m i 0)) (λ k. rw (v, k) (over-mark k)) (λ k. rw (v, k, b) (over-letter b k v)))
 
--- at the message's end
-pub levels-end : (m : List ℕ) → Steady m → {f : Level} → f ≡ farLevel (markBefore m (length m)) → LevelsAt m (length m) f f
+    module _ (b : isBreak (getD m i 0) ≡ true) where
+      -- at a break another word ends
+      over-break : stepOver s (getD m i 0) ≡ record { steps = s .steps + 1; since = 2; marked = false; edge = true }
+      over-break = rw (break-vowel (getD m i 0) b, break-mark (getD m i 0) b, b)
+
+      -- where the step may be taken ahead
+      pub break-due : {t : List ℕ} → t ≡ classes → LookDue t m i (stepOver s (getD m i 0))
+      break-due e = rw over-break (record { table = e; steady = steady; within = omega (arith, h); steps = omega (arith, l .steps, back-break m i b); since = refl; marked = refl })
+
+      -- after which the run stands there
+      pub levels-break : {q : LevelRun} → Looked m i (stepOver s (getD m i 0)) q → LevelsAt m i q
+      unfolding nextStressed
+      levels-break a =
+          let e = ap (λ x. x .steps) over-break in
+          record {
+            since = rw (a .since, begins-at m i, break-mark (getD m i 0) b, word-break m steady i h b);
+            marked = a .marked ∙ sym (marked-break m steady i h b);
+            most = omega (arith, a .since, h);
+            steps = omega (arith, a .steps, e, l .steps, back-break m i b);
+            taken = λ u. omega (arith, a .taken u, e, l .taken u, back-break m i b);
+          }
+
+-- so it may at the message's end
+pub end-due : {t m : List ℕ} → t ≡ classes → Steady m → LookDue t m (length m) (endRun 0 false)
+end-due e steady = record { table = e; steady = steady; within = omega arith; steps = omega arith; since = refl; marked = refl }
+
+-- where the run begins
+pub levels-end : {m : List ℕ} → Steady m → {q : LevelRun} → Looked m (length m) (endRun 0 false) q → LevelsAt m (length m) q
 unfolding nextStressed beginsWithMark
-levels-end m steady e =
-    let w = marked-end m steady in
-    record { near = rw (e, drop-length m, word-end m steady, w) (level-far (markBefore m (length m))); far = rw w e }
+levels-end {m} steady a = record {
+  since = rw (a .since, drop-length m, word-end m steady);
+  marked = a .marked ∙ sym (marked-end m steady);
+  most = omega (arith, a .since);
+  steps = omega (arith, a .steps);
+  taken = λ u. omega (arith, a .taken u);
+}

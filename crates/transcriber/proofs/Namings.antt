@@ -1,19 +1,14 @@
 -- The naming's walk from the right: each byte settles the names that the definition gives it, and what stands right of it is told by what stood right of the next one.
-use Rattle.laws.proofs.Kit.{ℕ, suc, _<_, _≡_, refl, ap, _∙_, Bool, true, false, List, [], _∷_, _++_, arith, length, getD, eq-eqb}
-use Rattle.spec.specs.{Letters.between, Letters.isBreak, Letters.isMark, Refusals.vowelByte, Syllables.incomplete, Syllables.nameOf, declared.Level.Level, declared.Level.the-variants.Stressed}
-use Rattle.message.specs.{Classes.classOf, Classes.isBreakClass, Classes.isVowelClass, Places.Steady, Places.leftAt, Places.markBefore, Places.namesAt}
+use Rattle.laws.proofs.Kit.{ℕ, suc, _<_, _≡_, refl, ap, _∙_, Bool, true, false, List, [], _∷_, _++_, arith, length, getD}
+use Rattle.spec.specs.{Letters.isBreak, Refusals.vowelByte, Syllables.incomplete, Syllables.nameOf, declared.Level.Level}
+use Rattle.message.specs.{Classes.classOf, Classes.isVowelClass, Places.Steady, Places.leftAt, Places.namesAt}
 use Rattle.message.proofs.Tail.{names-end, names-vowel, names-other, names-break}
-use Rattle.message.proofs.{Bytes.by-class, Bytes.vowel-break, Computed.everything, Left.mark-within, Lengths.names-from}
+use Rattle.message.proofs.{Bytes.by-class, Bytes.vowel-break, Lengths.names-from}
 use Rattle.laws.proofs.Putting.{Put, put-none, put-length, put-again}
 use Rattle.transcriber.specs.Walk.{namePiece, NameReady, Named, NamesDue, WordEnd}
-use Rattle.transcriber.specs.{declared.NameState.NameState, Levels.farLevel, Levels.levelBefore, Levels.LevelsAt, Sounds.classBefore, Sounds.syllableBy}
-use Rattle.transcriber.proofs.Levelling.{levels-syllable, levels-vowel, levels-letter, levels-mark, levels-break, levels-end}
-use Rattle.transcriber.proofs.{Filling.Writing, Raw.where-same}
-
--- a letter that is no vowel is no break and no mark
-plain : (b : ℕ) → b < 256 → between 4 9 (classOf b) ≡ true → (isBreak b ∷ isMark b ∷ vowelByte b ∷ []) ≡ (false ∷ false ∷ false ∷ [])
-unfolding everything
-plain b = where-same (λ x. between 4 9 (classOf x)) (λ x. isBreak x ∷ isMark x ∷ vowelByte x ∷ []) (λ _. false ∷ false ∷ false ∷ []) [] b refl
+use Rattle.transcriber.specs.{declared.LevelRun.LevelRun, declared.NameState.NameState, Levels.countedBy, Levels.numbered, Levels.endRun, Levels.stepOver, Levels.Looked, Levels.LevelsAt, Sounds.classBefore, Sounds.syllableBy}
+use Rattle.transcriber.proofs.Levelling.{levels-near, levels-syllable, levels-over, levels-break, levels-end}
+use Rattle.transcriber.proofs.Filling.{Writing}
 
 -- the names from a place on are those that its byte settles and the rest's
 name-step : (m : List ℕ) → Steady m → (i : ℕ) → i < length m → namesAt m i ≡ namePiece m i ++ namesAt m (suc i)
@@ -27,56 +22,38 @@ name-step m steady i h = by (isBreak (getD m i 0)) refl (vowelByte (getD m i 0))
 
 module _ {m out : List ℕ} {i : ℕ} {v : NameState} (ready : NameReady m out i v) where
   module _ (c : isVowelClass (classOf (getD m i 0)) ≡ true) where
-    -- a byte of a vowel's class is a vowel
-    sings : vowelByte (getD m i 0) ≡ true
-    sings = by-class (getD m i 0) (ready .steady .bytes i) .vowel ∙ c
-
-    -- it settles its syllable's name
-    piece : namePiece m i ≡ nameOf (syllableBy (classBefore m i) (v .near)) ∷ []
+    -- a vowel settles its syllable's name
+    pub vowel-piece : {n : Level} → n ≡ numbered (countedBy (v .levels .since) (v .levels .marked)) → namePiece m i ≡ nameOf (syllableBy (classBefore m i) n) ∷ []
     unfolding namePiece
-    piece = rw (vowel-break (getD m i 0) (ready .steady .bytes i) sings, sings, levels-syllable m (ready .steady) i (ready .within) sings (ready .stands .near))
+    vowel-piece e =
+        let k : vowelByte (getD m i 0) ≡ true = by-class (getD m i 0) (ready .steady .bytes i) .vowel ∙ c in
+        rw (vowel-break (getD m i 0) (ready .steady .bytes i) k, k, levels-syllable m (ready .steady) i (ready .within) k (e ∙ levels-near (ready .stands)))
 
     -- which finds room
     pub vowel-room : 0 < v .at
-    vowel-room = omega (arith, ready .room, ap length piece)
+    vowel-room = omega (arith, ready .room, ap length (vowel-piece refl))
 
-    -- it puts it, and the vowel before it looks at its mark
-    pub named-vowel : {out′ : List ℕ} {r : ℕ} {n : Level} → n ≡ levelBefore (v .near) (v .far) → Put (nameOf (syllableBy (classBefore m i) (v .near)) ∷ []) out out′ (v .at) r
-        → Named m out out′ i v (record { at = r; near = n; far = v .far })
-    named-vowel e p = record { stands = rw e (levels-vowel m (ready .steady) i (ready .within) sings (ready .stands)); put = rw piece p }
-
-  -- another letter puts none, and the vowel before it looks past it
-  pub named-letter : between 4 9 (classOf (getD m i 0)) ≡ true → Named m out out i v v
+  -- another byte of a word settles none
+  pub other-piece : isBreak (getD m i 0) ≡ false → vowelByte (getD m i 0) ≡ false → Put (namePiece m i) out out (v .at) (v .at)
   unfolding namePiece
-  named-letter c =
-      let e = plain (getD m i 0) (ready .steady .bytes i) c in
-      let s : isBreak (getD m i 0) ≡ false = cc in
-      let n : vowelByte (getD m i 0) ≡ false = cc in
-      record { stands = levels-letter m (ready .steady) i (ready .within) s (cc) n (ready .stands); put = rw (s, n) (put-none out (v .at)) }
+  other-piece b k = rw (b, k) (put-none out (v .at))
 
-  -- a mark puts none and is seen by the vowel before it
-  pub named-mark : classOf (getD m i 0) ≡ 1 → Named m out out i v (record { at = v .at; near = Stressed; far = v .far })
-  unfolding namePiece
-  named-mark c =
-      let t = by-class (getD m i 0) (ready .steady .bytes i) in
-      let k : isMark (getD m i 0) ≡ true = t .mark ∙ eq-eqb (classOf (getD m i 0)) 1 c in
-      let n : vowelByte (getD m i 0) ≡ false = t .vowel ∙ rw c in
-      record { stands = levels-mark m (ready .steady) i (ready .within) k (ready .stands); put = rw (mark-within (getD m i 0) k, n) (put-none out (v .at)) }
+  -- the name is put, and the run goes on over the byte
+  pub named-within : {out′ : List ℕ} {at : ℕ} {q : LevelRun} → isBreak (getD m i 0) ≡ false → q ≡ stepOver (v .levels) (getD m i 0) → Put (namePiece m i) out out′ (v .at) at
+      → Named m out out′ i v (record { at = at; levels = q })
+  named-within b e p = record { stands = rw e (levels-over m (ready .steady) i (ready .within) (ready .stands) b); put = p }
 
-  module _ (c : isBreakClass (classOf (getD m i 0)) ≡ true) where
-    breaks : isBreak (getD m i 0) ≡ true
-    breaks = by-class (getD m i 0) (ready .steady .bytes i) .break ∙ c
-
+  module _ (b : isBreak (getD m i 0) ≡ true) where
     -- at a break a word ends
     pub word-ends : WordEnd m out i (v .at)
     unfolding namePiece
-    word-ends = record { within = omega (arith, ready .within); steady = ready .steady; room = rw breaks at (ready .room); place = ready .place }
+    word-ends = record { within = omega (arith, ready .within); steady = ready .steady; room = rw b at (ready .room); place = ready .place }
 
     -- it puts the name of an incomplete syllable
-    pub named-break : {out′ : List ℕ} {r : ℕ} {f : Level} → Put (incomplete (leftAt m i .p)) out out′ (v .at) r → f ≡ farLevel (markBefore m i)
-        → Named m out out′ i v (record { at = r; near = f; far = f })
+    pub named-break : {out′ : List ℕ} {at : ℕ} {q : LevelRun} → Put (incomplete (leftAt m i .p)) out out′ (v .at) at → Looked m i (stepOver (v .levels) (getD m i 0)) q
+        → Named m out out′ i v (record { at = at; levels = q })
     unfolding namePiece
-    named-break p e = record { stands = levels-break m (ready .steady) i (ready .within) breaks e; put = rw breaks p }
+    named-break p a = record { stands = levels-break m (ready .steady) i (ready .within) (ready .stands) b a; put = rw b p }
 
 module _ {m out : List ℕ} {n : ℕ} (due : NamesDue m out n) where
   -- there is room for an incomplete syllable's name at the end
@@ -89,13 +66,13 @@ module _ {m out : List ℕ} {n : ℕ} (due : NamesDue m out n) where
   }
 
   -- where the walk begins
-  pub naming-none : {out′ : List ℕ} {at : ℕ} {f : Level} → f ≡ farLevel (markBefore m (length m)) → Put (incomplete (leftAt m (length m) .p)) out out′ n at
-      → Writing (λ j. LevelsAt m j f f) m (namesAt m) (namePiece m) n out′ out′ n (length m) at
+  pub naming-none : {out′ : List ℕ} {at : ℕ} {q : LevelRun} → Looked m (length m) (endRun 0 false) q → Put (incomplete (leftAt m (length m) .p)) out out′ n at
+      → Writing (λ j. LevelsAt m j q) m (namesAt m) (namePiece m) n out′ out′ n (length m) at
   naming-none e p =
       let y = due .steady in
       record {
         pieces = record { steady = y; step = name-step m y; part = λ i h. omega (arith, names-from m y i (omega arith), due .total) };
-        stands = levels-end m y e;
+        stands = levels-end y e;
         within = omega arith;
         room = omega arith;
         place = omega (arith, put-length _ _ _ _ _ (due .room) p, due .room);

@@ -1,16 +1,33 @@
 -- What the code reads off the bytes beside a place is what the left context of the place says: in a steady message the class of the byte before tells the class of the last letter of the word.
-use Rattle.laws.proofs.Kit.{ℕ, zero, suc, _-_, _<_, _≤_, _≡_, refl, ap, Bool, true, false, cond, _&&_, _||_, not, and-false, or-assoc, or-false, List, [], _∷_, _++_, map, _⊎_, inl, inr, arith, eqb, length, getD, drop, eqb-true, ne-eqb}
+use Rattle.laws.proofs.Kit.{ℕ, zero, suc, _-_, _<_, _≤_, _≡_, refl, sym, ap, _∙_, Bool, true, false, true≢false, cond, _&&_, _||_, not, and-false, or-assoc, or-false, List, [], _∷_, _++_, map, _⊎_, inl, inr, arith, eqb, length, getD, drop, eq-eqb, eqb-true, le-leb, ne-eqb}
 use Rattle.spec.specs.Alphabet.{pause, mark, «ь», «е», «ё», «и», «ю», «я»}
 use Rattle.spec.specs.Letters.{between, small, plainVowels, softeningVowels, isBreak, isGap, isHardOnly, isSoftOnly, isConsonant, isSign, isVowel, isMark, beginsWithMark}
 use Rattle.spec.specs.Syllables.{coverAfter, incomplete, levelOf, syllableOf, nextStressed}
 use Rattle.spec.specs.{Tables.among, Refusals.vowelByte, Vowels.initial, Vowels.hardEnd, Vowels.glides, declared.Cover.Cover}
-use Rattle.message.specs.Classes.{classOf, isBreakClass, isSignClass, isLetterClass}
+use Rattle.message.specs.Classes.{classOf, isBreakClass, isSignClass, isVowelClass, isLetterClass}
 use Rattle.message.specs.Places.{Steady, Left, stepLeft, leftAt, letterOf, wordAt, markedAt, factsAt}
 use Rattle.message.proofs.Bytes.{by-class, letter-class, not-both, vowel-break, vowel-mark}
 use Rattle.message.proofs.{Before.vowel-before, Left.left-letter, Computed.everything}
 use Rattle.laws.proofs.Classes.{among-same, either, below, below-same}
 use Rattle.transcriber.specs.Sounds.{byteBefore, Before, classBefore, isHardOrPaired, Told, syllableBy, glideBy, hardBefore}
 use Rattle.transcriber.specs.Levels.{levelBy}
+
+-- a number between two others
+pub between-true : (lo hi c : ℕ) → lo ≤ c → c ≤ hi → between lo hi c ≡ true
+between-true lo hi c h l = rw (le-leb lo c h, le-leb c hi l)
+
+-- what is told by the class c of a byte
+module _ {b c : ℕ} (h : b < 256) (e : c ≡ classOf b) where
+  -- the highest classes are the vowels'
+  pub vowel-class : 10 ≤ c → isVowelClass c ≡ true
+  vowel-class l = between-true 10 12 c l (omega (arith, by-class b h .class))
+
+  -- and the lowest that a byte of an accepted message has, but for the mark's, are the breaks'
+  pub break-class : (classOf b ≡ 0 → ⊥) → c < 4 → isMark b ≡ false → isBreakClass c ≡ true
+  break-class n l k =
+      let z : c ≡ 0 → ⊥ = λ z. n (sym e ∙ z) in
+      let o : c ≡ 1 → ⊥ = λ o. true≢false (sym (by-class b h .mark ∙ eq-eqb (classOf b) 1 (sym e ∙ o)) ∙ k) in
+      between-true 2 3 c (omega arith) (omega arith)
 
 -- two functions that agree on the bytes that pass a test agree at each of them
 pub where-same : {A : Type 0} (t : ℕ → Bool) (f g : ℕ → A) (d : A) (b : ℕ) → map (λ x. cond (t x) (f x) d) (below 256) ≡ map (λ x. cond (t x) (g x) d) (below 256)

@@ -2,17 +2,18 @@
 use Rattle.laws.proofs.Kit.{ℕ, suc, _+_, _%_, _<_, _≤_, arith, _≡_, refl, sym, ap, _∙_, Bool, true, false, cond, _&&_, not, true≢false, List, [], _∷_, _++_, map, eqb, length, getD, le-leb, lt-leb, eq-eqb, ne-eqb}
 use Rattle.spec.specs.Letters.{between, small, firstByte, isBreak, isGap, isMark}
 use Rattle.spec.specs.Codes.{J, markOf, isSound, isVoicing}
-use Rattle.spec.specs.{Vowels.softens, Voicing.Tone, Voicing.voiced, Voicing.voiceless, Refusals.vowelByte, Refusals.signByte, Refusals.consonantByte, declared.Level.Level, declared.Level.the-variants.Stressed, declared.Syllable.Syllable}
-use Rattle.message.specs.Classes.{classOf, isBreakClass, isSignClass, isConsonantClass, isVowelClass, elidedAt}
+use Rattle.spec.specs.{Vowels.softens, Voicing.Tone, Voicing.voiced, Voicing.voiceless, Refusals.vowelByte, Refusals.signByte, Refusals.consonantByte, declared.Level.Level, declared.Syllable.Syllable}
+use Rattle.message.specs.Classes.{classes, classOf, isBreakClass, isSignClass, isConsonantClass, isVowelClass, elidedAt}
 use Rattle.message.specs.Fused.{toneBefore, vowelCodes, consonantCode, letterCodes}
-use Rattle.message.specs.Places.{Steady, leftAt, letterOf, markBefore, tapeAt, wordAt, toneAt, soundAt, codesAt, toneAfter, soundAfter}
+use Rattle.message.specs.Places.{Steady, leftAt, letterOf, tapeAt, wordAt, toneAt, soundAt, codesAt, toneAfter, soundAfter}
 use Rattle.message.proofs.Tail.{tape-letter, tape-mark, tape-break, word-letter, word-mark, word-break, word-end, tone-letter, sound-letter, tone-mark, sound-mark, tone-break, sound-break, tone-end, sound-end}
 use Rattle.message.proofs.{Bytes.by-class, Computed.everything, Left.mark-within, StepTable.class-spoken, Silent.elided-at}
 use Rattle.laws.proofs.{Classes.cond-same, Codes.vowel-sound, MarkIndex.sound-range, Putting.Put, Putting.put-none, Classes.below}
 use Rattle.transcriber.specs.Sounds.{classBefore, ByRow, rowOf, syllableBy, glideBy, hardBefore, toneBy, codeBy, Tells, codeBefore, Heard, soundTable}
 use Rattle.transcriber.specs.Walk.{VowelAt, syllableAt, Stands, Sung, sungCodes, pieceAt, Ready, ReadyFor, Stepped}
-use Rattle.transcriber.specs.{Levels.farLevel, Levels.levelBefore, Levels.LevelsAt, declared.Right.Right, declared.Vowel.Vowel}
-use Rattle.transcriber.proofs.Levelling.{levels-syllable, levels-letter, levels-vowel, levels-mark, levels-break, levels-end}
+use Rattle.transcriber.specs.Levels.{countedBy, numbered, endRun, stepOver, StepDue, LookDue, Looked}
+use Rattle.transcriber.specs.declared.{LevelRun.LevelRun, Right.Right, Vowel.Vowel}
+use Rattle.transcriber.proofs.Levelling.{levels-near, levels-due, levels-syllable, levels-over, break-due, levels-break, levels-end}
 use Rattle.transcriber.proofs.Raw.{where-same, told-at, hard-raw, glide-raw}
 use Rattle.transcriber.proofs.SoundTable.{code-read}
 
@@ -37,10 +38,6 @@ tells-end : (voices : Bool) → Tells (cond voices 57 0) false (cond voices voic
 unfolding toneBy codeBy
 tells-end true = tells 57 false (omega arith)
 tells-end false = tells 0 false (omega arith)
-
--- a number between two others
-pub between-true : (lo hi c : ℕ) → lo ≤ c → c ≤ hi → between lo hi c ≡ true
-between-true lo hi c h l = rw (le-leb lo c h, le-leb c hi l)
 
 -- no letter softens nothing
 none-softens : softens (firstByte []) ≡ false
@@ -114,48 +111,39 @@ module _ {m out : List ℕ} {i : ℕ} {r : Right} (a : Ready m out i r) where
   unfolding pieceAt
   letter-room p e = rw (p .break, p .mark, e) at (a .room)
 
-  -- a letter that is no vowel leaves the levels as they are
-  plain-levels : {s x : Bool} → Spelt (getD m i 0) s false x → LevelsAt m i (r .near) (r .far)
-  plain-levels p = levels-letter m (a .steady) i (a .within) (p .break) (p .mark) (p .sings) (a .stands .levels)
+  -- the levels' step may be taken over the byte
+  pub run-ready : {t : List ℕ} → t ≡ classes → StepDue t (r .levels) (getD m i 0)
+  run-ready e = levels-due e (a .steady) (a .within) (a .stands .levels)
 
   -- a letter has put its codes, and left of it stands the same word with these sounds and this letter first
-  letter-steps : {s v x : Bool} {out′ codes : List ℕ} {at sound : ℕ} {n f : Level} → Spelt (getD m i 0) s v x → codesAt m i ≡ codes
-      → Tells sound x (toneAfter codes (toneAt m (suc i))) (soundAfter codes (soundAt m (suc i))) → LevelsAt m i n f → Put codes out out′ (r .at) at
-      → Stepped m out out′ i r (record { at = at; sound = sound; near = n; far = f })
+  letter-steps : {s v x : Bool} {out′ codes : List ℕ} {at sound : ℕ} {l : LevelRun} → Spelt (getD m i 0) s v x → codesAt m i ≡ codes
+      → Tells sound x (toneAfter codes (toneAt m (suc i))) (soundAfter codes (soundAt m (suc i))) → l ≡ stepOver (r .levels) (getD m i 0) → Put codes out out′ (r .at) at
+      → Stepped m out out′ i r (record { at = at; sound = sound; levels = l })
   unfolding pieceAt firstByte letterOf
   letter-steps p e t l q =
       let y = a .steady in
       let h = a .within in
       record {
-        stands = record { sound = rw (tone-letter m y i h (p .break) (p .mark), sound-letter m y i h (p .break) (p .mark), e, word-letter m y i h (p .break) (p .mark), p .softening) t; levels = l };
+        stands = record { sound = rw (tone-letter m y i h (p .break) (p .mark), sound-letter m y i h (p .break) (p .mark), e, word-letter m y i h (p .break) (p .mark), p .softening) t; levels = rw l (levels-over m y i h (a .stands .levels) (p .break)) };
         put = rw (p .break, p .mark, e) q;
       }
 
   -- a letter that is not heard puts nothing
-  silent-steps : {s x : Bool} {seen : ℕ} → Spelt (getD m i 0) s false x → codesAt m i ≡ [] → seen ≡ r .sound % 64 + cond x 64 0
-      → Stepped m out out i r (record { at = r .at; sound = seen; near = r .near; far = r .far })
-  silent-steps {x = x} p e n = rw n (letter-steps p e (tells-over x (a .stands .sound)) (plain-levels p) (put-none out (r .at)))
+  silent-steps : {s x : Bool} {seen : ℕ} {l : LevelRun} → Spelt (getD m i 0) s false x → codesAt m i ≡ [] → seen ≡ r .sound % 64 + cond x 64 0 → l ≡ stepOver (r .levels) (getD m i 0)
+      → Stepped m out out i r (record { at = r .at; sound = seen; levels = l })
+  silent-steps {x = x} p e n l = rw n (letter-steps p e (tells-over x (a .stands .sound)) l (put-none out (r .at)))
 
-  -- nor does a mark, which is seen by the letter before it
-  pub mark-steps : classOf (getD m i 0) ≡ 1 → Stepped m out out i r (record { at = r .at; sound = r .sound; near = Stressed; far = r .far })
+  -- nor does a mark
+  pub mark-steps : {l : LevelRun} → isMark (getD m i 0) ≡ true → l ≡ stepOver (r .levels) (getD m i 0) → Stepped m out out i r (record { at = r .at; sound = r .sound; levels = l })
   unfolding pieceAt
-  mark-steps c =
+  mark-steps k l =
       let y = a .steady in
       let h = a .within in
-      let k : isMark (getD m i 0) ≡ true = by-class (getD m i 0) (y .bytes i) .mark ∙ eq-eqb (classOf (getD m i 0)) 1 c in
+      let b = mark-within (getD m i 0) k in
       record {
-        stands = record { sound = rw (tone-mark m y i h k, sound-mark m y i h k, word-mark m y i h k) (a .stands .sound); levels = levels-mark m y i h k (a .stands .levels) };
-        put = rw (mark-within (getD m i 0) k, k) (put-none out (r .at));
+        stands = record { sound = rw (tone-mark m y i h k, sound-mark m y i h k, word-mark m y i h k) (a .stands .sound); levels = rw l (levels-over m y i h (a .stands .levels) b) };
+        put = rw (b, k) (put-none out (r .at));
       }
-
-module _ {m : List ℕ} {i c : ℕ} (steady : Steady m) (h : i < length m) (e : c ≡ classOf (getD m i 0)) where
-  -- the highest classes are the vowels'
-  pub vowel-class : 10 ≤ c → isVowelClass c ≡ true
-  vowel-class l = between-true 10 12 c l (omega (arith, by-class (getD m i 0) (steady .bytes i) .class))
-
-  -- and the lowest that a byte of an accepted message has, but for the mark's, are the breaks'
-  pub break-class : c < 4 → (c ≡ 1 → ⊥) → isBreakClass c ≡ true
-  break-class l n = let z : c ≡ 0 → ⊥ = λ z. steady .named i h (sym e ∙ z) in between-true 2 3 c (omega arith) (omega arith)
 
 -- of the signs only ь softens
 spelt-sign : {m out : List ℕ} {i c : ℕ} {r : Right} → ReadyFor isSignClass m out i c r → Spelt (getD m i 0) true false (eqb c 5)
@@ -163,8 +151,8 @@ unfolding everything
 spelt-sign a = spelt-by a true false (λ x. eqb x 5) refl
 
 -- they are not heard
-pub sign-steps : {m out : List ℕ} {i c seen : ℕ} {r : Right} → ReadyFor isSignClass m out i c r → seen ≡ r .sound % 64 + cond (eqb c 5) 64 0
-    → Stepped m out out i r (record { at = r .at; sound = seen; near = r .near; far = r .far })
+pub sign-steps : {m out : List ℕ} {i c seen : ℕ} {r : Right} {l : LevelRun} → ReadyFor isSignClass m out i c r → seen ≡ r .sound % 64 + cond (eqb c 5) 64 0 → l ≡ stepOver (r .levels) (getD m i 0)
+    → Stepped m out out i r (record { at = r .at; sound = seen; levels = l })
 sign-steps {m} {i = i} a = silent-steps (a .ready) (spelt-sign a) (codes-sign m (a .ready .steady) i (a .ready .within) (spelt-sign a))
 
 module _ {m out : List ℕ} {i c : ℕ} {r : Right} (a : ReadyFor isBreakClass m out i c r) where
@@ -176,12 +164,16 @@ module _ {m out : List ℕ} {i c : ℕ} {r : Right} (a : ReadyFor isBreakClass m
   unfolding pieceAt
   break-room = rw breaks at (a .ready .room)
 
+  -- the levels' step may be taken ahead of it
+  pub break-looks : {t : List ℕ} {l : LevelRun} → t ≡ classes → l ≡ stepOver (r .levels) (getD m i 0) → LookDue t m i l
+  break-looks e l = rw l (break-due m (a .ready .steady) i (a .ready .within) (a .ready .stands .levels) breaks e)
+
   -- it has put it, and left of it stands another word
-  pub break-steps : {out′ : List ℕ} {at sound : ℕ} {f : Level} (pause : Bool) → eqb c 3 ≡ pause
-      → sound ≡ cond (not pause && isVoicing (codeBy (r .sound % 64))) 57 0 → f ≡ farLevel (markBefore m i) → Put (cond pause 63 0 ∷ []) out out′ (r .at) at
-      → Stepped m out out′ i r (record { at = at; sound = sound; near = f; far = f })
+  pub break-steps : {out′ : List ℕ} {at sound : ℕ} {l q : LevelRun} (pause : Bool) → eqb c 3 ≡ pause
+      → sound ≡ cond (not pause && isVoicing (codeBy (r .sound % 64))) 57 0 → l ≡ stepOver (r .levels) (getD m i 0) → Looked m i l q → Put (cond pause 63 0 ∷ []) out out′ (r .at) at
+      → Stepped m out out′ i r (record { at = at; sound = sound; levels = q })
   unfolding pieceAt
-  break-steps pause k t e q =
+  break-steps pause k t l e q =
       let y = a .ready .steady in
       let h = a .ready .within in
       let b = breaks in
@@ -189,7 +181,7 @@ module _ {m out : List ℕ} {i c : ℕ} {r : Right} (a : ReadyFor isBreakClass m
       record {
         stands = record {
           sound = rw (tone-break m y i h b, sound-break m y i h b, word-break m y i h b, none-softens, break-gap (getD m i 0) (y .bytes i) b, x, t, a .ready .stands .sound .code) (tells-end (not pause && isVoicing (soundAt m (suc i))));
-          levels = levels-break m y i h b e;
+          levels = levels-break m y i h (a .ready .stands .levels) b (rw l at e);
         };
         put = rw (b, break-code (getD m i 0) (y .bytes i) b, x) q;
       }
@@ -209,8 +201,9 @@ module _ {m out : List ℕ} {i c : ℕ} {r : Right} (a : ReadyFor isConsonantCla
   consonant-before = record { letter = consonant; sound = a .ready .stands .sound .low }
 
   -- a silent one is not heard
-  pub elided-steps : {seen : ℕ} → elidedAt m i ≡ true → seen ≡ r .sound % 64 + 0 → Stepped m out out i r (record { at = r .at; sound = seen; near = r .near; far = r .far })
-  elided-steps e n = silent-steps (a .ready) spelt (codes-silent m (a .ready .steady) i (a .ready .within) spelt e) n
+  pub elided-steps : {seen : ℕ} {l : LevelRun} → elidedAt m i ≡ true → seen ≡ r .sound % 64 + 0 → l ≡ stepOver (r .levels) (getD m i 0)
+      → Stepped m out out i r (record { at = r .at; sound = seen; levels = l })
+  elided-steps e n l = silent-steps (a .ready) spelt (codes-silent m (a .ready .steady) i (a .ready .within) spelt e) n l
 
   module _ {code : ℕ} (heard : elidedAt m i ≡ false) (coded : code ≡ codeBefore (small (getD m i 0)) (r .sound)) where
     -- another puts its code
@@ -222,11 +215,12 @@ module _ {m out : List ℕ} {i c : ℕ} {r : Right} (a : ReadyFor isConsonantCla
     consonant-room = letter-room (a .ready) spelt codes
 
     -- and which is what stands right of the letter before
-    pub consonant-steps : {out′ : List ℕ} {at : ℕ} → Put (code ∷ []) out out′ (r .at) at → Stepped m out out′ i r (record { at = at; sound = code; near = r .near; far = r .far })
-    consonant-steps q =
+    pub consonant-steps : {out′ : List ℕ} {at : ℕ} {l : LevelRun} → l ≡ stepOver (r .levels) (getD m i 0) → Put (code ∷ []) out out′ (r .at) at
+        → Stepped m out out′ i r (record { at = at; sound = code; levels = l })
+    consonant-steps l q =
         let x : isSound code ≡ true = rw coded (code-read soundTable (getD m i 0) (r .sound) refl (a .ready .steady .bytes i) consonant-before .sound) in
         let z : code + 0 ≡ code = omega arith in
-        letter-steps (a .ready) spelt codes (rw z at (tells-sound code false x)) (plain-levels (a .ready) spelt) q
+        letter-steps (a .ready) spelt codes (rw z at (tells-sound code false x)) l q
 
 -- what is found of a vowel by the class of the byte before it, its own class, and the level is what the passes make of it
 module _ {m : List ℕ} {i c : ℕ} {level : Level} (a : VowelAt m i c level) where
@@ -245,8 +239,8 @@ module _ {m : List ℕ} {i c : ℕ} {level : Level} (a : VowelAt m i c level) wh
 
 module _ {m out : List ℕ} {i c : ℕ} {r : Right} (a : ReadyFor isVowelClass m out i c r) where
   -- a vowel may be sung where a step may be taken
-  pub vowel-ready : VowelAt m i c (r .near)
-  vowel-ready = record { within = a .ready .within; steady = a .ready .steady; class = a .class; vowel = a .kind; level = a .ready .stands .levels .near }
+  pub vowel-ready : {n : Level} → n ≡ numbered (countedBy (r .levels .since) (r .levels .marked)) → VowelAt m i c n
+  vowel-ready e = record { within = a .ready .within; steady = a .ready .steady; class = a .class; vowel = a .kind; level = e ∙ levels-near (a .ready .stands .levels) }
 
   -- of the vowels those of classes 11 and 12 soften
   vowel-spelt : Spelt (getD m i 0) false true (not (eqb c 10))
@@ -275,12 +269,10 @@ module _ {m out : List ℕ} {i c : ℕ} {r : Right} (a : ReadyFor isVowelClass m
         by true = tells-sound J soft refl
         by false = tells-sound (v .sound) soft (rw (s .sound) (vowel-sound _ _ _ (small (getD m i 0)) (vowel-spelt .sings)))
 
-    pub vowel-steps : {out′ : List ℕ} {at first seen : ℕ} {n : Level} → first ≡ cond (v .glide) J (v .sound) → seen ≡ first + cond (not (eqb c 10)) 64 0 → n ≡ levelBefore (r .near) (r .far)
-        → Put (sungCodes v) out out′ (r .at) at → Stepped m out out′ i r (record { at = at; sound = seen; near = n; far = r .far })
-    vowel-steps f e l q =
-        letter-steps (a .ready) vowel-spelt sung-codes (rw (e, f) (first-tells _ _ _))
-        (rw l (levels-vowel m (a .ready .steady) i (a .ready .within) (vowel-spelt .sings) (a .ready .stands .levels))) q
+    pub vowel-steps : {out′ : List ℕ} {at first seen : ℕ} {l : LevelRun} → first ≡ cond (v .glide) J (v .sound) → seen ≡ first + cond (not (eqb c 10)) 64 0
+        → l ≡ stepOver (r .levels) (getD m i 0) → Put (sungCodes v) out out′ (r .at) at → Stepped m out out′ i r (record { at = at; sound = seen; levels = l })
+    vowel-steps f e l q = letter-steps (a .ready) vowel-spelt sung-codes (rw (e, f) (first-tells _ _ _)) l q
 
 -- what stands right of the message's end
-pub stands-end : {m : List ℕ} → Steady m → {n : ℕ} {f : Level} → f ≡ farLevel (markBefore m (length m)) → Stands m (length m) (record { at = n; sound = 0; near = f; far = f })
-stands-end {m} steady e = record { sound = rw (tone-end m steady, sound-end m steady, word-end m steady, none-softens) (tells-end false); levels = levels-end m steady e }
+pub stands-end : {m : List ℕ} → Steady m → {n : ℕ} {l : LevelRun} → Looked m (length m) (endRun 0 false) l → Stands m (length m) (record { at = n; sound = 0; levels = l })
+stands-end {m} steady e = record { sound = rw (tone-end m steady, sound-end m steady, word-end m steady, none-softens) (tells-end false); levels = levels-end steady e }

@@ -1,35 +1,96 @@
--- The levels of a word's vowels, carried from the right. These are not the paper's words: `proofs/` shows that they agree with them.
+-- The levels of a word's vowels, found by a running step from the right. These are not the paper's words: `proofs/` shows that they agree with them.
 -- Assumes nothing: these are definitions.
-use Prim.Native.Nat.{ℕ}
+use Prim.Native.Nat.{ℕ, zero, suc, _+_, _*_, _<_, _≤_}
 use mathlib.Core.Path.{_≡_}
-use mathlib.Core.Bool.{Bool, cond, _||_, not}
+use mathlib.Core.Logic.{_⊎_}
+use mathlib.Core.Bool.{Bool, true, false, cond, _||_, not}
 use mathlib.Core.List.{List}
-use lib.ListN.{drop}
-use Rattle.spec.specs.Letters.{beginsWithMark}
+use lib.ListN.{length, getD, drop}
+use Rattle.spec.specs.Letters.{beginsWithMark, isBreak, isMark}
+use Rattle.spec.specs.Refusals.{vowelByte}
+use Rattle.spec.specs.LevelSteps.{Unmarked}
 use Rattle.spec.specs.Syllables.{nextStressed}
-use Rattle.message.specs.Places.{wordAt, markedAt}
+use Rattle.message.specs.Classes.{classes, classOf}
+use Rattle.message.specs.Places.{Steady, wordAt, markBefore, markedAt}
 use Rattle.spec.specs.declared.Level.{Level}
 use Rattle.spec.specs.declared.Level.the-variants.{Stressed, First, Second}
+use Rattle.transcriber.specs.declared.LevelRun.{LevelRun}
 
 -- the level of a vowel that is stressed or not, with the next vowel stressed or not, in a word that has a mark or not
 unfoldable pub levelBy : Bool → Bool → Bool → Level
 levelBy stressed ahead marked = cond stressed Stressed (cond (ahead || not marked) First Second)
 
--- the level of a vowel that has no mark near
-abbrev pub farLevel : Bool → Level
-farLevel marked = cond marked Second First
-
--- the level of the vowel before one of this level
-abbrev pub levelBefore : Level → Level → Level
-levelBefore Stressed far = First
-levelBefore First far = far
-levelBefore Second far = far
-
 -- the level of the next vowel of the word to the left of place i, if no other letter of it stands between
 abbrev pub nearLevel : List ℕ → ℕ → Level
 nearLevel m i = levelBy (beginsWithMark (drop i m)) (nextStressed (wordAt m i)) (markedAt m i)
 
--- these are the levels at place i
-pub record LevelsAt (m : List ℕ) (i : ℕ) (n f : Level) : Type 0 where
-  pub near : n ≡ nearLevel m i
-  pub far : f ≡ farLevel (markedAt m i)
+-- how many syllables from the mark count, in a word that has a mark or not, and the level of that number
+abbrev pub countedBy : ℕ → Bool → ℕ
+countedBy zero marked = 0
+countedBy (suc zero) marked = 1
+countedBy (suc (suc n)) marked = cond marked 2 1
+
+abbrev pub Least : ℕ → ℕ → ℕ → Type 0
+Least a b n = ((a < b) × (n ≡ a)) ⊎ ((b ≤ a) × (n ≡ b))
+
+abbrev pub numbered : ℕ → Level
+numbered zero = Stressed
+numbered (suc zero) = First
+numbered (suc (suc n)) = Second
+
+-- the count as far as it makes a difference, and what it is where a mark stands right at a place or after the next vowel
+abbrev pub nearly : ℕ → ℕ
+nearly zero = 0
+nearly (suc zero) = 1
+nearly (suc (suc n)) = 2
+
+abbrev pub sinceBy : Bool → Bool → ℕ
+sinceBy stressed ahead = cond stressed 0 (cond ahead 1 2)
+
+-- the run at a word's end, after so many steps, with what is known of the word's marks
+abbrev pub endRun : ℕ → Bool → LevelRun
+endRun steps marked = record { steps = steps; since = 2; marked = marked; edge = false }
+
+-- one step, over byte b: a vowel is a syllable more, a mark is where to count from, at a break another word ends
+abbrev pub stepOver : LevelRun → ℕ → LevelRun
+stepOver s b =
+    cond (vowelByte b) (record { steps = s .steps + 1; since = s .since + 1; marked = s .marked; edge = false })
+    (cond (isMark b) (record { steps = s .steps + 1; since = 0; marked = true; edge = true })
+    (cond (isBreak b) (record { steps = s .steps + 1; since = 2; marked = false; edge = true })
+    (record { steps = s .steps + 1; since = s .since; marked = s .marked; edge = false })))
+
+-- the step may be taken over byte b: it is one of an accepted message, and the counts have room
+pub record StepDue (t : List ℕ) (s : LevelRun) (b : ℕ) : Type 0 where
+  pub table : t ≡ classes
+  pub named : classOf b ≡ 0 → ⊥
+  pub steps : s .steps < 65536
+  pub since : s .since < 65536
+
+-- how many bytes stand before place i back to the break before its word, with that break
+unfoldable pub backAt : List ℕ → ℕ → ℕ
+backAt m zero = 0
+backAt m (suc i) = cond (isBreak (getD m i 0)) 1 (suc (backAt m i))
+
+-- the step may be taken ahead from place i, where a word ends
+pub record LookDue (t m : List ℕ) (i : ℕ) (s : LevelRun) : Type 0 where
+  pub table : t ≡ classes
+  pub steady : Steady m
+  pub within : i ≤ length m
+  pub steps : s .steps ≤ 2 * length m
+  pub since : s .since ≡ 2
+  pub marked : s .marked ≡ false
+
+-- it was taken ahead: whether the word has a mark is known, by no more steps than there are bytes back to the break
+pub record Looked (m : List ℕ) (i : ℕ) (s q : LevelRun) : Type 0 where
+  pub since : q .since ≡ 2
+  pub marked : q .marked ≡ markBefore m i
+  pub steps : q .steps ≤ s .steps + backAt m i
+  pub taken : Unmarked m → q .steps ≡ s .steps + backAt m i
+
+-- s is the run at place i: each byte from there on was stepped over once, and ahead once, and so were the bytes back to the break before the word
+pub record LevelsAt (m : List ℕ) (i : ℕ) (s : LevelRun) : Type 0 where
+  pub since : nearly (s .since) ≡ sinceBy (beginsWithMark (drop i m)) (nextStressed (wordAt m i))
+  pub marked : s .marked ≡ markedAt m i
+  pub most : s .since + i ≤ length m + 2
+  pub steps : s .steps + 2 * i ≤ 2 * length m + backAt m i
+  pub taken : Unmarked m → s .steps + 2 * i ≡ 2 * length m + backAt m i

@@ -36,7 +36,7 @@ pub record ClassAt (m : List ℕ) (i c : ℕ) : Type 0 where
 -- r says what stands right of place i
 pub record Stands (m : List ℕ) (i : ℕ) (r : Right) : Type 0 where
   pub sound : Tells (r .sound) (softens (firstByte (wordAt m i))) (toneAt m i) (soundAt m i)
-  pub levels : LevelsAt m i (r .near) (r .far)
+  pub levels : LevelsAt m i (r .levels)
 
 -- a vowel of class c may be sung at place i: n is the level of its syllable
 pub record VowelAt (m : List ℕ) (i c : ℕ) (n : Level) : Type 0 where
@@ -102,10 +102,10 @@ namePiece m i =
     (cond (vowelByte (getD m i 0)) (nameOf (syllableAt m i) ∷ []) [])
 
 abbrev pub NameReady : List ℕ → List ℕ → ℕ → NameState → Type 0
-NameReady m out i v = MayStep (λ j. LevelsAt m j (v .near) (v .far)) (namePiece m i) m out i (v .at)
+NameReady m out i v = MayStep (λ j. LevelsAt m j (v .levels)) (namePiece m i) m out i (v .at)
 
 abbrev pub Named : List ℕ → List ℕ → List ℕ → ℕ → NameState → NameState → Type 0
-Named m out out′ i v q = DidStep (λ j. LevelsAt m j (q .near) (q .far)) (namePiece m i) out out′ i (v .at) (q .at)
+Named m out out′ i v q = DidStep (λ j. LevelsAt m j (q .levels)) (namePiece m i) out out′ i (v .at) (q .at)
 
 -- at a vowel
 pub record VowelNamed (m out : List ℕ) (i : ℕ) (v : NameState) : Type 0 where

@@ -1,47 +1,101 @@
-// The levels of vowels (paper 01, pass 2), for both walks, which go from the message's end to its start. A mark makes the vowel before it stressed, the vowel before that is of level 1,
-// and those further left are of level 2, or of level 1 where the word has no mark. So a walk carries two: near, the level of the next vowel to the left, which is S where a mark stands at
-// the place, and far, that of a vowel that has no mark near.
+// The levels of vowels (paper 01, pass 2), found by a running step (paper 02, request 3), for both walks, which go from the message's end to its start. The step takes one byte, and of
+// the message it knows what its state carries, counts and flags. A walk takes it over each byte once; at the end of a word it is first taken ahead, back to the word's last mark or to the
+// break before it, to learn whether the word has a mark. So no byte is stepped over more than twice (specs/Levels.antt, LevelsAt).
 ghost use mathlib.Core.Path.{_≡_};
-ghost use Prim.Native.Nat.{_≤_};
-ghost use lib.ListN.{length};
-ghost use Rattle.message.specs.Places.{Steady, markBefore};
-ghost use Rattle.transcriber.specs.Levels.{farLevel, levelBefore};
+ghost use Rattle.transcriber.specs.Levels.{Least, countedBy, numbered, endRun, stepOver, StepDue, LookDue, Looked};
+use crate::LevelRun;
 use message::alphabet;
+use message::classes;
+use message::classes::ClassTable;
+use message::classify::class_of;
 use spec::Level;
 
-// Has the word that ends at place i a stress mark? Looks back over its letters, which are the bytes from 0x80 on, to a mark or to the break before it.
-fn mark_before(m: &[u8], i: usize) -> bool
-    requires { ⌜ Steady (now m) × (i ≤ length (now m)) ⌝ }
-    ensures { λ r. ⌜ r ≡ markBefore (now (m .entry)) i ⌝ }
+// How many syllables from a mark it makes no difference any more.
+const FAR: usize = 2;
+
+// The run at a word's end, after so many steps, with what is known of the word's marks.
+pub fn at_word_end(steps: usize, marked: bool) -> LevelRun
+    ensures { λ r. ⌜ r ≡ endRun steps marked ⌝ }
+{
+    LevelRun {
+        steps,
+        since: FAR,
+        marked,
+        edge: false,
+    }
+}
+
+// The step, over byte b to its left.
+pub fn step(s: LevelRun, b: u8, t: &ClassTable) -> LevelRun
+    requires { ⌜ StepDue (now t) s b ⌝ }
+    ensures { λ r. ⌜ r ≡ stepOver s b ⌝ }
+{
+    let c = class_of(b, t);
+    let steps = s.steps + 1;
+    let marked = s.marked;
+    if classes::PLAIN_VOWEL <= c {
+        return LevelRun {
+            steps,
+            since: s.since + 1,
+            marked,
+            edge: false,
+        };
+    }
+    if classes::FIRST_LETTER <= c {
+        return LevelRun {
+            steps,
+            since: s.since,
+            marked,
+            edge: false,
+        };
+    }
+    if b == alphabet::MARK {
+        return LevelRun {
+            steps,
+            since: 0,
+            marked: true,
+            edge: true,
+        };
+    }
+    LevelRun {
+        steps,
+        since: FAR,
+        marked: false,
+        edge: true,
+    }
+}
+
+// Takes the step ahead from the end of a word, place i, until a mark or a break is met.
+pub fn look_back(m: &[u8], i: usize, s: LevelRun, t: &ClassTable) -> LevelRun
+    requires { ⌜ LookDue (now t) (now m) i s ⌝ }
+    ensures { λ r. ⌜ Looked (now (m .entry)) i s r ⌝ }
 {
     let mut j = i;
+    let mut ahead = s;
     while 0 < j {
         j -= 1;
-        if m[j] < alphabet::FIRST {
-            return m[j] == alphabet::MARK;
+        ahead = step(ahead, m[j], t);
+        if ahead.edge {
+            return at_word_end(ahead.steps, ahead.marked);
         }
     }
-    false
+    at_word_end(ahead.steps, false)
 }
 
-// The level of a vowel that has no mark near, in the word that ends at place i.
-pub fn at_word_end(m: &[u8], i: usize) -> Level
-    requires { ⌜ Steady (now m) × (i ≤ length (now m)) ⌝ }
-    ensures { λ r. ⌜ r ≡ farLevel (markBefore (now (m .entry)) i) ⌝ }
+fn least(a: usize, b: usize) -> usize
+    ensures { λ r. ⌜ Least a b r ⌝ }
 {
-    if mark_before(m, i) {
-        return Level::Second;
-    }
-    Level::First
+    if a < b { a } else { b }
 }
 
-// The level of the vowel before one of this level, where far is that of a vowel that has no mark near.
-pub fn level_before(level: Level, far: Level) -> Level
-    ensures { λ r. ⌜ r ≡ levelBefore level far ⌝ }
+// The level of the next vowel to the left: the syllables from it to the mark, but no more than 2, or 1 in a word with no mark.
+pub fn level_of(s: LevelRun) -> Level
+    ensures { λ r. ⌜ r ≡ numbered (countedBy (s .since) (s .marked)) ⌝ }
 {
-    match level {
-        Level::Stressed => Level::First,
-        Level::First => far,
-        Level::Second => far,
+    match least(s.since, 1 + s.marked as usize) {
+        0 => Level::Stressed,
+        1 => Level::First,
+        2 => Level::Second,
+        _ => Level::Second,
     }
 }

@@ -5,20 +5,24 @@ ghost use lib.ListN.{drop};
 ghost use Rattle.message.specs.Classes.{classes};
 ghost use Rattle.spec.specs.Syllables.{incomplete};
 ghost use Rattle.spec.specs.Tape.{names};
+ghost use Rattle.spec.specs.LevelSteps.{StepsSuffice};
 ghost use Rattle.message.specs.Places.{leftAt};
 ghost use Rattle.spec.specs.Answers.{NamePromise};
 ghost use Rattle.laws.proofs.Putting.{Put};
-ghost use Rattle.transcriber.specs.Walk.{WordEnd, NameReady, VowelNamed, Named, NamesDue};
+ghost use Rattle.transcriber.specs.Walk.{namePiece, WordEnd, NameReady, VowelNamed, Named, NamesDue};
 use crate::NameState;
 use crate::answers::refused;
 use crate::before::class_before;
+use crate::levels;
 use crate::levels::at_word_end;
-use crate::levels::level_before;
+use crate::levels::level_of;
+use crate::levels::look_back;
 use crate::output::put;
 use crate::syllables;
 use crate::syllables::is_consonant_or_sign;
 use crate::syllables::name_of;
 use crate::syllables::syllable_by;
+use message::alphabet;
 use message::check::check;
 use message::classes;
 use message::classes::ClassTable;
@@ -26,7 +30,6 @@ use message::classify::class_of;
 use message::classify::class_table;
 use spec::Answer;
 use spec::Checked;
-use spec::Level;
 use spec::Refusal;
 
 // The end of a word, at place i: letters after its last vowel are an incomplete syllable.
@@ -41,16 +44,12 @@ fn put_end(m: &[u8], i: usize, at: usize, out: &mut [u8], t: &ClassTable) -> usi
 }
 
 // The vowel at place i names its syllable.
-fn put_name(m: &[u8], i: usize, v: NameState, out: &mut [u8], t: &ClassTable) -> NameState
+fn put_name(m: &[u8], i: usize, v: NameState, out: &mut [u8], t: &ClassTable) -> usize
     requires { ⌜ (now t ≡ classes) × VowelNamed (now m) (now out) i v ⌝ }
-    ensures { λ q. ⌜ Named (now (m .entry)) (now (out .entry)) (now (out .exit)) i v q ⌝ }
+    ensures { λ r. ⌜ Put (namePiece (now (m .entry)) i) (now (out .entry)) (now (out .exit)) (v .at) r ⌝ }
 {
-    let level = v.near;
-    let far = v.far;
-    let s = syllable_by(class_before(m, i, t), level);
-    let at = put(out, v.at, name_of(s));
-    let near = level_before(level, far);
-    NameState { at, near, far }
+    let s = syllable_by(class_before(m, i, t), level_of(v.levels));
+    put(out, v.at, name_of(s))
 }
 
 // The byte at place i.
@@ -58,45 +57,43 @@ fn step(m: &[u8], i: usize, v: NameState, out: &mut [u8], t: &ClassTable) -> Nam
     requires { ⌜ (now t ≡ classes) × NameReady (now m) (now out) i v ⌝ }
     ensures { λ q. ⌜ Named (now (m .entry)) (now (out .entry)) (now (out .exit)) i v q ⌝ }
 {
-    let c = class_of(m[i], t);
+    let b = m[i];
+    let c = class_of(b, t);
+    let levels = levels::step(v.levels, b, t);
     if classes::PLAIN_VOWEL <= c {
-        return put_name(m, i, v, out, t);
-    }
-    if classes::HARD_SIGN <= c {
-        return v;
+        let named = put_name(m, i, v, out, t);
+        return NameState { at: named, levels };
     }
     let at = v.at;
-    if c == classes::MARK {
-        let far = v.far;
-        return NameState {
-            at,
-            near: Level::Stressed,
-            far,
-        };
+    if classes::FIRST_LETTER <= c {
+        return NameState { at, levels };
+    }
+    if b == alphabet::MARK {
+        return NameState { at, levels };
     }
     let end = put_end(m, i, at, out, t);
-    let far = at_word_end(m, i);
+    let ahead = look_back(m, i, levels, t);
     NameState {
         at: end,
-        near: far,
-        far,
+        levels: ahead,
     }
 }
 
-// Writes the names of an accepted message, n of them, at the start of the output.
-fn fill_names(m: &[u8], out: &mut [u8], n: usize)
+// Writes the names of an accepted message, n of them, at the start of the output, and tells in how many steps the levels were found.
+fn fill_names(m: &[u8], out: &mut [u8], n: usize) -> usize
     requires { ⌜ NamesDue (now m) (now out) n ⌝ }
-    ensures { λ _. ⌜ now (out .exit) ≡ names (now (m .entry)) ++ drop n (now (out .entry)) ⌝ }
+    ensures { λ k. ⌜ (now (out .exit) ≡ names (now (m .entry)) ++ drop n (now (out .entry))) × StepsSuffice (now (m .entry)) k ⌝ }
 {
     let t = class_table();
     let mut i = m.len();
     let at = put_end(m, i, n, out, &t);
-    let far = at_word_end(m, i);
-    let mut v = NameState { at, near: far, far };
+    let levels = look_back(m, i, at_word_end(0, false), &t);
+    let mut v = NameState { at, levels };
     while 0 < i {
         i -= 1;
         v = step(m, i, v, out, &t);
     }
+    v.levels.steps
 }
 
 // The naming operation (paper 01, pass 2): writes the syllable names of the message at the start of the lent output, or refuses and leaves every byte.

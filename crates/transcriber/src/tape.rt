@@ -4,10 +4,11 @@ ghost use Prim.Native.Nat.{_≤_};
 ghost use lib.ListN.{length};
 ghost use Rattle.message.specs.Classes.{classes, isBreakClass, isConsonantClass, isVowelClass, elidedAt};
 ghost use Rattle.spec.specs.Tape.{tape};
+ghost use Rattle.spec.specs.LevelSteps.{StepsSuffice};
 ghost use Rattle.spec.specs.Answers.{TranscribePromise};
-ghost use Rattle.transcriber.specs.Sounds.{soundTable};
 ghost use Rattle.laws.proofs.Putting.{Put};
 ghost use Rattle.transcriber.specs.Walk.{sungCodes, Lent, ClassAt, Ready, ReadyFor, Stepped, MayWrite};
+use crate::LevelRun;
 use crate::Right;
 use crate::Vowel;
 use crate::answers::refused;
@@ -18,13 +19,16 @@ use crate::consonants::consonant_code;
 use crate::consonants::seen_over;
 use crate::consonants::sound_of;
 use crate::consonants::sound_over_gap;
+use crate::levels;
 use crate::levels::at_word_end;
-use crate::levels::level_before;
+use crate::levels::level_of;
+use crate::levels::look_back;
 use crate::output::put;
 use crate::tables::SoundTable;
 use crate::tables::sound_table;
 use crate::vowels::first_code;
 use crate::vowels::vowel_at;
+use message::alphabet;
 use message::check::check;
 use message::classes;
 use message::classes::ClassTable;
@@ -33,22 +37,29 @@ use message::classify::class_table;
 use message::letters::is_elided;
 use spec::Answer;
 use spec::Checked;
-use spec::Level;
 use spec::Refusal;
 
 // A break puts its mark, and left of it stands another word. c is its class.
-fn put_break(m: &[u8], i: usize, c: usize, r: Right, out: &mut [u8], s: &SoundTable) -> Right
-    requires { ⌜ (now s ≡ soundTable) × ReadyFor isBreakClass (now m) (now out) i c r ⌝ }
+fn put_break(
+    m: &[u8],
+    i: usize,
+    c: usize,
+    r: Right,
+    out: &mut [u8],
+    t: &ClassTable,
+    s: &SoundTable,
+) -> Right
+    requires { ⌜ Lent (now t) (now s) × ReadyFor isBreakClass (now m) (now out) i c r ⌝ }
     ensures { λ q. ⌜ Stepped (now (m .entry)) (now (out .entry)) (now (out .exit)) i r q ⌝ }
 {
-    let far = at_word_end(m, i);
+    let passed = levels::step(r.levels, m[i], t);
+    let levels = look_back(m, i, passed, t);
     if c == classes::PAUSE {
         let at = put(out, r.at, codes::PAUSE);
         return Right {
             at,
             sound: VOICELESS_END,
-            near: far,
-            far,
+            levels,
         };
     }
     let sound = sound_over_gap(r.sound, s);
@@ -56,23 +67,16 @@ fn put_break(m: &[u8], i: usize, c: usize, r: Right, out: &mut [u8], s: &SoundTa
     Right {
         at,
         sound, // no letter of the next word palatalizes across the gap
-        near: far,
-        far,
+        levels,
     }
 }
 
 // A letter or mark that puts nothing leaves the tape as it is.
-fn pass_over(r: Right, sound: usize, near: Level) -> Right
-    ensures { λ q. ⌜ q ≡ record { at = r .at; sound = sound; near = near; far = r .far } ⌝ }
+fn pass_over(r: Right, sound: usize, levels: LevelRun) -> Right
+    ensures { λ q. ⌜ q ≡ record { at = r .at; sound = sound; levels = levels } ⌝ }
 {
     let at = r.at;
-    let far = r.far;
-    Right {
-        at,
-        sound,
-        near,
-        far,
-    }
+    Right { at, sound, levels }
 }
 
 // Is the letter at place i, of class c, silent? Only т and д are, and only after с н р з, so another class before them spares the question.
@@ -102,18 +106,17 @@ fn put_consonant(
     requires { ⌜ Lent (now t) (now s) × ReadyFor isConsonantClass (now m) (now out) i c r ⌝ }
     ensures { λ q. ⌜ Stepped (now (m .entry)) (now (out .entry)) (now (out .exit)) i r q ⌝ }
 {
-    let near = r.near;
+    let b = m[i];
+    let levels = levels::step(r.levels, b, t);
     if is_silent(m, i, c, t) {
-        return pass_over(r, seen_over(r.sound, false), near);
+        return pass_over(r, seen_over(r.sound, false), levels);
     }
-    let code = consonant_code(m[i], r.sound, s);
+    let code = consonant_code(b, r.sound, s);
     let at = put(out, r.at, code);
-    let far = r.far;
     Right {
         at,
         sound: code as usize,
-        near,
-        far,
+        levels,
     }
 }
 
@@ -134,18 +137,12 @@ fn put_vowel(m: &[u8], i: usize, c: usize, r: Right, out: &mut [u8], t: &ClassTa
     requires { ⌜ (now t ≡ classes) × ReadyFor isVowelClass (now m) (now out) i c r ⌝ }
     ensures { λ q. ⌜ Stepped (now (m .entry)) (now (out .entry)) (now (out .exit)) i r q ⌝ }
 {
-    let level = r.near;
-    let far = r.far;
+    let level = level_of(r.levels);
     let vowel = vowel_at(m, i, c, level, t);
     let at = put_sung(out, r.at, vowel);
     let sound = sound_of(first_code(vowel), c != classes::PLAIN_VOWEL);
-    let near = level_before(level, far);
-    Right {
-        at,
-        sound,
-        near,
-        far,
-    }
+    let levels = levels::step(r.levels, m[i], t);
+    Right { at, sound, levels }
 }
 
 // The byte at place i.
@@ -153,41 +150,52 @@ fn step(m: &[u8], i: usize, r: Right, out: &mut [u8], t: &ClassTable, s: &SoundT
     requires { ⌜ Lent (now t) (now s) × Ready (now m) (now out) i r ⌝ }
     ensures { λ q. ⌜ Stepped (now (m .entry)) (now (out .entry)) (now (out .exit)) i r q ⌝ }
 {
-    let c = class_of(m[i], t);
+    let b = m[i];
+    let c = class_of(b, t);
     if classes::PLAIN_VOWEL <= c {
         return put_vowel(m, i, c, r, out, t);
     }
     if classes::HARD_ONLY <= c {
         return put_consonant(m, i, c, r, out, t, s);
     }
-    let near = r.near;
     if classes::HARD_SIGN <= c {
-        return pass_over(r, seen_over(r.sound, c == classes::SOFT_SIGN), near);
+        let levels = levels::step(r.levels, b, t);
+        return pass_over(r, seen_over(r.sound, c == classes::SOFT_SIGN), levels);
     }
-    if c == classes::MARK {
-        return pass_over(r, r.sound, Level::Stressed);
+    if b == alphabet::MARK {
+        let levels = levels::step(r.levels, b, t);
+        return pass_over(r, r.sound, levels);
     }
-    put_break(m, i, c, r, out, s)
+    put_break(m, i, c, r, out, t, s)
 }
 
-// Puts the tape of an accepted message right before place end of the output, and tells where it begins. It is the one caller of the step, so that the state stays in registers. The tables are
-// lent, since a copy of them for each part of a message would cost more than the part.
-pub fn write_tape(m: &[u8], out: &mut [u8], end: usize, t: &ClassTable, s: &SoundTable) -> usize
+// Puts the tape of an accepted message right before place end of the output, and tells what stands right of the message's start: where the tape begins, and in how many steps the levels
+// were found. It is the one caller of the step, so that the state stays in registers.
+fn walk(m: &[u8], out: &mut [u8], end: usize, t: &ClassTable, s: &SoundTable) -> Right
     requires { ⌜ MayWrite (now t) (now s) (now m) (now out) end ⌝ }
-    ensures { λ r. ⌜ Put (tape (now (m .entry))) (now (out .entry)) (now (out .exit)) end r ⌝ }
+    ensures { λ r. ⌜ Put (tape (now (m .entry))) (now (out .entry)) (now (out .exit)) end (r .at) × StepsSuffice (now (m .entry)) (r .levels .steps) ⌝ }
 {
     let mut i = m.len();
-    let far = at_word_end(m, i);
+    let levels = look_back(m, i, at_word_end(0, false), t);
     let mut r = Right {
         at: end,
         sound: VOICELESS_END,
-        near: far,
-        far,
+        levels,
     };
     while 0 < i {
         i -= 1;
         r = step(m, i, r, out, t, s);
     }
+    r
+}
+
+// Puts the tape of an accepted message right before place end of the output, and tells where it begins. The tables are lent, since a copy of them for each part of a message would cost
+// more than the part.
+pub fn write_tape(m: &[u8], out: &mut [u8], end: usize, t: &ClassTable, s: &SoundTable) -> usize
+    requires { ⌜ MayWrite (now t) (now s) (now m) (now out) end ⌝ }
+    ensures { λ r. ⌜ Put (tape (now (m .entry))) (now (out .entry)) (now (out .exit)) end r ⌝ }
+{
+    let r = walk(m, out, end, t, s);
     r.at
 }
 

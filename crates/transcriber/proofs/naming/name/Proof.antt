@@ -31,4 +31,4 @@ name-spec =
     (λ c. let k = c .before .before in answered-short (accepted k) (counted k) (c .if1 .taken))
     fill-names-requires
     (search needs)
-    (λ c. let f = c .before .before in let e = f .before .before in answered-written (accepted (e .before .before)) (counted (e .before .before)) (e .if1 .left) (f .fill-names .ensures)))
+    (λ c. let f = c .before .before in let e = f .before .before in answered-written (accepted (e .before .before)) (counted (e .before .before)) (e .if1 .left) (f .fill-names .ensures .0)))

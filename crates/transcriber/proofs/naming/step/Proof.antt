@@ -1,38 +1,49 @@
--- Each class of byte settles its names, and a byte of an accepted message has one.
-use Rattle.laws.proofs.Kit.{_≡_, true, sym, _∙_, arith, getD, needs}
-use Rattle.message.specs.Classes.{classOf, isBreakClass}
-use Rattle.transcriber.proofs.Namings.{named-letter, named-mark, word-ends, named-break}
-use Rattle.transcriber.proofs.Walking.{between-true, vowel-class, break-class}
+-- Each class of byte settles its names, and a byte of an accepted message has one; the run of the levels goes on over it.
+use Rattle.laws.proofs.Kit.{_≡_, true, false, _∙_, arith, getD, needs, eq-eqb, ne-eqb}
+use Rattle.spec.specs.Letters.{isBreak, isMark}
+use Rattle.message.specs.Classes.{classOf, isVowelClass}
+use Rattle.message.proofs.{Bytes.by-class, Bytes.vowel-break, Left.mark-within}
+use Rattle.transcriber.proofs.Namings.{other-piece, named-within, word-ends, named-break}
+use Rattle.transcriber.proofs.{Levelling.plain-letter, Levelling.mark-vowel, Levelling.levels-due, Levelling.break-due, Raw.between-true, Raw.vowel-class, Raw.break-class}
 use Rattle.transcriber.proofs.naming.step.Statement.{statement}
 use Rattle.transcriber.proofs.naming.step.Tie as tie
 
+-- the highest classes are the vowels'
+vowel : (c : tie.Then1) → let s = c .before .before .before .before .before .before in isVowelClass (classOf (getD (s .args .m .now) (s .args .i) 0)) ≡ true
+vowel c =
+    let k = c .before .before in
+    let s = k .before .before .before .before in
+    rw (k .class-of .ensures) at (vowel-class (s .pre .1 .steady .bytes (s .args .i)) (k .class-of .ensures) (c .if1 .taken))
+
 -- where the byte is no letter and no mark it is a break
-breaks : (c : tie.Else3) → let s = c .before .before .before .before .before .before .before in isBreakClass (classOf (getD (s .args .m .now) (s .args .i) 0)) ≡ true
+breaks : (c : tie.Else3) → let s = c .before .before .before .before .before .before .before .before in isBreak (getD (s .args .m .now) (s .args .i) 0) ≡ true
+unfolding isMark
 breaks c =
-    let k = c .before .before .before in
-    let r = k .before .before .before .before .pre .1 in
-    rw (k .class-of .ensures) at (break-class (r .steady) (r .within) (k .class-of .ensures) (omega (arith, c .before .if2 .left)) (c .if3 .left))
-
-put-name-requires : tie.Need-put-name-requires
-put-name-requires c κs =
-    let k = c .before .before in
-    let p = k .before .before .before .before .pre in
-    (p .0, record { ready = p .1; vowel = rw (k .class-of .ensures) at (vowel-class (p .1 .steady) (p .1 .within) (k .class-of .ensures) (c .before .if1 .taken)) })
-
-returns-2 : tie.Need-returns-2
-returns-2 c =
-    let k = c .before .before in
-    named-letter (k .before .before .before .before .pre .1) (rw (k .class-of .ensures) at (between-true 4 9 (k .class-of .result) (c .if2 .taken) (omega (arith, c .before .if1 .left))))
+    let k = c .before .before .before .before in
+    let s = k .before .before .before .before in
+    let h = s .pre .1 .steady .bytes (s .args .i) in
+    by-class _ h .break ∙ (rw (k .class-of .ensures) at (break-class h (k .class-of .ensures) (s .pre .1 .steady .named (s .args .i) (s .pre .1 .within)) (c .before .if2 .left) (ne-eqb _ 42 (c .if3 .left))))
 
 pub step-spec : {M : Type 1} → statement M
+unfolding isMark
 step-spec =
     tie.close
     (tie.spec
     (search needs) (λ c κs. search needs)
-    put-name-requires
-    (search needs) (λ c. search needs)
-    returns-2
-    (λ c. let k = c .before .before .before in named-mark (k .before .before .before .before .pre .1) (sym (k .class-of .ensures) ∙ c .if3 .taken))
-    (λ c κs. let s = c .before .before .before .before .before .before .before .before in (s .pre .0, word-ends (s .pre .1) (breaks (c .before))))
-    (λ c κs. search needs) (search needs)
-    (λ c. let e = c .before .before .before in let l = e .before .before in named-break (l .before .before .before .before .before .before .before .pre .1) (breaks l) (e .put-end .ensures) (c .at-word-end .ensures)))
+    (λ c κs. let p = c .before .before .before .before .pre in levels-due (p .0) (p .1 .steady) (p .1 .within) (p .1 .stands))
+    (λ c κs. let p = c .before .before .before .before .before .before .before .pre in (p .0, record { ready = p .1; vowel = vowel (c .before) }))
+    (search needs)
+    (λ c. let n = c .before .before in let t = n .before .before in let s = t .before .before .before .before .before .before in let h = s .pre .1 .steady .bytes (s .args .i) in
+    named-within (s .pre .1) (vowel-break _ h (by-class _ h .vowel ∙ vowel t)) (t .before .step .ensures) (n .put-name .ensures))
+    (λ c. let q = c .before .before in let s = q .before .before .before .before .before in
+    let e = plain-letter _ (s .pre .1 .steady .bytes (s .args .i)) (rw (q .before .class-of .ensures) at (between-true 4 9 _ (c .if2 .taken) (omega (arith, c .before .if1 .left)))) in
+    named-within (s .pre .1) (e .0) (q .step .ensures) (other-piece (s .pre .1) (e .0) (e .2)))
+    (λ c. let q = c .before .before .before in let s = q .before .before .before .before .before in
+    let k = eq-eqb _ 42 (c .if3 .taken) in let b = mark-within _ k in
+    named-within (s .pre .1) b (q .step .ensures) (other-piece (s .pre .1) b (mark-vowel _ (s .pre .1 .steady .bytes (s .args .i)) k)))
+    (λ c κs. let s = c .before .before .before .before .before .before .before .before .before in (s .pre .0, word-ends (s .pre .1) (breaks (c .before))))
+    (λ c κs. let e = c .before .before .before .before in let q = e .before .before .before in let p = q .before .before .before .before .before .pre in
+    rw (q .step .ensures) (break-due _ (p .1 .steady) _ (p .1 .within) (p .1 .stands) (breaks e) (p .0)))
+    (search needs)
+    (λ c. let n = c .before .before .before in let e = n .before .before in let q = e .before .before .before in let s = q .before .before .before .before .before in
+    named-break (s .pre .1) (breaks e) (n .put-end .ensures) (rw (q .step .ensures) at (c .look-back .ensures))))

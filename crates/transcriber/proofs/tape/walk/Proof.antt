@@ -1,0 +1,56 @@
+-- The walk so far is carried by one record, to which each step adds the piece of its byte; over the whole message it puts the tape. The measure is the place.
+use Rattle.laws.proofs.Kit.{_≡_, arith, length, needs}
+use Rattle.spec.specs.Tape.{tape}
+use Rattle.laws.proofs.Putting.{put-none}
+use Rattle.message.specs.Places.{tapeAt}
+use Rattle.message.proofs.{Lengths.codes-from, Tail.tape-start, Tail.tape-end}
+use Rattle.transcriber.specs.Walk.{Stands, pieceAt}
+use Rattle.transcriber.proofs.Filling.{Writing, writing-length, writing-ready, writing-more}
+use Rattle.transcriber.proofs.{Levelling.levels-done, Levelling.end-due, Walking.piece-step, Walking.stands-end}
+use Rattle.transcriber.proofs.tape.walk.Statement.{statement}
+use Rattle.transcriber.proofs.tape.walk.Tie as tie
+
+abbrev Inv-loop : tie.InvT-loop
+Inv-loop m out₀ end t s i₀ r₀ out i r = Writing (λ j. Stands m j r) m (tapeAt m) (pieceAt m) (length (tape m)) out₀ out end i (r .at)
+
+abbrev μ-loop : tie.MeasureT-loop
+μ-loop m out₀ end t s i₀ r₀ out i r = i
+
+-- where the loop begins
+abbrev start : tie.At-loop Inv-loop μ-loop → tie.Start Inv-loop μ-loop
+start l = l .before .before .before .before .before
+
+loop-holds : tie.Need-loop-holds Inv-loop μ-loop
+loop-holds c =
+    let s = c .before .before .before .before in
+    let m = s .args .m .now in
+    let y = s .pre .steady in
+    record {
+      pieces = record { steady = y; step = piece-step m y; part = λ i h. omega (arith, codes-from m y i (omega arith)) };
+      stands = stands-end y (rw (c .before .at-word-end .ensures) at (c .look-back .ensures));
+      within = omega arith;
+      room = s .pre .room;
+      place = s .pre .place;
+      put = rw (tape-end m y) (put-none _ _);
+    }
+
+returns : tie.Need-returns Inv-loop μ-loop
+returns c =
+    let l = c .before in
+    let s = start l in
+    let e : l .loop .i ≡ 0 = omega (arith, c .loop-test .left) in
+    (rw (e, tape-start (s .args .m .now) (s .pre .steady)) at (l .loop .inv .put), levels-done (rw e at (l .loop .inv .stands .levels)))
+
+pub walk-spec : {M : Type 1} → statement M
+walk-spec =
+    tie.close
+    (tie.spec
+    Inv-loop μ-loop (search needs)
+    (λ c κs. let s = c .before .before .before in rw (c .at-word-end .ensures) (end-due (s .pre .lent .byte) (s .pre .steady)))
+    loop-holds
+    (λ c. omega arith)
+    (λ c κs. let l = c .before .before in (start l .pre .lent, writing-ready (l .loop .inv) (c .before .loop-test .taken)))
+    (λ c. omega arith)
+    (λ c. let n = c .before .before in let k = n .before .before in writing-more (k .before .loop .inv) (k .loop-test .taken) (n .step .ensures))
+    (λ c. writing-length (c .before .loop .inv))
+    returns)
