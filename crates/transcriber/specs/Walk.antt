@@ -13,11 +13,12 @@ use Rattle.spec.specs.Tape.{tape, names}
 use Rattle.spec.specs.Refusals.{vowelByte}
 use Rattle.laws.proofs.Putting.{Put}
 use Rattle.message.specs.Places.{Steady, leftAt, letterOf, wordAt, toneAt, soundAt, factsAt, codesAt}
-use Rattle.message.specs.Classes.{classes, classOf, isVowelClass}
+use Rattle.message.specs.Classes.{classes, classOf, isBreakClass, isVowelClass}
 use Rattle.spec.specs.declared.Level.{Level}
 use Rattle.spec.specs.declared.Syllable.{Syllable}
-use Rattle.transcriber.specs.Levels.{nearLevel, LevelsAt}
+use Rattle.transcriber.specs.Levels.{nearLevel, stepOver, LevelsAt}
 use Rattle.transcriber.specs.Sounds.{soundTable, Tells}
+use Rattle.transcriber.specs.declared.LevelRun.{LevelRun}
 use Rattle.transcriber.specs.declared.Right.{Right}
 use Rattle.transcriber.specs.declared.Vowel.{Vowel}
 use Rattle.transcriber.specs.declared.NameState.{NameState}
@@ -87,6 +88,11 @@ pub record ReadyFor (test : ℕ → Bool) (m out : List ℕ) (i c : ℕ) (r : Ri
   pub ready : Ready m out i r
   pub class : c ≡ classOf (getD m i 0)
   pub kind : test c ≡ true
+
+-- its byte is a break, over which the run of the levels has gone
+pub record BreakReady (m out : List ℕ) (i c : ℕ) (r : Right) (l : LevelRun) : Type 0 where
+  pub ready : ReadyFor isBreakClass m out i c r
+  pub passed : l ≡ stepOver (r .levels) (getD m i 0)
 
 -- the tape of m may be written right before place `end` of the output
 pub record MayWrite (t s m out : List ℕ) (end : ℕ) : Type 0 where

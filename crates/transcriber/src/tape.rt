@@ -2,12 +2,12 @@
 ghost use mathlib.Core.Path.{_≡_};
 ghost use Prim.Native.Nat.{_≤_};
 ghost use lib.ListN.{length};
-ghost use Rattle.message.specs.Classes.{classes, isBreakClass, isConsonantClass, isVowelClass, elidedAt};
+ghost use Rattle.message.specs.Classes.{classes, isConsonantClass, isVowelClass, elidedAt};
 ghost use Rattle.spec.specs.Tape.{tape};
 ghost use Rattle.spec.specs.LevelSteps.{StepsSuffice};
 ghost use Rattle.spec.specs.Answers.{TranscribePromise};
 ghost use Rattle.laws.proofs.Putting.{Put};
-ghost use Rattle.transcriber.specs.Walk.{sungCodes, Lent, ClassAt, Ready, ReadyFor, Stepped, MayWrite};
+ghost use Rattle.transcriber.specs.Walk.{sungCodes, Lent, ClassAt, Ready, ReadyFor, BreakReady, Stepped, MayWrite};
 use crate::LevelRun;
 use crate::Right;
 use crate::Vowel;
@@ -39,20 +39,20 @@ use spec::Answer;
 use spec::Checked;
 use spec::Refusal;
 
-// A break puts its mark, and left of it stands another word. c is its class.
+// A break puts its mark, and left of it stands another word. c is its class, and passed the run of the levels over it.
 fn put_break(
     m: &[u8],
     i: usize,
     c: usize,
     r: Right,
+    passed: LevelRun,
     out: &mut [u8],
     t: &ClassTable,
     s: &SoundTable,
 ) -> Right
-    requires { ⌜ Lent (now t) (now s) × ReadyFor isBreakClass (now m) (now out) i c r ⌝ }
+    requires { ⌜ Lent (now t) (now s) × BreakReady (now m) (now out) i c r passed ⌝ }
     ensures { λ q. ⌜ Stepped (now (m .entry)) (now (out .entry)) (now (out .exit)) i r q ⌝ }
 {
-    let passed = levels::step(r.levels, m[i], t);
     let levels = look_back(m, i, passed, t);
     if c == classes::PAUSE {
         let at = put(out, r.at, codes::PAUSE);
@@ -138,10 +138,10 @@ fn put_vowel(m: &[u8], i: usize, c: usize, r: Right, out: &mut [u8], t: &ClassTa
     ensures { λ q. ⌜ Stepped (now (m .entry)) (now (out .entry)) (now (out .exit)) i r q ⌝ }
 {
     let level = level_of(r.levels);
+    let levels = levels::step(r.levels, m[i], t);
     let vowel = vowel_at(m, i, c, level, t);
     let at = put_sung(out, r.at, vowel);
     let sound = sound_of(first_code(vowel), c != classes::PLAIN_VOWEL);
-    let levels = levels::step(r.levels, m[i], t);
     Right { at, sound, levels }
 }
 
@@ -158,15 +158,14 @@ fn step(m: &[u8], i: usize, r: Right, out: &mut [u8], t: &ClassTable, s: &SoundT
     if classes::HARD_ONLY <= c {
         return put_consonant(m, i, c, r, out, t, s);
     }
+    let levels = levels::step(r.levels, b, t);
     if classes::HARD_SIGN <= c {
-        let levels = levels::step(r.levels, b, t);
         return pass_over(r, seen_over(r.sound, c == classes::SOFT_SIGN), levels);
     }
     if b == alphabet::MARK {
-        let levels = levels::step(r.levels, b, t);
         return pass_over(r, r.sound, levels);
     }
-    put_break(m, i, c, r, out, t, s)
+    put_break(m, i, c, r, levels, out, t, s)
 }
 
 // Puts the tape of an accepted message right before place end of the output, and tells what stands right of the message's start: where the tape begins, and in how many steps the levels

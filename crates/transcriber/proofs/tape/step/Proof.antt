@@ -24,9 +24,11 @@ put-break-requires : tie.Need-put-break-requires
 unfolding isMark
 put-break-requires c κs =
     let e = c .before in
-    let k = e .before .before .before .before in
+    let q = e .before .before in
+    let k = q .before .before .before in
     let s = start k in
-    (s .pre .0, tested k (break-class (byte k) (k .class-of .ensures) (s .pre .1 .steady .named (s .args .i) (s .pre .1 .within)) (e .before .if3 .left) (ne-eqb _ 42 (e .if4 .left))))
+    let t = break-class (byte k) (k .class-of .ensures) (s .pre .1 .steady .named (s .args .i) (s .pre .1 .within)) (e .before .if3 .left) (ne-eqb _ 42 (e .if4 .left)) in
+    (s .pre .0, record { ready = tested k t; passed = q .step .ensures })
 
 pub step-spec : {M : Type 1} → statement M
 unfolding isMark
@@ -38,12 +40,11 @@ step-spec =
     (search needs) (λ c. search needs)
     (λ c κs. let e = c .before .before in let k = e .before in (start k .pre .0, tested k (between-true 6 9 _ (c .before .if2 .taken) (omega (arith, e .if1 .left)))))
     (search needs) (λ c. search needs)
-    (λ c κs. let s = start (c .before .before .before) in run-ready (s .pre .1) (s .pre .0 .byte))
+    (λ c κs. let s = start (c .before .before) in run-ready (s .pre .1) (s .pre .0 .byte))
     (search needs) (search needs)
-    (λ c. let o = c .before in let t = o .before .before in
-    rw (c .pass-over .ensures) (sign-steps (tested (t .before .before .before) (between-true 4 5 _ (t .if3 .taken) (omega (arith, t .before .if2 .left)))) (o .seen-over .ensures) (o .before .step .ensures)))
-    (λ c κs. let s = start (c .before .before .before .before) in run-ready (s .pre .1) (s .pre .0 .byte))
+    (λ c. let o = c .before in let t = o .before in let q = t .before in
+    rw (c .pass-over .ensures) (sign-steps (tested (q .before .before .before) (between-true 4 5 _ (t .if3 .taken) (omega (arith, q .before .if2 .left)))) (o .seen-over .ensures) (q .step .ensures)))
     (search needs)
-    (λ c. let q = c .before in let t = q .before in rw (c .pass-over2 .ensures) (mark-steps (start (t .before .before .before .before) .pre .1) (eq-eqb _ 42 (t .if4 .taken)) (q .step2 .ensures)))
+    (λ c. let t = c .before in let q = t .before .before in rw (c .pass-over2 .ensures) (mark-steps (start (q .before .before .before) .pre .1) (eq-eqb _ 42 (t .if4 .taken)) (q .step .ensures)))
     put-break-requires
     (search needs) (λ c. search needs))
