@@ -1,10 +1,10 @@
 -- The run of the levels' step: a mark makes the vowel before it stressed, the vowel before that is of level 1, and those further left are of level 2, or 1 where the word has no mark. No
 -- byte is stepped over more than twice.
-use Rattle.laws.proofs.Kit.{ℕ, zero, suc, _+_, _*_, _<_, _≤_, _≡_, refl, sym, ap, _∙_, Bool, true, false, arith, List, [], _∷_, length, getD, drop, drop-length, add-one}
+use Rattle.laws.proofs.Kit.{ℕ, zero, suc, _+_, _<_, _≤_, _≡_, refl, sym, ap, _∙_, Bool, true, false, arith, List, [], _∷_, length, getD, drop, drop-length, add-one}
 use Rattle.spec.specs.Letters.{between, isBreak, isMark, beginsWithMark}
 use Rattle.spec.specs.{Refusals.vowelByte, Syllables.nextStressed, LevelSteps.StepsSuffice, declared.Level.Level}
 use Rattle.message.specs.{Classes.classes, Classes.classOf, Places.Steady, Places.letterOf, Places.wordAt, Places.markBefore, Places.markedAt}
-use Rattle.message.proofs.Tail.{word-letter, word-mark, word-break, word-end, marked-within, marked-break, marked-end}
+use Rattle.message.proofs.Tail.{word-letter, word-break, word-end, marked-within, marked-break, marked-end}
 use Rattle.message.proofs.{Bytes.vowel-break, Bytes.vowel-mark, Bytes.not-both, Computed.everything, Left.begins-at, Left.mark-within, Left.unmarked-after}
 use Rattle.laws.proofs.Classes.{break-mark, break-vowel, either}
 use Rattle.transcriber.specs.declared.LevelRun.{LevelRun}
@@ -12,7 +12,7 @@ use Rattle.transcriber.specs.Levels.{levelBy, countedBy, numbered, nearl
 use Rattle.transcriber.specs.{Sounds.classBefore, Sounds.syllableBy, Walk.syllableAt}
 use Rattle.transcriber.proofs.Raw.{syllable-raw, where-same}
 
--- a letter that is no vowel is no break and no mark
+-- a letter of these classes is no vowel, no break and no mark
 pub plain-letter : (b : ℕ) → b < 256 → between 4 9 (classOf b) ≡ true → (isBreak b ≡ false) × (isMark b ≡ false) × (vowelByte b ≡ false)
 unfolding everything
 plain-letter b h c =

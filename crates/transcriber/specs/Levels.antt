@@ -30,13 +30,14 @@ countedBy zero marked = 0
 countedBy (suc zero) marked = 1
 countedBy (suc (suc n)) marked = cond marked 2 1
 
-abbrev pub Least : ℕ → ℕ → ℕ → Type 0
-Least a b n = ((a < b) × (n ≡ a)) ⊎ ((b ≤ a) × (n ≡ b))
-
 abbrev pub numbered : ℕ → Level
 numbered zero = Stressed
 numbered (suc zero) = First
 numbered (suc (suc n)) = Second
+
+-- n is the smaller of two numbers
+abbrev pub Least : ℕ → ℕ → ℕ → Type 0
+Least a b n = ((a < b) × (n ≡ a)) ⊎ ((b ≤ a) × (n ≡ b))
 
 -- the count as far as it makes a difference, and what it is where a mark stands right at a place or after the next vowel
 abbrev pub nearly : ℕ → ℕ
@@ -87,7 +88,7 @@ pub record Looked (m : List ℕ) (i : ℕ) (s q : LevelRun) : Type 0 where
   pub steps : q .steps ≤ s .steps + backAt m i
   pub taken : Unmarked m → q .steps ≡ s .steps + backAt m i
 
--- s is the run at place i: each byte from there on was stepped over once, and ahead once, and so were the bytes back to the break before the word
+-- s is the run at place i, where it tells the levels to the left: each byte from there on was walked over, and stepped over ahead at most once, as were those back to the break before the word
 pub record LevelsAt (m : List ℕ) (i : ℕ) (s : LevelRun) : Type 0 where
   pub since : nearly (s .since) ≡ sinceBy (beginsWithMark (drop i m)) (nextStressed (wordAt m i))
   pub marked : s .marked ≡ markedAt m i

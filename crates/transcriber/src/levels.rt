@@ -25,7 +25,7 @@ pub fn at_word_end(steps: usize, marked: bool) -> LevelRun
     }
 }
 
-// The step, over byte b to its left.
+// The step, over byte b, the next to the left.
 pub fn step(s: LevelRun, b: u8, t: &ClassTable) -> LevelRun
     requires { ⌜ StepDue (now t) s b ⌝ }
     ensures { λ r. ⌜ r ≡ stepOver s b ⌝ }
@@ -82,13 +82,15 @@ pub fn look_back(m: &[u8], i: usize, s: LevelRun, t: &ClassTable) -> LevelRun
     at_word_end(ahead.steps, false)
 }
 
+// The smaller of two numbers.
 fn least(a: usize, b: usize) -> usize
     ensures { λ r. ⌜ Least a b r ⌝ }
 {
     if a < b { a } else { b }
 }
 
-// The level of the next vowel to the left: the syllables from it to the mark, but no more than 2, or 1 in a word with no mark.
+// The level of the next vowel to the left: the syllables from it to the mark, but no more than 2, or 1 in a word with no mark. With three numbers told apart the compiler takes the number
+// for the level as it is.
 pub fn level_of(s: LevelRun) -> Level
     ensures { λ r. ⌜ r ≡ numbered (countedBy (s .since) (s .marked)) ⌝ }
 {

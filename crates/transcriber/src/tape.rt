@@ -137,8 +137,8 @@ fn put_vowel(m: &[u8], i: usize, c: usize, r: Right, out: &mut [u8], t: &ClassTa
     requires { ⌜ (now t ≡ classes) × ReadyFor isVowelClass (now m) (now out) i c r ⌝ }
     ensures { λ q. ⌜ Stepped (now (m .entry)) (now (out .entry)) (now (out .exit)) i r q ⌝ }
 {
-    let level = level_of(r.levels);
     let levels = levels::step(r.levels, m[i], t);
+    let level = level_of(r.levels);
     let vowel = vowel_at(m, i, c, level, t);
     let at = put_sung(out, r.at, vowel);
     let sound = sound_of(first_code(vowel), c != classes::PLAIN_VOWEL);

@@ -1,11 +1,11 @@
 -- The bytes passed so far are letters, so what stands before them tells of the word's marks, and each was one step; a mark or a break, or the message's start, then tells all. The measure is j.
-use Rattle.laws.proofs.Kit.{ℕ, suc, _+_, _-_, _<_, _≤_, _≡_, refl, sym, ap, _∙_, Bool, true, false, true≢false, false≢true, arith, needs, List, length, getD}
+use Rattle.laws.proofs.Kit.{ℕ, suc, _+_, _-_, _≤_, _≡_, refl, sym, _∙_, true, false, true≢false, false≢true, arith, needs, List, getD}
 use Rattle.spec.specs.{Letters.isBreak, Letters.isMark, Refusals.vowelByte}
 use Rattle.message.specs.Places.{Steady, markBefore}
 use Rattle.message.proofs.{Bytes.vowel-break, Bytes.vowel-mark, Left.mark-within}
 use Rattle.laws.proofs.Classes.{either}
 use Rattle.transcriber.specs.declared.LevelRun.{LevelRun}
-use Rattle.transcriber.specs.Levels.{stepOver, endRun, StepDue, backAt, LookDue, Looked}
+use Rattle.transcriber.specs.Levels.{stepOver, endRun, backAt, Looked}
 use Rattle.transcriber.proofs.Levelling.{back-most, back-within, back-break}
 use Rattle.transcriber.proofs.levels.look_back.Statement.{statement}
 use Rattle.transcriber.proofs.levels.look_back.Tie as tie
@@ -18,7 +18,7 @@ record Ahead (m : List ℕ) (i : ℕ) (s : LevelRun) (j : ℕ) (ahead : LevelRun
   pub steps : ahead .steps + backAt m j ≡ s .steps + backAt m i
   pub since : ahead .since + j ≤ i + 2
 
-module _ {m : List ℕ} {i k : ℕ} {s ahead : LevelRun} (steady : Steady m) (a : Ahead m i s (suc k) ahead) where
+module _ {m : List ℕ} {i k : ℕ} {s ahead : LevelRun} (a : Ahead m i s (suc k) ahead) where
   -- over a letter it goes on
   letter : {q : LevelRun} → isBreak (getD m k 0) ≡ false → isMark (getD m k 0) ≡ false → q .steps ≡ ahead .steps + 1 → q .since ≤ ahead .since + 1 → q .marked ≡ ahead .marked → Ahead m i s k q
   unfolding markBefore
@@ -53,9 +53,9 @@ module _ {m : List ℕ} {i k : ℕ} {s ahead : LevelRun} (steady : Steady m) (a 
   }
 
 -- so does the message's start
-start : {m : List ℕ} {i : ℕ} {s ahead : LevelRun} → Ahead m i s 0 ahead → Looked m i s (endRun (ahead .steps) false)
+start : {m : List ℕ} {i : ℕ} {s ahead q : LevelRun} → Ahead m i s 0 ahead → q ≡ endRun (ahead .steps) false → Looked m i s q
 unfolding markBefore backAt
-start a = record { since = refl; marked = a .tells; steps = omega (arith, a .steps); taken = λ u. omega (arith, a .steps) }
+start a e = rw e (record { since = refl; marked = a .tells; steps = omega (arith, a .steps); taken = λ u. omega (arith, a .steps) })
 
 abbrev Inv-loop : tie.InvT-loop
 Inv-loop m i t j₀ ahead₀ j ahead = Ahead m i ahead₀ j ahead
@@ -71,18 +71,20 @@ turn c =
     let e : suc (l .loop .j - 1) ≡ l .loop .j = omega (arith, c .before .loop-test .taken) in
     rw e (l .loop .inv)
 
--- over the byte, which may be a vowel, another letter, a mark or a break
-edged : {m : List ℕ} {i k : ℕ} {s ahead : LevelRun} → Steady m → Ahead m i s (suc k) ahead → stepOver ahead (getD m k 0) .edge ≡ true → Looked m i s (endRun (stepOver ahead (getD m k 0) .steps) (stepOver ahead (getD m k 0) .marked))
-edged {m} {k = k} {ahead = ahead} steady a e =
+-- the step met a mark or a break
+edged : {m : List ℕ} {i k : ℕ} {s ahead : LevelRun} → Ahead m i s (suc k) ahead → stepOver ahead (getD m k 0) .edge ≡ true
+    → Looked m i s (endRun (stepOver ahead (getD m k 0) .steps) (stepOver ahead (getD m k 0) .marked))
+edged {m} {k = k} a e =
     either (vowelByte (getD m k 0)) (λ v. absurd (false≢true (rw v at e)))
-    (λ v. either (isMark (getD m k 0)) (λ n. rw (v, n) (mark steady a n))
-    (λ n. either (isBreak (getD m k 0)) (λ b. rw (v, n, b) (break steady a b)) (λ b. absurd (false≢true (rw (v, n, b) at e)))))
+    (λ v. either (isMark (getD m k 0)) (λ n. rw (v, n) (mark a n))
+    (λ n. either (isBreak (getD m k 0)) (λ b. rw (v, n, b) (break a b)) (λ b. absurd (false≢true (rw (v, n, b) at e)))))
 
+-- or it met neither
 inside : {m : List ℕ} {i k : ℕ} {s ahead : LevelRun} → Steady m → Ahead m i s (suc k) ahead → stepOver ahead (getD m k 0) .edge ≡ false → Ahead m i s k (stepOver ahead (getD m k 0))
 inside {m} {k = k} steady a e =
-    either (vowelByte (getD m k 0)) (λ v. rw v (letter steady a (vowel-break (getD m k 0) (steady .bytes k) v) (vowel-mark (getD m k 0) (steady .bytes k) v) refl (omega arith) refl))
+    either (vowelByte (getD m k 0)) (λ v. rw v (letter a (vowel-break (getD m k 0) (steady .bytes k) v) (vowel-mark (getD m k 0) (steady .bytes k) v) refl (omega arith) refl))
     (λ v. either (isMark (getD m k 0)) (λ n. absurd (true≢false (rw (v, n) at e)))
-    (λ n. either (isBreak (getD m k 0)) (λ b. absurd (true≢false (rw (v, n, b) at e))) (λ b. rw (v, n, b) (letter steady a b n refl (omega arith) refl))))
+    (λ n. either (isBreak (getD m k 0)) (λ b. absurd (true≢false (rw (v, n, b) at e))) (λ b. rw (v, n, b) (letter a b n refl (omega arith) refl))))
 
 pub look-back-spec : {M : Type 1} → statement M
 look-back-spec =
@@ -100,8 +102,8 @@ look-back-spec =
       since = omega (arith, a .since, p .within, y .short);
     })
     (search needs)
-    (λ c. let k = c .before .before in rw (c .at-word-end .ensures, k .step .ensures) (edged (k .before .before .before .before .before .pre .steady) (turn (k .before)) (rw (k .step .ensures) at (c .before .if1 .taken))))
+    (λ c. let k = c .before .before in rw (c .at-word-end .ensures, k .step .ensures) (edged (turn (k .before)) (rw (k .step .ensures) at (c .before .if1 .taken))))
     (λ c. omega (arith, c .before .before .before .loop-test .taken))
     (λ c. let k = c .before in rw (k .step .ensures) (inside (k .before .before .before .before .before .pre .steady) (turn (k .before)) (rw (k .step .ensures) at (c .if1 .left))))
     (search needs)
-    (λ c. let l = c .before .before in let e : l .loop .j ≡ 0 = omega (arith, c .before .loop-test .left) in rw (c .at-word-end2 .ensures) (start (rw e at (l .loop .inv)))))
+    (λ c. let l = c .before .before in let e : l .loop .j ≡ 0 = omega (arith, c .before .loop-test .left) in start (rw e at (l .loop .inv)) (c .at-word-end2 .ensures)))

@@ -1,5 +1,5 @@
 -- Each class of byte settles its names, and a byte of an accepted message has one; the run of the levels goes on over it.
-use Rattle.laws.proofs.Kit.{_≡_, true, false, _∙_, arith, getD, needs, eq-eqb, ne-eqb}
+use Rattle.laws.proofs.Kit.{_≡_, true, _∙_, arith, getD, needs, eq-eqb, ne-eqb}
 use Rattle.spec.specs.Letters.{isBreak, isMark}
 use Rattle.message.specs.Classes.{classOf, isVowelClass}
 use Rattle.message.proofs.{Bytes.by-class, Bytes.vowel-break, Left.mark-within}
