@@ -145,7 +145,8 @@ fn put_vowel(m: &[u8], i: usize, c: usize, r: Right, out: &mut [u8], t: &ClassTa
     Right { at, sound, levels }
 }
 
-// The byte at place i.
+// The byte at place i. The levels' step is taken by vowels and consonants for themselves and once for all else, in each case before anything is written: so the compiler asks for the byte and
+// its class once.
 fn step(m: &[u8], i: usize, r: Right, out: &mut [u8], t: &ClassTable, s: &SoundTable) -> Right
     requires { ⌜ Lent (now t) (now s) × Ready (now m) (now out) i r ⌝ }
     ensures { λ q. ⌜ Stepped (now (m .entry)) (now (out .entry)) (now (out .exit)) i r q ⌝ }
