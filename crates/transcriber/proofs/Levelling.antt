@@ -1,16 +1,16 @@
 -- The run of the levels' step: a mark makes the vowel before it stressed, the vowel before that is of level 1, and those further left are of level 2, or 1 where the word has no mark. No
 -- byte is stepped over more than twice.
-use Rattle.laws.proofs.Kit.{ℕ, zero, suc, _+_, _<_, _≤_, _≡_, refl, sym, ap, _∙_, Bool, true, false, arith, List, [], _∷_, length, getD, drop, drop-length, add-one}
+use Rattle.laws.proofs.Kit.{ℕ, zero, suc, _+_, _<_, _≤_, _≡_, refl, sym, ap, _∙_, Bool, true, false, true≢false, cond, _||_, not, arith, List, [], _∷_, length, getD, drop, drop-length, add-one}
 use Rattle.spec.specs.Letters.{between, isBreak, isMark, beginsWithMark}
-use Rattle.spec.specs.{Refusals.vowelByte, Syllables.nextStressed, LevelSteps.StepsSuffice, declared.Level.Level}
+use Rattle.spec.specs.{Refusals.vowelByte, Syllables.nextStressed, Syllables.levelOf, LevelSteps.StepsSuffice}
+use Rattle.spec.specs.declared.Level.the-variants.{Stressed, First, Second}
 use Rattle.message.specs.{Classes.classes, Classes.classOf, Places.Steady, Places.letterOf, Places.wordAt, Places.markBefore, Places.markedAt}
 use Rattle.message.proofs.Tail.{word-letter, word-break, word-end, marked-within, marked-break, marked-end}
 use Rattle.message.proofs.{Bytes.vowel-break, Bytes.vowel-mark, Bytes.not-both, Computed.everything, Left.begins-at, Left.mark-within, Left.unmarked-after}
 use Rattle.laws.proofs.Classes.{break-mark, break-vowel, either}
 use Rattle.transcriber.specs.declared.LevelRun.{LevelRun}
-use Rattle.transcriber.specs.Levels.{levelBy, countedBy, numbered, nearly, sinceBy, endRun, stepOver, StepDue, backAt, LookDue, Looked, nearLevel, LevelsAt}
-use Rattle.transcriber.specs.{Sounds.classBefore, Sounds.syllableBy, Walk.syllableAt}
-use Rattle.transcriber.proofs.Raw.{syllable-raw, where-same}
+use Rattle.transcriber.specs.Levels.{levelAt, countedBy, numbered, nearly, sinceBy, endRun, stepOver, StepDue, backAt, LookDue, Looked, LevelsAt}
+use Rattle.transcriber.proofs.Raw.{where-same}
 
 -- a letter of these classes is no vowel, no break and no mark
 pub plain-letter : (b : ℕ) → b < 256 → between 4 9 (classOf b) ≡ true → (isBreak b ≡ false) × (isMark b ≡ false) × (vowelByte b ≡ false)
@@ -30,8 +30,7 @@ level-nearly zero marked = refl
 level-nearly (suc zero) marked = refl
 level-nearly (suc (suc n)) marked = refl
 
-level-since : (stressed ahead marked : Bool) → numbered (countedBy (sinceBy stressed ahead) marked) ≡ levelBy stressed ahead marked
-unfolding levelBy
+level-since : (stressed ahead marked : Bool) → numbered (countedBy (sinceBy stressed ahead) marked) ≡ cond stressed Stressed (cond (ahead || not marked) First Second)
 level-since true ahead marked = refl
 level-since false true marked = refl
 level-since false false true = refl
@@ -46,6 +45,13 @@ nearly-more (suc zero) true ahead e = omega (arith, e)
 nearly-more (suc zero) false ahead e = refl
 nearly-more (suc (suc n)) true ahead e = omega (arith, e)
 nearly-more (suc (suc n)) false ahead e = refl
+
+-- the step goes by what the byte is
+pub step-by : (P : LevelRun → Type 0) (s : LevelRun) (b : ℕ) → (vowelByte b ≡ true → P (record { steps = s .steps + 1; since = s .since + 1; marked = s .marked; edge = false }))
+    → (isMark b ≡ true → P (record { steps = s .steps + 1; since = 0; marked = true; edge = true })) → (isBreak b ≡ true → P (record { steps = s .steps + 1; since = 2; marked = false; edge = true }))
+    → (isBreak b ≡ false → isMark b ≡ false → vowelByte b ≡ false → P (record { steps = s .steps + 1; since = s .since; marked = s .marked; edge = false })) → P (stepOver s b)
+step-by P s b vowel mark break letter =
+    either (vowelByte b) (λ v. rw v (vowel v)) (λ v. either (isMark b) (λ k. rw (v, k) (mark k)) (λ k. either (isBreak b) (λ x. rw (v, k, x) (break x)) (λ x. rw (v, k, x) (letter x k v))))
 
 -- back to a break there are no more bytes than all
 pub back-most : (m : List ℕ) (i : ℕ) → backAt m i ≤ i
@@ -63,10 +69,6 @@ pub back-break : (m : List ℕ) (i : ℕ) → isBreak (getD m i 0) ≡ true → 
 unfolding backAt
 back-break m i b = rw b
 
--- the run at a place tells the level of the next vowel to the left
-pub levels-near : {m : List ℕ} {i : ℕ} {s : LevelRun} → LevelsAt m i s → numbered (countedBy (s .since) (s .marked)) ≡ nearLevel m i
-levels-near {m} {i} {s} l = level-nearly (s .since) (s .marked) ∙ rw (l .since, l .marked) (level-since (beginsWithMark (drop i m)) (nextStressed (wordAt m i)) (markedAt m i))
-
 -- there is room for a step
 pub levels-due : {t m : List ℕ} {i : ℕ} {s : LevelRun} → t ≡ classes → Steady m → i < length m → LevelsAt m (suc i) s → StepDue t s (getD m i 0)
 levels-due {m = m} {i} e steady h l = record {
@@ -82,11 +84,14 @@ unfolding backAt
 levels-done l = record { four = omega (arith, l .steps); two = omega (arith, l .steps); taken = λ u. omega (arith, l .taken u) }
 
 module _ (m : List ℕ) (steady : Steady m) (i : ℕ) (h : i < length m) where
-  -- the syllable of a vowel
-  pub levels-syllable : {n : Level} → vowelByte (getD m i 0) ≡ true → n ≡ nearLevel m (suc i) → syllableAt m i ≡ syllableBy (classBefore m i) n
-  levels-syllable v e = rw (syllable-raw m steady i h, marked-within m steady i h (vowel-break (getD m i 0) (steady .bytes i) v), e)
-
   module _ {s : LevelRun} (l : LevelsAt m (suc i) s) where
+    -- the level that the run gives a vowel is that of pass 2
+    pub levels-found : isBreak (getD m i 0) ≡ false → numbered (countedBy (s .since) (s .marked)) ≡ levelAt m i
+    unfolding levelOf letterOf
+    levels-found b =
+        level-nearly (s .since) (s .marked) ∙ rw (l .since, l .marked, marked-within m steady i h b)
+        (level-since (beginsWithMark (drop (suc i) m)) (nextStressed (wordAt m (suc i))) (markedAt m (suc i)))
+
     -- over a vowel
     over-vowel : vowelByte (getD m i 0) ≡ true → LevelsAt m i (record { steps = s .steps + 1; since = s .since + 1; marked = s .marked; edge = false })
     unfolding nextStressed letterOf vowelByte
@@ -130,9 +135,7 @@ module _ (m : List ℕ) (steady : Steady m) (i : ℕ) (h : i < length m) where
 
     -- so over every byte of a word
     pub levels-over : isBreak (getD m i 0) ≡ false → LevelsAt m i (stepOver s (getD m i 0))
-    levels-over b =
-        either (vowelByte (getD m i 0)) (λ v. rw v (over-vowel v))
-        (λ v. either (isMark (getD m i 0)) (λ k. rw (v, k) (over-mark k)) (λ k. rw (v, k, b) (over-letter b k v)))
+    levels-over b = step-by (LevelsAt m i) s (getD m i 0) over-vowel over-mark (λ x. absurd (true≢false (sym x ∙ b))) over-letter
 
     module _ (b : isBreak (getD m i 0) ≡ true) where
       -- at a break another word ends

@@ -7,8 +7,8 @@ use Rattle.message.proofs.{Bytes.by-class, Bytes.vowel-break, Lengths.names-fro
 use Rattle.laws.proofs.Putting.{Put, put-none, put-length, put-again}
 use Rattle.transcriber.specs.Walk.{namePiece, NameReady, Named, NamesDue, WordEnd}
 use Rattle.transcriber.specs.{declared.LevelRun.LevelRun, declared.NameState.NameState, Levels.countedBy, Levels.numbered, Levels.endRun, Levels.stepOver, Levels.Looked, Levels.LevelsAt, Sounds.classBefore, Sounds.syllableBy}
-use Rattle.transcriber.proofs.Levelling.{levels-near, levels-syllable, levels-over, levels-break, levels-end}
-use Rattle.transcriber.proofs.Filling.{Writing}
+use Rattle.transcriber.proofs.Levelling.{levels-found, levels-over, levels-break, levels-end}
+use Rattle.transcriber.proofs.{Filling.Writing, Raw.syllable-raw}
 
 -- the names from a place on are those that its byte settles and the rest's
 name-step : (m : List ℕ) → Steady m → (i : ℕ) → i < length m → namesAt m i ≡ namePiece m i ++ namesAt m (suc i)
@@ -27,7 +27,8 @@ module _ {m out : List ℕ} {i : ℕ} {v : NameState} (ready : NameReady m out i
     unfolding namePiece
     vowel-piece e =
         let k : vowelByte (getD m i 0) ≡ true = by-class (getD m i 0) (ready .steady .bytes i) .vowel ∙ c in
-        rw (vowel-break (getD m i 0) (ready .steady .bytes i) k, k, levels-syllable m (ready .steady) i (ready .within) k (e ∙ levels-near (ready .stands)))
+        let b = vowel-break (getD m i 0) (ready .steady .bytes i) k in
+        rw (b, k, syllable-raw m (ready .steady) i (ready .within), e ∙ levels-found m (ready .steady) i (ready .within) (ready .stands) b)
 
     -- which finds room
     pub vowel-room : 0 < v .at

@@ -1,16 +1,16 @@
 -- What the code reads off the bytes beside a place is what the left context of the place says: in a steady message the class of the byte before tells the class of the last letter of the word.
-use Rattle.laws.proofs.Kit.{ℕ, zero, suc, _-_, _<_, _≤_, _≡_, refl, sym, ap, _∙_, Bool, true, false, true≢false, cond, _&&_, _||_, not, and-false, or-assoc, or-false, List, [], _∷_, _++_, map, _⊎_, inl, inr, arith, eqb, length, getD, drop, eq-eqb, eqb-true, le-leb, ne-eqb}
+use Rattle.laws.proofs.Kit.{ℕ, zero, suc, _-_, _<_, _≤_, _≡_, refl, sym, ap, _∙_, Bool, true, false, true≢false, cond, _&&_, _||_, not, and-false, or-assoc, or-false, List, [], _∷_, _++_, map, _⊎_, inl, inr, arith, eqb, length, getD, eq-eqb, eqb-true, le-leb, ne-eqb}
 use Rattle.spec.specs.Alphabet.{pause, mark, «ь», «е», «ё», «и», «ю», «я»}
-use Rattle.spec.specs.Letters.{between, small, plainVowels, softeningVowels, isBreak, isGap, isHardOnly, isSoftOnly, isConsonant, isSign, isVowel, isMark, beginsWithMark}
-use Rattle.spec.specs.Syllables.{coverAfter, incomplete, levelOf, syllableOf, nextStressed}
+use Rattle.spec.specs.Letters.{between, small, plainVowels, softeningVowels, isBreak, isGap, isHardOnly, isSoftOnly, isConsonant, isSign, isVowel, isMark}
+use Rattle.spec.specs.Syllables.{coverAfter, incomplete, syllableOf}
 use Rattle.spec.specs.{Tables.among, Refusals.vowelByte, Vowels.initial, Vowels.hardEnd, Vowels.glides, declared.Cover.Cover}
 use Rattle.message.specs.Classes.{classOf, isBreakClass, isSignClass, isVowelClass, isLetterClass}
-use Rattle.message.specs.Places.{Steady, Left, stepLeft, leftAt, letterOf, wordAt, markedAt, factsAt}
+use Rattle.message.specs.Places.{Steady, Left, stepLeft, leftAt, letterOf, wordAt, factsAt}
 use Rattle.message.proofs.Bytes.{by-class, letter-class, not-both, vowel-break, vowel-mark}
 use Rattle.message.proofs.{Before.vowel-before, Left.left-letter, Computed.everything}
 use Rattle.laws.proofs.Classes.{among-same, either, below, below-same}
 use Rattle.transcriber.specs.Sounds.{byteBefore, Before, classBefore, isHardOrPaired, Told, syllableBy, glideBy, hardBefore}
-use Rattle.transcriber.specs.Levels.{levelBy}
+use Rattle.transcriber.specs.Levels.{levelAt}
 
 -- a number between two others
 pub between-true : (lo hi c : ℕ) → lo ≤ c → c ≤ hi → between lo hi c ≡ true
@@ -157,8 +157,8 @@ module _ (m : List ℕ) (steady : Steady m) where
   -- the syllable of the letter at place i
   pub syllable-raw : (i : ℕ) → i < length m
       → syllableOf (factsAt m i) (leftAt m i .p) (letterOf m i) (wordAt m (suc i))
-      ≡ syllableBy (classBefore m i) (levelBy (beginsWithMark (drop (suc i) m)) (nextStressed (wordAt m (suc i))) (markedAt m i))
-  unfolding syllableOf coverAfter levelOf letterOf levelBy
+      ≡ syllableBy (classBefore m i) (levelAt m i)
+  unfolding syllableOf coverAfter
   syllable-raw i h = rw (told-at i (omega arith) .covers)
 
   -- whether the vowel there has a glide

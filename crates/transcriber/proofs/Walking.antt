@@ -13,8 +13,8 @@ use Rattle.transcriber.specs.Sounds.{classBefore, ByRow, rowOf, syllable
 use Rattle.transcriber.specs.Walk.{VowelAt, syllableAt, Stands, Sung, sungCodes, pieceAt, Ready, ReadyFor, Stepped}
 use Rattle.transcriber.specs.Levels.{countedBy, numbered, endRun, stepOver, StepDue, LookDue, Looked}
 use Rattle.transcriber.specs.declared.{LevelRun.LevelRun, Right.Right, Vowel.Vowel}
-use Rattle.transcriber.proofs.Levelling.{levels-near, levels-due, levels-syllable, levels-over, break-due, levels-break, levels-end}
-use Rattle.transcriber.proofs.Raw.{where-same, told-at, hard-raw, glide-raw}
+use Rattle.transcriber.proofs.Levelling.{levels-found, levels-due, levels-over, break-due, levels-break, levels-end}
+use Rattle.transcriber.proofs.Raw.{where-same, told-at, hard-raw, syllable-raw, glide-raw}
 use Rattle.transcriber.proofs.SoundTable.{code-read}
 
 -- 64 more can be told from less
@@ -231,21 +231,24 @@ module _ {m : List ℕ} {i c : ℕ} {level : Level} (a : VowelAt m i c level) wh
       → ByRow (rowOf (small (getD m i 0))) (hardBefore m i) k s (v .sound) → v .glide ≡ glideBy c (s .cover) k → Sung m i v
   sung-by {s = s} e y o g =
       let h : i ≤ length m = omega (arith, a .within) in
-      let z : syllableAt m i ≡ s = rw (y, e) (levels-syllable m (a .steady) i (a .within) vowel-sings (a .level)) in
+      let z : syllableAt m i ≡ s = rw (y, e, a .level) (syllable-raw m (a .steady) i (a .within)) in
       record {
         sound = rw (z, hard-raw m (a .steady) i h) (o (leftAt m i .p) (rw e (told-at m (a .steady) i h)));
         glide = rw (z, glide-raw m (a .steady) i (a .within) vowel-sings (s .cover), ← a .class, ← e) g;
       }
 
 module _ {m out : List ℕ} {i c : ℕ} {r : Right} (a : ReadyFor isVowelClass m out i c r) where
-  -- a vowel may be sung where a step may be taken
-  pub vowel-ready : {n : Level} → n ≡ numbered (countedBy (r .levels .since) (r .levels .marked)) → VowelAt m i c n
-  vowel-ready e = record { within = a .ready .within; steady = a .ready .steady; class = a .class; vowel = a .kind; level = e ∙ levels-near (a .ready .stands .levels) }
-
   -- of the vowels those of classes 11 and 12 soften
   vowel-spelt : Spelt (getD m i 0) false true (not (eqb c 10))
   unfolding everything
   vowel-spelt = spelt-by a false true (λ x. not (eqb x 10)) refl
+
+  -- a vowel may be sung where a step may be taken
+  pub vowel-ready : {n : Level} → n ≡ numbered (countedBy (r .levels .since) (r .levels .marked)) → VowelAt m i c n
+  vowel-ready e =
+      let y = a .ready .steady in
+      let h = a .ready .within in
+      record { within = h; steady = y; class = a .class; vowel = a .kind; level = e ∙ levels-found m y i h (a .ready .stands .levels) (vowel-spelt .break) }
 
   module _ {v : Vowel} (s : Sung m i v) where
     -- its codes

@@ -3,26 +3,22 @@
 use Prim.Native.Nat.{ℕ, zero, suc, _+_, _*_, _<_, _≤_}
 use mathlib.Core.Path.{_≡_}
 use mathlib.Core.Logic.{_⊎_}
-use mathlib.Core.Bool.{Bool, true, false, cond, _||_, not}
+use mathlib.Core.Bool.{Bool, true, false, cond}
 use mathlib.Core.List.{List}
 use lib.ListN.{length, getD, drop}
 use Rattle.spec.specs.Letters.{beginsWithMark, isBreak, isMark}
 use Rattle.spec.specs.Refusals.{vowelByte}
 use Rattle.spec.specs.LevelSteps.{Unmarked}
-use Rattle.spec.specs.Syllables.{nextStressed}
+use Rattle.spec.specs.Syllables.{nextStressed, levelOf}
 use Rattle.message.specs.Classes.{classes, classOf}
-use Rattle.message.specs.Places.{Steady, wordAt, markBefore, markedAt}
+use Rattle.message.specs.Places.{Steady, letterOf, wordAt, factsAt, markBefore, markedAt}
 use Rattle.spec.specs.declared.Level.{Level}
 use Rattle.spec.specs.declared.Level.the-variants.{Stressed, First, Second}
 use Rattle.transcriber.specs.declared.LevelRun.{LevelRun}
 
--- the level of a vowel that is stressed or not, with the next vowel stressed or not, in a word that has a mark or not
-unfoldable pub levelBy : Bool → Bool → Bool → Level
-levelBy stressed ahead marked = cond stressed Stressed (cond (ahead || not marked) First Second)
-
--- the level of the next vowel of the word to the left of place i, if no other letter of it stands between
-abbrev pub nearLevel : List ℕ → ℕ → Level
-nearLevel m i = levelBy (beginsWithMark (drop i m)) (nextStressed (wordAt m i)) (markedAt m i)
+-- the level of the vowel at place i, as pass 2 defines it
+abbrev pub levelAt : List ℕ → ℕ → Level
+levelAt m i = levelOf (factsAt m i) (letterOf m i) (wordAt m (suc i))
 
 -- how many syllables from the mark count, in a word that has a mark or not, and the level of that number
 abbrev pub countedBy : ℕ → Bool → ℕ
@@ -50,7 +46,7 @@ sinceBy stressed ahead = cond stressed 0 (cond ahead 1 2)
 
 -- the run at a word's end, after so many steps, with what is known of the word's marks
 abbrev pub endRun : ℕ → Bool → LevelRun
-endRun steps marked = record { steps = steps; since = 2; marked = marked; edge = false }
+endRun steps marked = record { steps = steps; since = 2; marked = marked; edge = true }
 
 -- one step, over byte b: a vowel is a syllable more, a mark is where to count from, at a break another word ends
 abbrev pub stepOver : LevelRun → ℕ → LevelRun

@@ -16,7 +16,7 @@ use Rattle.message.specs.Places.{Steady, leftAt, letterOf, wordAt, toneAt, soun
 use Rattle.message.specs.Classes.{classes, classOf, isBreakClass, isVowelClass}
 use Rattle.spec.specs.declared.Level.{Level}
 use Rattle.spec.specs.declared.Syllable.{Syllable}
-use Rattle.transcriber.specs.Levels.{nearLevel, stepOver, LevelsAt}
+use Rattle.transcriber.specs.Levels.{levelAt, stepOver, LevelsAt}
 use Rattle.transcriber.specs.Sounds.{soundTable, Tells}
 use Rattle.transcriber.specs.declared.LevelRun.{LevelRun}
 use Rattle.transcriber.specs.declared.Right.{Right}
@@ -45,7 +45,7 @@ pub record VowelAt (m : List ℕ) (i c : ℕ) (n : Level) : Type 0 where
   pub steady : Steady m
   pub class : c ≡ classOf (getD m i 0)
   pub vowel : isVowelClass c ≡ true
-  pub level : n ≡ nearLevel m (suc i)
+  pub level : n ≡ levelAt m i
 
 -- the syllable of the vowel at place i
 abbrev pub syllableAt : List ℕ → ℕ → Syllable

@@ -21,7 +21,7 @@ pub fn at_word_end(steps: usize, marked: bool) -> LevelRun
         steps,
         since: FAR,
         marked,
-        edge: false,
+        edge: true,
     }
 }
 

@@ -1,12 +1,11 @@
 -- The bytes passed so far are letters, so what stands before them tells of the word's marks, and each was one step; a mark or a break, or the message's start, then tells all. The measure is j.
 use Rattle.laws.proofs.Kit.{ℕ, suc, _+_, _-_, _≤_, _≡_, refl, sym, _∙_, true, false, true≢false, false≢true, arith, needs, List, getD}
-use Rattle.spec.specs.{Letters.isBreak, Letters.isMark, Refusals.vowelByte}
+use Rattle.spec.specs.Letters.{isBreak, isMark}
 use Rattle.message.specs.Places.{Steady, markBefore}
 use Rattle.message.proofs.{Bytes.vowel-break, Bytes.vowel-mark, Left.mark-within}
-use Rattle.laws.proofs.Classes.{either}
 use Rattle.transcriber.specs.declared.LevelRun.{LevelRun}
 use Rattle.transcriber.specs.Levels.{stepOver, endRun, backAt, Looked}
-use Rattle.transcriber.proofs.Levelling.{back-most, back-within, back-break}
+use Rattle.transcriber.proofs.Levelling.{step-by, back-most, back-within, back-break}
 use Rattle.transcriber.proofs.levels.look_back.Statement.{statement}
 use Rattle.transcriber.proofs.levels.look_back.Tie as tie
 
@@ -31,7 +30,7 @@ module _ {m : List ℕ} {i k : ℕ} {s ahead : LevelRun} (a : Ahead m i s (suc k
   }
 
   -- a mark says that the word has one
-  mark : isMark (getD m k 0) ≡ true → Looked m i s (record { steps = ahead .steps + 1; since = 2; marked = true; edge = false })
+  mark : isMark (getD m k 0) ≡ true → Looked m i s (endRun (ahead .steps + 1) true)
   unfolding markBefore
   mark n =
       let b = mark-within (getD m k 0) n in
@@ -43,7 +42,7 @@ module _ {m : List ℕ} {i k : ℕ} {s ahead : LevelRun} (a : Ahead m i s (suc k
       }
 
   -- and a break that it has none
-  break : isBreak (getD m k 0) ≡ true → Looked m i s (record { steps = ahead .steps + 1; since = 2; marked = false; edge = false })
+  break : isBreak (getD m k 0) ≡ true → Looked m i s (endRun (ahead .steps + 1) false)
   unfolding markBefore
   break b = record {
     since = refl;
@@ -71,20 +70,17 @@ turn c =
     let e : suc (l .loop .j - 1) ≡ l .loop .j = omega (arith, c .before .loop-test .taken) in
     rw e (l .loop .inv)
 
--- the step met a mark or a break
+-- the step met a mark or a break, or neither
 edged : {m : List ℕ} {i k : ℕ} {s ahead : LevelRun} → Ahead m i s (suc k) ahead → stepOver ahead (getD m k 0) .edge ≡ true
     → Looked m i s (endRun (stepOver ahead (getD m k 0) .steps) (stepOver ahead (getD m k 0) .marked))
-edged {m} {k = k} a e =
-    either (vowelByte (getD m k 0)) (λ v. absurd (false≢true (rw v at e)))
-    (λ v. either (isMark (getD m k 0)) (λ n. rw (v, n) (mark a n))
-    (λ n. either (isBreak (getD m k 0)) (λ b. rw (v, n, b) (break a b)) (λ b. absurd (false≢true (rw (v, n, b) at e)))))
+edged {m} {i} {k} {s} {ahead} a =
+    step-by (λ q. q .edge ≡ true → Looked m i s (endRun (q .steps) (q .marked))) ahead (getD m k 0) (λ v e. absurd (false≢true e)) (λ n e. mark a n) (λ b e. break a b) (λ b n v e. absurd (false≢true e))
 
--- or it met neither
 inside : {m : List ℕ} {i k : ℕ} {s ahead : LevelRun} → Steady m → Ahead m i s (suc k) ahead → stepOver ahead (getD m k 0) .edge ≡ false → Ahead m i s k (stepOver ahead (getD m k 0))
-inside {m} {k = k} steady a e =
-    either (vowelByte (getD m k 0)) (λ v. rw v (letter a (vowel-break (getD m k 0) (steady .bytes k) v) (vowel-mark (getD m k 0) (steady .bytes k) v) refl (omega arith) refl))
-    (λ v. either (isMark (getD m k 0)) (λ n. absurd (true≢false (rw (v, n) at e)))
-    (λ n. either (isBreak (getD m k 0)) (λ b. absurd (true≢false (rw (v, n, b) at e))) (λ b. rw (v, n, b) (letter a b n refl (omega arith) refl))))
+inside {m} {i} {k} {s} {ahead} steady a =
+    step-by (λ q. q .edge ≡ false → Ahead m i s k q) ahead (getD m k 0)
+    (λ v e. letter a (vowel-break (getD m k 0) (steady .bytes k) v) (vowel-mark (getD m k 0) (steady .bytes k) v) refl (omega arith) refl)
+    (λ n e. absurd (true≢false e)) (λ b e. absurd (true≢false e)) (λ b n v e. letter a b n refl (omega arith) refl)
 
 pub look-back-spec : {M : Type 1} → statement M
 look-back-spec =
