@@ -1,6 +1,6 @@
 -- The run of the levels' step: a mark makes the vowel before it stressed, the vowel before that is of level 1, and those further left are of level 2, or 1 where the word has no mark. No
 -- byte is stepped over more than twice.
-use Rattle.laws.proofs.Kit.{ℕ, zero, suc, _+_, _<_, _≤_, _≡_, refl, sym, ap, _∙_, Bool, true, false, true≢false, cond, _||_, not, arith, List, [], _∷_, length, getD, drop, drop-length, add-one}
+use Rattle.laws.proofs.Kit.{ℕ, zero, suc, _<_, _≤_, _≡_, refl, sym, ap, _∙_, Bool, true, false, true≢false, cond, _||_, not, arith, List, [], _∷_, length, getD, drop, drop-length, add-one}
 use Rattle.spec.specs.Letters.{between, isBreak, isMark, beginsWithMark}
 use Rattle.spec.specs.{Refusals.vowelByte, Syllables.nextStressed, Syllables.levelOf, LevelSteps.StepsSuffice}
 use Rattle.spec.specs.declared.Level.the-variants.{Stressed, First, Second}
@@ -9,7 +9,7 @@ use Rattle.message.proofs.Tail.{word-letter, word-break, word-end, marked-withi
 use Rattle.message.proofs.{Bytes.vowel-break, Bytes.vowel-mark, Bytes.not-both, Computed.everything, Left.begins-at, Left.mark-within, Left.unmarked-after}
 use Rattle.laws.proofs.Classes.{break-mark, break-vowel, either}
 use Rattle.transcriber.specs.declared.LevelRun.{LevelRun}
-use Rattle.transcriber.specs.Levels.{levelAt, countedBy, numbered, nearly, sinceBy, endRun, stepOver, StepDue, backAt, LookDue, Looked, LevelsAt}
+use Rattle.transcriber.specs.Levels.{levelAt, countedBy, numbered, nearly, sinceBy, endRun, overVowel, overMark, overBreak, overLetter, stepOver, StepDue, backAt, LookDue, Looked, LevelsAt}
 use Rattle.transcriber.proofs.Raw.{where-same}
 
 -- a letter of these classes is no vowel, no break and no mark
@@ -47,9 +47,8 @@ nearly-more (suc (suc n)) true ahead e = omega (arith, e)
 nearly-more (suc (suc n)) false ahead e = refl
 
 -- the step goes by what the byte is
-pub step-by : (P : LevelRun → Type 0) (s : LevelRun) (b : ℕ) → (vowelByte b ≡ true → P (record { steps = s .steps + 1; since = s .since + 1; marked = s .marked; edge = false }))
-    → (isMark b ≡ true → P (record { steps = s .steps + 1; since = 0; marked = true; edge = true })) → (isBreak b ≡ true → P (record { steps = s .steps + 1; since = 2; marked = false; edge = true }))
-    → (isBreak b ≡ false → isMark b ≡ false → vowelByte b ≡ false → P (record { steps = s .steps + 1; since = s .since; marked = s .marked; edge = false })) → P (stepOver s b)
+pub step-by : (P : LevelRun → Type 0) (s : LevelRun) (b : ℕ) → (vowelByte b ≡ true → P (overVowel s)) → (isMark b ≡ true → P (overMark s)) → (isBreak b ≡ true → P (overBreak s))
+    → (isBreak b ≡ false → isMark b ≡ false → vowelByte b ≡ false → P (overLetter s)) → P (stepOver s b)
 step-by P s b vowel mark break letter =
     either (vowelByte b) (λ v. rw v (vowel v)) (λ v. either (isMark b) (λ k. rw (v, k) (mark k)) (λ k. either (isBreak b) (λ x. rw (v, k, x) (break x)) (λ x. rw (v, k, x) (letter x k v))))
 
@@ -93,7 +92,7 @@ module _ (m : List ℕ) (steady : Steady m) (i : ℕ) (h : i < length m) where
         (level-since (beginsWithMark (drop (suc i) m)) (nextStressed (wordAt m (suc i))) (markedAt m (suc i)))
 
     -- over a vowel
-    over-vowel : vowelByte (getD m i 0) ≡ true → LevelsAt m i (record { steps = s .steps + 1; since = s .since + 1; marked = s .marked; edge = false })
+    over-vowel : vowelByte (getD m i 0) ≡ true → LevelsAt m i (overVowel s)
     unfolding nextStressed letterOf vowelByte
     over-vowel v =
         let b = vowel-break (getD m i 0) (steady .bytes i) v in
@@ -107,8 +106,7 @@ module _ (m : List ℕ) (steady : Steady m) (i : ℕ) (h : i < length m) where
         }
 
     -- over another letter
-    over-letter : isBreak (getD m i 0) ≡ false → isMark (getD m i 0) ≡ false → vowelByte (getD m i 0) ≡ false
-        → LevelsAt m i (record { steps = s .steps + 1; since = s .since; marked = s .marked; edge = false })
+    over-letter : isBreak (getD m i 0) ≡ false → isMark (getD m i 0) ≡ false → vowelByte (getD m i 0) ≡ false → LevelsAt m i (overLetter s)
     unfolding nextStressed letterOf vowelByte
     over-letter b k v =
         let u : beginsWithMark (drop (suc i) m) ≡ false = begins-at m (suc i) ∙ unmarked-after m steady i v in
@@ -121,7 +119,7 @@ module _ (m : List ℕ) (steady : Steady m) (i : ℕ) (h : i < length m) where
         }
 
     -- over a mark
-    over-mark : isMark (getD m i 0) ≡ true → LevelsAt m i (record { steps = s .steps + 1; since = 0; marked = true; edge = true })
+    over-mark : isMark (getD m i 0) ≡ true → LevelsAt m i (overMark s)
     unfolding markedAt markBefore
     over-mark k =
         let b = mark-within (getD m i 0) k in
@@ -139,7 +137,7 @@ module _ (m : List ℕ) (steady : Steady m) (i : ℕ) (h : i < length m) where
 
     module _ (b : isBreak (getD m i 0) ≡ true) where
       -- at a break another word ends
-      over-break : stepOver s (getD m i 0) ≡ record { steps = s .steps + 1; since = 2; marked = false; edge = true }
+      over-break : stepOver s (getD m i 0) ≡ overBreak s
       over-break = rw (break-vowel (getD m i 0) b, break-mark (getD m i 0) b, b)
 
       -- where the step may be taken ahead

@@ -49,12 +49,20 @@ abbrev pub endRun : ℕ → Bool → LevelRun
 endRun steps marked = record { steps = steps; since = 2; marked = marked; edge = true }
 
 -- one step, over byte b: a vowel is a syllable more, a mark is where to count from, at a break another word ends
+abbrev pub overVowel : LevelRun → LevelRun
+overVowel s = record { steps = s .steps + 1; since = s .since + 1; marked = s .marked; edge = false }
+
+abbrev pub overMark : LevelRun → LevelRun
+overMark s = record { steps = s .steps + 1; since = 0; marked = true; edge = true }
+
+abbrev pub overBreak : LevelRun → LevelRun
+overBreak s = endRun (s .steps + 1) false
+
+abbrev pub overLetter : LevelRun → LevelRun
+overLetter s = record { steps = s .steps + 1; since = s .since; marked = s .marked; edge = false }
+
 abbrev pub stepOver : LevelRun → ℕ → LevelRun
-stepOver s b =
-    cond (vowelByte b) (record { steps = s .steps + 1; since = s .since + 1; marked = s .marked; edge = false })
-    (cond (isMark b) (record { steps = s .steps + 1; since = 0; marked = true; edge = true })
-    (cond (isBreak b) (record { steps = s .steps + 1; since = 2; marked = false; edge = true })
-    (record { steps = s .steps + 1; since = s .since; marked = s .marked; edge = false })))
+stepOver s b = cond (vowelByte b) (overVowel s) (cond (isMark b) (overMark s) (cond (isBreak b) (overBreak s) (overLetter s)))
 
 -- the step may be taken over byte b: it is one of an accepted message, and the counts have room
 pub record StepDue (t : List ℕ) (s : LevelRun) (b : ℕ) : Type 0 where

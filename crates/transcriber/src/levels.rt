@@ -57,12 +57,7 @@ pub fn step(s: LevelRun, b: u8, t: &ClassTable) -> LevelRun
             edge: true,
         };
     }
-    LevelRun {
-        steps,
-        since: FAR,
-        marked: false,
-        edge: true,
-    }
+    at_word_end(steps, false)
 }
 
 // Takes the step ahead from the end of a word, place i, until a mark or a break is met.

@@ -32,5 +32,6 @@ step-spec =
     (λ c. let k = c .before .before .before in rw (sings (byte k) (k .class-of .ensures) (c .before .if1 .taken)))
     (λ c. let k = c .before .before .before in let e = plain-letter (k .before .args .b) (byte k) (rw (k .class-of .ensures) at (between-true 4 9 _ (c .if2 .taken) (omega (arith, c .before .if1 .left)))) in rw (e .2, e .1, e .0))
     (λ c. let e = c .before .before in let k = e .before .before in rw (quiet (byte k) (k .class-of .ensures) (e .if1 .left), c .if3 .taken))
-    (λ c. let e = c .before .before in let k = e .before .before in let n = ne-eqb _ 42 (c .if3 .left) in
-    rw (quiet (byte k) (k .class-of .ensures) (e .if1 .left), n, breaks (byte k) (k .class-of .ensures) (k .before .pre .named) (c .before .if2 .left) n)))
+    (search needs)
+    (λ c. let o = c .before in let e = o .before .before in let k = e .before .before in let n = ne-eqb _ 42 (o .if3 .left) in
+    rw (quiet (byte k) (k .class-of .ensures) (e .if1 .left), n, breaks (byte k) (k .class-of .ensures) (k .before .pre .named) (o .before .if2 .left) n) (c .at-word-end .ensures)))
