@@ -31,13 +31,13 @@ enum {
 };
 
 /* What a byte is to the check. Only т and д may be elided, and only after с з н р. */
-enum { FOREIGN, PLAIN_VOWEL, VOWEL_I, SOFT_VOWEL, OTHER, SZNR, TD, HARD, SOFT, STRESS, BREAK, COLUMNS = 16 };
+enum { FOREIGN, PLAIN_VOWEL, VOWEL_O, VOWEL_I, SOFT_VOWEL, OTHER, SZNR, TD, HARD, SOFT, STRESS, BREAK, COLUMNS = 16 };
 
 /* What the second pass does with a byte. */
 enum { CONSONANT, VOWEL, STRESS_MARK, SIGN, WORD_BREAK };
 
 /* What a vowel finds before it; a mark counts as the vowel that it stands after. */
-enum { INITIAL, AFTER_VOWEL, AFTER_SIGN, AFTER_Q, AFTER_T, AFTER_P, PRECEDERS };
+enum { INITIAL, AFTER_VOWEL, AFTER_HARD_SIGN, AFTER_SOFT_SIGN, AFTER_Q, AFTER_T, AFTER_P, PRECEDERS };
 
 /* Rows of the table of vowels. */
 enum { ROW_A, ROW_O, ROW_U, ROW_Y, ROW_E, ROW_IE, ROW_YO, ROW_YU, ROW_YA, ROW_I, ROWS };
@@ -63,7 +63,7 @@ struct symbol {
 };
 
 #define CASES(letter, ...) [letter] = __VA_ARGS__, [(letter) - 0x20] = __VA_ARGS__
-#define VOWEL_1(letter, row) CASES(letter, {{row}, PLAIN_VOWEL, VOWEL, AFTER_VOWEL, NONE})
+#define VOWEL_1(letter, row, column) CASES(letter, {{row}, column, VOWEL, AFTER_VOWEL, NONE})
 #define VOWEL_2(letter, row, column) CASES(letter, {{row}, column, VOWEL, AFTER_VOWEL, ALL})
 #define NOISE(letter, written, voiced, voiceless, before, group) \
     CASES(letter, {{written, voiced, voiceless}, OTHER, CONSONANT, before, group})
@@ -100,7 +100,8 @@ static const struct {
     uint8_t names[LEVELS][PRECEDERS];
 } tables = {
     .symbols = {
-        VOWEL_1(A, ROW_A), VOWEL_1(O, ROW_O), VOWEL_1(U, ROW_U), VOWEL_1(YERU, ROW_Y), VOWEL_1(E, ROW_E),
+        VOWEL_1(A, ROW_A, PLAIN_VOWEL), VOWEL_1(O, ROW_O, VOWEL_O), VOWEL_1(U, ROW_U, PLAIN_VOWEL), VOWEL_1(YERU, ROW_Y, PLAIN_VOWEL),
+        VOWEL_1(E, ROW_E, PLAIN_VOWEL),
         VOWEL_2(IE, ROW_IE, SOFT_VOWEL), VOWEL_2(YU, ROW_YU, SOFT_VOWEL), VOWEL_2(YA, ROW_YA, SOFT_VOWEL), VOWEL_2(I, ROW_I, VOWEL_I),
         [YO]         = {{ROW_YO}, SOFT_VOWEL, VOWEL, AFTER_VOWEL, ALL},
         [CAPITAL_YO] = {{ROW_YO}, SOFT_VOWEL, VOWEL, AFTER_VOWEL, ALL},
@@ -117,8 +118,8 @@ static const struct {
         SONORANT(EL, L, OTHER, AFTER_P, EL_ONLY), SONORANT(EM, M, OTHER, AFTER_P, EM_ONLY),
         SONORANT(EN, N, SZNR, AFTER_P, EN_ONLY),  SONORANT(ER, R, SZNR, AFTER_P, ER_ONLY),
         SONORANT(SHORT_I, GLIDE, OTHER, AFTER_Q, NONE),
-        CASES(HARD_SIGN, {{0}, HARD, SIGN, AFTER_SIGN, NONE}),
-        CASES(SOFT_SIGN, {{0}, SOFT, SIGN, AFTER_SIGN, ALL}),
+        CASES(HARD_SIGN, {{0}, HARD, SIGN, AFTER_HARD_SIGN, NONE}),
+        CASES(SOFT_SIGN, {{0}, SOFT, SIGN, AFTER_SOFT_SIGN, ALL}),
         [MARK]  = {{0}, STRESS, STRESS_MARK, AFTER_VOWEL, NONE},
         [GAP]   = {{VOICELESS, VOICED, VOICELESS}, BREAK, WORD_BREAK, INITIAL, GAP_CODE},
         [PAUSE] = {{VOICELESS, VOICELESS, VOICELESS}, BREAK, WORD_BREAK, INITIAL, PAUSE_CODE},
@@ -138,22 +139,22 @@ static const struct {
         [ZH_SOFT] = {VOICED, EN_ONLY}, [SHCH] = {VOICELESS, EN_ONLY},
     },
     .vowels = {
-        /*          initial             after a vowel       after a sign        after Q             after T             after P */
-        [ROW_A]  = {SND(A_S, A_1, A_1), SND(A_S, A_1, A_2), SND(A_S, A_1, A_2), SND(A_S, E_1, E_2), SND(A_S, A_1, A_2), SND(A_S, A_1, A_2)},
-        [ROW_O]  = {SND(O_S, A_1, A_1), SND(O_S, A_1, A_2), SND(O_S, A_1, A_2), SND(O_S, A_1, E_2), SND(O_S, A_1, A_2), SND(O_S, A_1, A_2)},
-        [ROW_U]  = {SND(U_S, U_1, U_1), SND(U_S, U_1, U_1), SND(U_S, U_1, U_1), SND(U_S, U_1, U_1), SND(U_S, U_1, U_1), SND(U_S, U_1, U_1)},
-        [ROW_Y]  = {SND(Y_S, Y_1, Y_1), SND(Y_S, Y_1, Y_1), SND(Y_S, Y_1, Y_1), SND(Y_S, Y_1, Y_1), SND(Y_S, Y_1, Y_1), SND(Y_S, Y_1, Y_1)},
-        [ROW_E]  = {SND(E_S, E_1, E_2), SND(E_S, E_1, E_2), SND(E_S, E_1, E_2), SND(E_S, E_1, E_2), SND(E_S, E_1, E_2), SND(E_S, E_1, E_2)},
-        [ROW_IE] = {JOT(E_S, E_1, E_1), JOT(E_S, E_1, E_2), JOT(E_S, E_1, E_2), SND(E_S, E_1, E_2), SND(E_S, Y_1, A_2), SND(E_S, E_1, E_2)},
-        [ROW_YO] = {JOT(O_S, O_S, O_S), JOT(O_S, O_S, O_S), JOT(O_S, O_S, O_S), SND(O_S, O_S, O_S), SND(O_S, O_S, O_S), SND(O_S, O_S, O_S)},
-        [ROW_YU] = {JOT(U_S, U_1, U_1), JOT(U_S, U_1, U_1), JOT(U_S, U_1, U_1), SND(U_S, U_1, U_1), SND(U_S, U_1, U_1), SND(U_S, U_1, U_1)},
-        [ROW_YA] = {JOT(A_S, E_1, E_1), JOT(A_S, E_1, E_2), JOT(A_S, E_1, E_2), SND(A_S, E_1, E_2), SND(A_S, E_1, E_2), SND(A_S, E_1, E_2)},
-        [ROW_I]  = {SND(I_S, I_1, I_1), SND(I_S, I_1, I_1), JOT(I_S, I_1, I_1), SND(I_S, I_1, I_1), SND(Y_S, Y_1, Y_1), SND(I_S, I_1, I_1)},
+        /*          initial             after a vowel       after ъ             after ь             after Q             after T             after P */
+        [ROW_A]  = {SND(A_S, A_1, A_1), SND(A_S, A_1, A_2), SND(A_S, A_1, A_2), SND(A_S, A_1, A_2), SND(A_S, E_1, E_2), SND(A_S, A_1, A_2), SND(A_S, A_1, A_2)},
+        [ROW_O]  = {SND(O_S, A_1, A_1), SND(O_S, A_1, A_2), SND(O_S, A_1, A_2), JOT(O_S, A_1, A_2), SND(O_S, A_1, E_2), SND(O_S, A_1, A_2), SND(O_S, A_1, A_2)},
+        [ROW_U]  = {SND(U_S, U_1, U_1), SND(U_S, U_1, U_1), SND(U_S, U_1, U_1), SND(U_S, U_1, U_1), SND(U_S, U_1, U_1), SND(U_S, U_1, U_1), SND(U_S, U_1, U_1)},
+        [ROW_Y]  = {SND(Y_S, Y_1, Y_1), SND(Y_S, Y_1, Y_1), SND(Y_S, Y_1, Y_1), SND(Y_S, Y_1, Y_1), SND(Y_S, Y_1, Y_1), SND(Y_S, Y_1, Y_1), SND(Y_S, Y_1, Y_1)},
+        [ROW_E]  = {SND(E_S, E_1, E_2), SND(E_S, E_1, E_2), SND(E_S, E_1, E_2), SND(E_S, E_1, E_2), SND(E_S, E_1, E_2), SND(E_S, E_1, E_2), SND(E_S, E_1, E_2)},
+        [ROW_IE] = {JOT(E_S, E_1, E_1), JOT(E_S, E_1, E_2), JOT(E_S, E_1, E_2), JOT(E_S, E_1, E_2), SND(E_S, E_1, E_2), SND(E_S, Y_1, A_2), SND(E_S, E_1, E_2)},
+        [ROW_YO] = {JOT(O_S, O_S, O_S), JOT(O_S, O_S, O_S), JOT(O_S, O_S, O_S), JOT(O_S, O_S, O_S), SND(O_S, O_S, O_S), SND(O_S, O_S, O_S), SND(O_S, O_S, O_S)},
+        [ROW_YU] = {JOT(U_S, U_1, U_1), JOT(U_S, U_1, U_1), JOT(U_S, U_1, U_1), JOT(U_S, U_1, U_1), SND(U_S, U_1, U_1), SND(U_S, U_1, U_1), SND(U_S, U_1, U_1)},
+        [ROW_YA] = {JOT(A_S, E_1, E_1), JOT(A_S, E_1, E_2), JOT(A_S, E_1, E_2), JOT(A_S, E_1, E_2), SND(A_S, E_1, E_2), SND(A_S, E_1, E_2), SND(A_S, E_1, E_2)},
+        [ROW_I]  = {SND(I_S, I_1, I_1), SND(I_S, I_1, I_1), JOT(I_S, I_1, I_1), JOT(I_S, I_1, I_1), SND(I_S, I_1, I_1), SND(Y_S, Y_1, Y_1), SND(I_S, I_1, I_1)},
     },
     .level_before = {[LEVEL_S] = LEVEL_1, [LEVEL_1] = LEVEL_2, [LEVEL_2] = LEVEL_2, [LEVEL_1_UNMARKED] = LEVEL_1_UNMARKED},
     .names = { /* a syllable is bare if its vowel is initial or after a vowel */
-        [LEVEL_S] = {2, 2, 1, 1, 1, 1}, [LEVEL_1] = {4, 4, 3, 3, 3, 3}, [LEVEL_2] = {6, 6, 5, 5, 5, 5},
-        [LEVEL_1_UNMARKED] = {4, 4, 3, 3, 3, 3},
+        [LEVEL_S] = {2, 2, 1, 1, 1, 1, 1}, [LEVEL_1] = {4, 4, 3, 3, 3, 3, 3}, [LEVEL_2] = {6, 6, 5, 5, 5, 5, 5},
+        [LEVEL_1_UNMARKED] = {4, 4, 3, 3, 3, 3, 3},
     },
 };
 
@@ -185,16 +186,16 @@ enum { ONE_NAME = 0x10000 };
 #define NO(number) {0, STOP_REFUSED + (number)}
 
 static const struct step steps[STOP] = {
-    /* from           foreign  а       и       е       к      с      т      ъ                  ь                  *            break */
-    [AT_START]      =  NO(3), VOW(1), VOW(1), VOW(2), CON,   SZN,   CON,   NO(6),             NO(6),             NO(5),       NO(4),
-    [AT_VOWEL]      =  NO(3), VOW(1), VOW(1), VOW(2), CON,   SZN,   CON,   TO(AT_VOWEL_HARD), TO(AT_VOWEL_SOFT), TO(AT_MARK), END(0),
-    [AT_MARK]       =  NO(3), VOW(1), VOW(1), VOW(2), CON,   SZN,   CON,   TO(AT_VOWEL_HARD), TO(AT_VOWEL_SOFT), NO(5),       END(0),
-    [AT_CONSONANT]  =  NO(3), VOW(1), VOW(1), VOW(1), CON,   SZN,   CON,   TO(AT_HARD),       TO(AT_SOFT),       NO(5), END(ONE_NAME),
-    [AT_SZNR]       =  NO(3), VOW(1), VOW(1), VOW(1), CON,   SZN,   TRY,   TO(AT_HARD),       TO(AT_SOFT),       NO(5), END(ONE_NAME),
-    [AT_HARD]       =  NO(3), VOW(1), VOW(2), VOW(2), NO(8), NO(8), NO(8), NO(7),             NO(7),             NO(5), END(ONE_NAME),
-    [AT_SOFT]       =  NO(3), VOW(1), VOW(2), VOW(2), CON,   SZN,   CON,   NO(7),             NO(7),             NO(5), END(ONE_NAME),
-    [AT_VOWEL_HARD] =  NO(3), NO(9),  NO(9),  NO(9),  NO(8), NO(8), NO(8), NO(7),             NO(7),             NO(5), END(ONE_NAME),
-    [AT_VOWEL_SOFT] =  NO(3), NO(9),  NO(9),  NO(9),  CON,   SZN,   CON,   NO(7),             NO(7),             NO(5), END(ONE_NAME),
+    /* from           foreign  а       о       и       е       к      с      т      ъ                  ь                  *            break */
+    [AT_START]      =  NO(3), VOW(1), VOW(1), VOW(1), VOW(2), CON,   SZN,   CON,   NO(6),             NO(6),             NO(5),       NO(4),
+    [AT_VOWEL]      =  NO(3), VOW(1), VOW(1), VOW(1), VOW(2), CON,   SZN,   CON,   TO(AT_VOWEL_HARD), TO(AT_VOWEL_SOFT), TO(AT_MARK), END(0),
+    [AT_MARK]       =  NO(3), VOW(1), VOW(1), VOW(1), VOW(2), CON,   SZN,   CON,   TO(AT_VOWEL_HARD), TO(AT_VOWEL_SOFT), NO(5),       END(0),
+    [AT_CONSONANT]  =  NO(3), VOW(1), VOW(1), VOW(1), VOW(1), CON,   SZN,   CON,   TO(AT_HARD),       TO(AT_SOFT),       NO(5), END(ONE_NAME),
+    [AT_SZNR]       =  NO(3), VOW(1), VOW(1), VOW(1), VOW(1), CON,   SZN,   TRY,   TO(AT_HARD),       TO(AT_SOFT),       NO(5), END(ONE_NAME),
+    [AT_HARD]       =  NO(3), VOW(1), VOW(1), VOW(2), VOW(2), NO(8), NO(8), NO(8), NO(7),             NO(7),             NO(5), END(ONE_NAME),
+    [AT_SOFT]       =  NO(3), VOW(1), VOW(2), VOW(2), VOW(2), CON,   SZN,   CON,   NO(7),             NO(7),             NO(5), END(ONE_NAME),
+    [AT_VOWEL_HARD] =  NO(3), NO(9),  NO(9),  NO(9),  NO(9),  NO(8), NO(8), NO(8), NO(7),             NO(7),             NO(5), END(ONE_NAME),
+    [AT_VOWEL_SOFT] =  NO(3), NO(9),  NO(9),  NO(9),  NO(9),  CON,   SZN,   CON,   NO(7),             NO(7),             NO(5), END(ONE_NAME),
 };
 /* clang-format on */
 

@@ -59,6 +59,9 @@ static const char *const letters_every[] = {
     "на*во*су*ты*мэ*ле*рё*ки*ню*вя*са*то*му*лы*рэ*ке*нё*ви*сю*тя*ма*ло*ру*кы*нэ*ве*сё*ти*мю*ля*ра*ко*",
 };
 
+/* о after ь, at each level, and after ъ. */
+static const char *const soft_sign_words[] = {"бульо*н", "каньо*н", "медальо*н", "гильоти*на", "гильотини*ровать", "подъо*м"};
+
 /* What stands after a word, by turns. */
 static const char *const gaps[] = {" "};
 static const char *const gaps_and_pauses[] = {" ", " ", " ", " ", " ", " ", " ", " ", "#"};
@@ -204,6 +207,7 @@ static const struct test_case cases[] = {
     {"64 letters, none", 4096, LIST(letters_none), LIST(gaps), 0, NULL, FOR_MESSAGES},
     {"64 letters, every", 4096, LIST(letters_every), LIST(gaps), 0, NULL, FOR_MESSAGES},
     {"clusters", 4096, LIST(cluster_words), LIST(gaps), 0, NULL, FOR_MESSAGES},
+    {"soft sign, then o", 4096, LIST(soft_sign_words), LIST(gaps), 0, NULL, FOR_MESSAGES},
     {"every letter", 4096, LIST(alphabets), LIST(gaps_and_pauses), 0, NULL, FOR_WRITER},
     {"punctuated text", 16, LIST(words), LIST(punctuation), 1, NULL, FOR_EDITOR},
     {"punctuated text", 256, LIST(words), LIST(punctuation), 1, NULL, FOR_EDITOR},

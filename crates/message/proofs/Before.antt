@@ -1,9 +1,9 @@
 -- What stands before a place is told in three ways: by the last letter of the word, by the byte before, and by the kind. They agree in all that elision and the syllables ask: which consonant it is, if any, and
--- whether it is a sign. Only a break and a mark are no letters, and a mark stands right after a vowel.
+-- whether it is a sign, and which. Only a break and a mark are no letters, and a mark stands right after a vowel.
 use Rattle.laws.proofs.Kit.{ℕ, zero, suc, _<_, _≤_, _≡_, refl, sym, _∙_, true, false, false≢true, List, [], _∷_, _++_, eqb, length, getD, eqb-true, arith}
-use Rattle.spec.specs.Letters.{small, hardOnly, paired, softOnly, plainVowels, softeningVowels, isMark, isBreak, isVowel, isSign, isConsonant}
-use Rattle.spec.specs.{Alphabet.mark, Refusals.vowelByte}
-use Rattle.message.specs.{Classes.isConsonantClass, Steps.isSignKind, Steps.kindAt, Places.leftAt, Places.letterOf, Places.Steady}
+use Rattle.spec.specs.Letters.{small, hardOnly, paired, softOnly, signs, plainVowels, softeningVowels, isMark, isBreak, isVowel, isSign, isConsonant}
+use Rattle.spec.specs.{Alphabet.mark, Alphabet.«ь», Tables.among, Refusals.vowelByte}
+use Rattle.message.specs.{Classes.isConsonantClass, Steps.isSignKind, Steps.isSoftSignKind, Steps.kindAt, Places.leftAt, Places.letterOf, Places.Steady}
 use Rattle.message.proofs.{Bytes.by-class, Bytes.vowel-break, Bytes.vowel-mark, Faults.entry-at, Left.left-letter, Left.left-mark, Left.left-break, Computed.everything}
 use Rattle.laws.proofs.Classes.{either, among-same, among-none, break-sign, break-consonant}
 
@@ -16,10 +16,11 @@ pub record Alike (p q : ℕ) : Type 0 where
   pub each : Same p q
   pub consonant : isConsonant p ≡ isConsonant q
   pub sign : isSign p ≡ isSign q
+  pub softSign : eqb p «ь» ≡ eqb q «ь»
 
 -- so one is with itself
 pub alike-same : (p : ℕ) → Alike p p
-alike-same p = record { each = λ x c. refl; consonant = refl; sign = refl }
+alike-same p = record { each = λ x c. refl; consonant = refl; sign = refl; softSign = refl }
 
 -- neither a consonant nor a sign
 abbrev pub Other : ℕ → Type 0
@@ -27,10 +28,15 @@ Other p = (isConsonant p ∷ isSign p ∷ []) ≡ (false ∷ false ∷ [])
 
 -- two of these are alike
 pub alike-other : (p q : ℕ) → Other p → Other q → Alike p q
-unfolding isConsonant
+unfolding isConsonant isSign among
 alike-other p q n o =
     let l = hardOnly ++ paired ++ softOnly in
-    record { each = λ x c. among-none l p x (cc) c ∙ sym (among-none l q x (cc) c); consonant = cc; sign = cc }
+    record {
+      each = λ x c. among-none l p x (cc) c ∙ sym (among-none l q x (cc) c);
+      consonant = cc;
+      sign = cc;
+      softSign = among-none signs p «ь» (cc) refl ∙ sym (among-none signs q «ь» (cc) refl);
+    }
 
 -- so are no letter and the byte of a break
 pub alike-break : (b : ℕ) → isBreak b ≡ true → Alike 0 (small b)
@@ -59,13 +65,14 @@ module _ (m : List ℕ) (steady : Steady m) where
   pub record Kind (i : ℕ) : Type 0 where
     pub consonant : isConsonant (leftAt m i .p) ≡ isConsonantClass (kindAt m i)
     pub sign : isSign (leftAt m i .p) ≡ isSignKind (kindAt m i)
+    pub softSign : eqb (leftAt m i .p) «ь» ≡ isSoftSignKind (kindAt m i)
 
   -- it does
   pub kind-at : (i : ℕ) → i ≤ length m → Kind i
   unfolding everything leftAt
-  kind-at zero h = record { consonant = refl; sign = refl }
+  kind-at zero h = record { consonant = refl; sign = refl; softSign = refl }
   kind-at (suc i) h =
       let b = by-class (getD m i 0) (steady .bytes i) in
       let a = alike-before i h in
       let e = entry-at m (steady .bytes) i in
-      record { consonant = a .consonant ∙ b .consonant ∙ sym (e .consonant); sign = a .sign ∙ b .sign ∙ sym (e .sign) }
+      record { consonant = a .consonant ∙ b .consonant ∙ sym (e .consonant); sign = a .sign ∙ b .sign ∙ sym (e .sign); softSign = a .softSign ∙ b .softSign ∙ sym (e .softSign) }

@@ -2,7 +2,7 @@
 use Rattle.laws.proofs.Kit.{ℕ, zero, suc, _*_, _<_, _≤_, _≡_, refl, sym, _∙_, ⊎-elim, Bool, true, false, cond, _&&_, _||_, not, and-false, or-assoc, or-comm, false≢true, List, [], _∷_, arith, eqb, length, getD, drop, drop-cons, drop-length, eqb-true, ne-eqb}
 use Rattle.spec.specs.Refusals.{vowelByte, signByte, hardSignByte, first, none, adjacent, vowelSign, lettersBefore, row3, row4, row5, row6, row7, row8, row9, row10, rows, firstFit, faultAt, beforeAt, refusal, checkOf}
 use Rattle.spec.specs.{Letters.isMark, Letters.isBreak, declared.Checked.the-variants.Accepted, declared.Checked.the-variants.Refused}
-use Rattle.message.specs.Classes.{classOf, isBreakClass, isSignClass, isConsonantClass, isVowelClass, isLetterClass, classAt}
+use Rattle.message.specs.Classes.{classOf, classCount, isBreakClass, isSignClass, isConsonantClass, isVowelClass, isLetterClass, classAt}
 use Rattle.message.specs.Steps.{isVowelKind, isHardSignKind, isVowelSignKind, isSignKind, nextKind, faultIn, kindAt, codesTo, namesTo, lettersAt, faultHere}
 use Rattle.laws.proofs.Accepted.{countsOf, ClearAt, fault-clear, first-refused, passes-accepted}
 use Rattle.laws.proofs.Classes.{refuted, below-or, pairs-same}
@@ -25,10 +25,10 @@ after t k c =
     ∷ cond t (isVowelClass k) (isVowelClass c) ∷ []
 
 -- it does, where there is no fault
-next-answers : (k c : ℕ) → k < 16 → c < 13 → faultIn k c ≡ 0 → after (eqb c 1) k c ≡ answers (nextKind k c)
+next-answers : (k c : ℕ) → k < 16 → c < classCount → faultIn k c ≡ 0 → after (eqb c 1) k c ≡ answers (nextKind k c)
 unfolding everything
 next-answers k c h l e =
-    rw e at (pairs-same (λ k c. cond (eqb (faultIn k c) 0) (after (eqb c 1) k c) []) (λ k c. cond (eqb (faultIn k c) 0) (answers (nextKind k c)) []) 16 13 k c refl h l)
+    rw e at (pairs-same (λ k c. cond (eqb (faultIn k c) 0) (after (eqb c 1) k c) []) (λ k c. cond (eqb (faultIn k c) 0) (answers (nextKind k c)) []) 16 classCount k c refl h l)
 
 -- a vowel right before is no mark, so it is the adjacent letter
 vowel-adjacent : (before : List ℕ) → first vowelByte before ≡ true → adjacent before ≡ before
@@ -67,12 +67,12 @@ abbrev faultOf : Bool → Bool → ℕ → ℕ → ℕ
 faultOf last full k c = let f = cond (eqb (faultIn k c) 0) (cond (isLetterClass c && full) 10 0) (faultIn k c) in cond (eqb f 0) (cond (isBreakClass c && last) 4 0) f
 
 -- the two agree
-fault-same : (last full : Bool) (k c : ℕ) → k < 16 → c < 13 → faultBy last full k c ≡ faultOf last full k c
+fault-same : (last full : Bool) (k c : ℕ) → k < 16 → c < classCount → faultBy last full k c ≡ faultOf last full k c
 unfolding everything
-fault-same true true k c h l = pairs-same (faultBy true true) (faultOf true true) 16 13 k c refl h l
-fault-same true false k c h l = pairs-same (faultBy true false) (faultOf true false) 16 13 k c refl h l
-fault-same false true k c h l = pairs-same (faultBy false true) (faultOf false true) 16 13 k c refl h l
-fault-same false false k c h l = pairs-same (faultBy false false) (faultOf false false) 16 13 k c refl h l
+fault-same true true k c h l = pairs-same (faultBy true true) (faultOf true true) 16 classCount k c refl h l
+fault-same true false k c h l = pairs-same (faultBy true false) (faultOf true false) 16 classCount k c refl h l
+fault-same false true k c h l = pairs-same (faultBy false true) (faultOf false true) 16 classCount k c refl h l
+fault-same false false k c h l = pairs-same (faultBy false false) (faultOf false false) 16 classCount k c refl h l
 
 -- a byte without a fault here has no number of the table of steps, and is no 65th letter
 pub here-clear : (m : List ℕ) (i : ℕ) → faultHere m i ≡ 0

@@ -1,35 +1,36 @@
 -- The counts of the check are the lengths of the tape and of the names: each byte is counted as many codes and names as it puts before what comes after it, told by its class and the kind before it.
 use Rattle.laws.proofs.Kit.{ℕ, zero, suc, _+_, _<_, _≤_, _≡_, refl, sym, ap, _∙_, Bool, true, false, cond, _&&_, _||_, true≢false, List, [], _∷_, eqb, length, getD, length-append, eqb-true, arith}
-use Rattle.spec.specs.Alphabet.{«е», «ё», «и», «ю», «я»}
+use Rattle.spec.specs.Alphabet.{«е», «ё», «и», «о», «ь», «ю», «я»}
 use Rattle.spec.specs.Letters.{Letter, isMark, isBreak, isVowel, isSign, isConsonant}
 use Rattle.spec.specs.Syllables.{Facts, coverAfter, syllableOf, incomplete}
 use Rattle.spec.specs.{Tables.among, Elision.elides, Vowels.bare, Vowels.glides, Voicing.Tone, Tape.tape, Tape.names, Refusals.vowelByte, Refusals.signByte, declared.Cover.the-variants.Bare, declared.Cover.the-variants.Covered}
-use Rattle.message.specs.Classes.{classOf, isBreakClass, isSignClass, isConsonantClass, isVowelClass, isLetterClass}
-use Rattle.message.specs.Steps.{isSignKind, kindAt, widthIn, widthAt, codesTo, namesIn, namesTo, tailNames}
+use Rattle.message.specs.Classes.{classOf, classCount, isBreakClass, isSignClass, isConsonantClass, isVowelClass, isLetterClass}
+use Rattle.message.specs.Steps.{isSignKind, isSoftSignKind, kindAt, widthIn, widthAt, codesTo, namesIn, namesTo, tailNames}
 use Rattle.message.specs.Places.{leftAt, factsAt, toneAt, soundAt, tapeAt, wordAt, letterOf, codesAt, namesAt, Steady}
 use Rattle.message.specs.Fused.{vowelCodes, letterCodes}
 use Rattle.message.proofs.Tail.{tape-start, tape-end, tape-letter, tape-mark, tape-break, names-start, names-end, names-vowel, names-other, names-break}
 use Rattle.message.proofs.{Bytes.by-class, Bytes.letter-class, Before.kind-at, Silent.elided-at, StepTable.class-spoken, Faults.kind-small, Computed.everything}
 use Rattle.laws.proofs.Classes.{cond-app, either, pairs-same}
 
--- how many codes a letter makes, elision apart: k and g say that a consonant or a sign stands before it, s, v, e and i that it is a sign, a vowel, one of е ё ю я, or и
-abbrev heard : Bool → Bool → Bool → Bool → Bool → Bool → ℕ
-heard k g s v e i = cond s 0 (cond v (cond ((e && (bare (cond (k || g) Covered Bare) || g)) || (i && g)) 2 1) 1)
+-- how many codes a letter makes, elision apart: k, g and y say that a consonant, a sign or ь stands before it, s, v, e, i and o that it is a sign, a vowel, one of е ё ю я, и, or о
+abbrev heard : Bool → Bool → Bool → Bool → Bool → Bool → Bool → Bool → ℕ
+heard k g y s v e i o = cond s 0 (cond v (cond ((e && (bare (cond (k || g) Covered Bare) || g)) || ((i && g) || (o && y))) 2 1) 1)
 
 -- it makes as many, or none
 letter-length : (hard : Bool) (facts : Facts) (p : ℕ) (l : Letter) (w : List Letter) (tone : Tone) (c : ℕ)
     → length (letterCodes hard facts p l w tone c)
-    ≡ cond (elides p (l .byte) w) 0 (heard (isConsonant p) (isSign p) (isSign (l .byte)) (isVowel (l .byte)) (among («е» ∷ «ё» ∷ «ю» ∷ «я» ∷ []) (l .byte)) (eqb (l .byte) «и»))
+    ≡ cond (elides p (l .byte) w) 0 (heard (isConsonant p) (isSign p) (eqb p «ь») (isSign (l .byte)) (isVowel (l .byte)) (among («е» ∷ «ё» ∷ «ю» ∷ «я» ∷ []) (l .byte)) (eqb (l .byte) «и») (eqb (l .byte) «о»))
 unfolding letterCodes vowelCodes glides coverAfter syllableOf
 letter-length hard facts p l w tone c = simp (cond-app (length {A = ℕ}))
 
--- and as many as are counted, by kind and class
-heard-counted : (k c : ℕ) → k < 16 → c < 13 → isLetterClass c ≡ true
-    → heard (isConsonantClass k) (isSignKind k) (isSignClass c) (isVowelClass c) (eqb c 11) (eqb c 12) ≡ widthIn k c
+-- the same by kind and class
+abbrev heardBy : ℕ → ℕ → ℕ
+heardBy k c = heard (isConsonantClass k) (isSignKind k) (isSoftSignKind k) (isSignClass c) (isVowelClass c) (eqb c 12) (eqb c 13) (eqb c 11)
+
+-- and as many are counted
+heard-counted : (k c : ℕ) → k < 16 → c < classCount → isLetterClass c ≡ true → heardBy k c ≡ widthIn k c
 unfolding everything
-heard-counted k c h l e = rw e (rw e at (pairs-same
-    (λ k c. cond (isLetterClass c) (heard (isConsonantClass k) (isSignKind k) (isSignClass c) (isVowelClass c) (eqb c 11) (eqb c 12)) 0)
-    (λ k c. cond (isLetterClass c) (widthIn k c) 0) 16 13 k c refl h l))
+heard-counted k c h l e = rw e (rw e at (pairs-same (λ k c. cond (isLetterClass c) (heardBy k c) 0) (λ k c. cond (isLetterClass c) (widthIn k c) 0) 16 classCount k c refl h l))
 
 module _ (m : List ℕ) (steady : Steady m) where
   -- a break is counted one code
@@ -55,7 +56,7 @@ module _ (m : List ℕ) (steady : Steady m) where
       let l = letter-length (leftAt m i .hard) (factsAt m i) (leftAt m i .p) (letterOf m i) (wordAt m (suc i)) (toneAt m (suc i)) (soundAt m (suc i)) in
       let n = heard-counted (kindAt m i) (classOf (getD m i 0)) (kind-small m (steady .bytes) i) (c .class) (letter-class (getD m i 0) t b k (steady .named i h)) in
       let a = kind-at m steady i (omega arith) in
-      l ∙ rw (elided-at m steady i h b k, a .consonant, a .sign, c .sign, c .vowel, c .softening, c .vowelI, n)
+      l ∙ rw (elided-at m steady i h b k, a .consonant, a .sign, a .softSign, c .sign, c .vowel, c .glideVowel, c .vowelI, c .vowelO, n)
 
   -- each byte is counted as many codes as it puts before the rest's
   pub codes-step : (i : ℕ) → i < length m → length (tapeAt m i) ≡ widthAt m i (kindAt m i) + length (tapeAt m (suc i))

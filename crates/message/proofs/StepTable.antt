@@ -2,8 +2,8 @@
 use Rattle.laws.proofs.Kit.{ℕ, zero, suc, _+_, _-_, _*_, _/_, _%_, _<_, _≤_, _≡_, refl, ap, _∙_, true, false, cond, not, and-false, List, [], _∷_, map, arith, eqb, leb, getD, eqb-true, eqb-false, leb-true, ne-eqb}
 use Rattle.spec.specs.Alphabet.{«з», «н», «р», «с»}
 use Rattle.spec.specs.{Tables.among, Letters.small, Elision.elidesT, Elision.elidesD, Elision.elidesAmong}
-use Rattle.message.specs.Classes.{classOf, classAt, isBreakClass, isConsonantClass, isSignClass, tabulate, classes, letterAt, letterBefore, elidedAt, silentAt}
-use Rattle.message.specs.Steps.{isSignKind, nextKind, faultIn, widthIn, namesIn, askIn, stopIn, packed, pairs, kindAt, widthAt, nameUnit, askUnit, stopUnit}
+use Rattle.message.specs.Classes.{classOf, classCount, classAt, isBreakClass, isConsonantClass, isSignClass, tabulate, classes, letterAt, letterBefore, elidedAt, silentAt}
+use Rattle.message.specs.Steps.{isSoftSignKind, isSignKind, nextKind, faultIn, widthIn, namesIn, askIn, stopIn, packed, pairs, kindAt, widthAt, nameUnit, askUnit, stopUnit}
 use Rattle.message.proofs.{Bytes.by-class, Bytes.not-both, Elided.other-stays, Elided.only-where, Computed.everything}
 use Rattle.laws.proofs.Classes.{among-none, either, below, pairs-same}
 
@@ -68,9 +68,10 @@ pub record Entry (k c : ℕ) : Type 0 where
   pub break : isBreakClass (nextKind k c) ≡ isBreakClass c
   pub consonant : isConsonantClass (nextKind k c) ≡ isConsonantClass c
   pub sign : isSignKind (nextKind k c) ≡ isSignClass c
+  pub softSign : isSoftSignKind (nextKind k c) ≡ eqb c 5
 
 -- every entry that is read is so, by one computation each
-pub entry-holds : (k c : ℕ) → k < 16 → c < 13 → Entry k c
+pub entry-holds : (k c : ℕ) → k < 16 → c < classCount → Entry k c
 unfolding everything
 entry-holds k c h l = record {
   width = most widthIn 2 refl;
@@ -78,15 +79,16 @@ entry-holds k c h l = record {
   ask = most askIn 1 refl;
   stop = most stopIn 31 refl;
   next = omega (arith, most nextKind 15 refl);
-  fault = pairs-same faultIn (λ x y. stopIn x y - 1) 16 13 k c refl h l;
-  plain = λ e. rw e at (pairs-same (λ x y. cond (eqb (stopIn x y) 0) (nextKind x y) y) (λ x y. y) 16 13 k c refl h l);
-  break = pairs-same (λ x y. isBreakClass (nextKind x y)) (λ x y. isBreakClass y) 16 13 k c refl h l;
-  consonant = pairs-same (λ x y. isConsonantClass (nextKind x y)) (λ x y. isConsonantClass y) 16 13 k c refl h l;
-  sign = pairs-same (λ x y. isSignKind (nextKind x y)) (λ x y. isSignClass y) 16 13 k c refl h l;
+  fault = pairs-same faultIn (λ x y. stopIn x y - 1) 16 classCount k c refl h l;
+  plain = λ e. rw e at (pairs-same (λ x y. cond (eqb (stopIn x y) 0) (nextKind x y) y) (λ x y. y) 16 classCount k c refl h l);
+  break = pairs-same (λ x y. isBreakClass (nextKind x y)) (λ x y. isBreakClass y) 16 classCount k c refl h l;
+  consonant = pairs-same (λ x y. isConsonantClass (nextKind x y)) (λ x y. isConsonantClass y) 16 classCount k c refl h l;
+  sign = pairs-same (λ x y. isSignKind (nextKind x y)) (λ x y. isSignClass y) 16 classCount k c refl h l;
+  softSign = pairs-same (λ x y. isSoftSignKind (nextKind x y)) (λ x y. eqb y 5) 16 classCount k c refl h l;
 }
   where
-    most : (f : ℕ → ℕ → ℕ) (n : ℕ) → map (λ x. map (λ y. leb (f x y) n) (below 13)) (below 16) ≡ map (λ x. map (λ y. true) (below 13)) (below 16) → f k c ≤ n
-    most f n e = leb-true (f k c) n (pairs-same (λ x y. leb (f x y) n) (λ x y. true) 16 13 k c e h l)
+    most : (f : ℕ → ℕ → ℕ) (n : ℕ) → map (λ x. map (λ y. leb (f x y) n) (below classCount)) (below 16) ≡ map (λ x. map (λ y. true) (below classCount)) (below 16) → f k c ≤ n
+    most f n e = leb-true (f k c) n (pairs-same (λ x y. leb (f x y) n) (λ x y. true) 16 classCount k c e h l)
 
 -- What is packed can be taken apart.
 pub record Unpacks (k c : ℕ) : Type 0 where
@@ -106,7 +108,7 @@ unpacks k c e = record {
 }
 
 -- the table of pairs has a row of 16 classes for each kind, and its entries are small
-pub pairs-read : (t : List ℕ) (k c : ℕ) → t ≡ pairs → k < 16 → c < 13 → (16 * k + c < 256) × (getD t (16 * k + c) 0 ≡ packed k c) × (packed k c < 32 * stopUnit)
+pub pairs-read : (t : List ℕ) (k c : ℕ) → t ≡ pairs → k < 16 → c < classCount → (16 * k + c < 256) × (getD t (16 * k + c) 0 ≡ packed k c) × (packed k c < 32 * stopUnit)
 unfolding pairs
 pairs-read t k c e h l =
     let f : ℕ → ℕ = λ j. packed (j / 16) (j % 16) in

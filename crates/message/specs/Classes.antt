@@ -5,12 +5,12 @@ use mathlib.Core.Bool.{Bool, cond, _||_}
 use mathlib.Core.List.{List, [], _∷_}
 use lib.Dec.{eqb, leb}
 use lib.ListN.{getD}
-use Rattle.spec.specs.Alphabet.{gap, pause, «д», «е», «ё», «и», «н», «с», «т», «ц», «ч», «ш», «ъ», «ь», «ю», «я»}
+use Rattle.spec.specs.Alphabet.{gap, pause, «д», «е», «ё», «и», «н», «о», «с», «т», «ц», «ч», «ш», «ъ», «ь», «ю», «я»}
 use Rattle.spec.specs.Tables.{among}
 use Rattle.spec.specs.Letters.{between, small, isMark, isHardOnly, isPaired, isSoftOnly, isVowel}
 use Rattle.spec.specs.Elision.{elidesAmong}
 
--- The class of a small letter: 4 ъ, 5 ь, 6 hard only, 7 paired, 8 т and д, which may be elided, 9 soft only, 10 other vowels, 11 е ё ю я, 12 и; 0 for no letter
+-- The class of a small letter: 4 ъ, 5 ь, 6 hard only, 7 paired, 8 т and д, which may be elided, 9 soft only, 10 other vowels, 11 о, 12 е ё ю я, 13 и; 0 for no letter. The vowels that palatalize come last.
 unfoldable pub letterClass : ℕ → ℕ
 letterClass s =
     cond (eqb s «ъ») 4
@@ -19,9 +19,14 @@ letterClass s =
     (cond (eqb s «т» || eqb s «д») 8
     (cond (isPaired s) 7
     (cond (isSoftOnly s) 9
-    (cond (among («е» ∷ «ё» ∷ «ю» ∷ «я» ∷ []) s) 11
-    (cond (eqb s «и») 12
-    (cond (isVowel s) 10 0))))))))
+    (cond (eqb s «о») 11
+    (cond (among («е» ∷ «ё» ∷ «ю» ∷ «я» ∷ []) s) 12
+    (cond (eqb s «и») 13
+    (cond (isVowel s) 10 0)))))))))
+
+-- how many classes there are
+abbrev pub classCount : ℕ
+classCount = 14
 
 -- The class of a byte: 1 mark, 2 gap, 3 pause, else its letter's
 unfoldable pub classOf : ℕ → ℕ
@@ -37,7 +42,10 @@ abbrev pub isConsonantClass : ℕ → Bool
 isConsonantClass c = between 6 9 c
 
 abbrev pub isVowelClass : ℕ → Bool
-isVowelClass c = between 10 12 c
+isVowelClass c = between 10 13 c
+
+abbrev pub isSofteningClass : ℕ → Bool
+isSofteningClass c = leb 12 c
 
 abbrev pub isLetterClass : ℕ → Bool
 isLetterClass c = leb 4 c

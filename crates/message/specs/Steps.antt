@@ -22,6 +22,9 @@ isVowelKind k = eqb k 1 || isVowelClass k
 abbrev pub isHardSignKind : ℕ → Bool
 isHardSignKind k = eqb k 4 || eqb k 14
 
+abbrev pub isSoftSignKind : ℕ → Bool
+isSoftSignKind k = eqb k 5 || eqb k 15
+
 abbrev pub isVowelSignKind : ℕ → Bool
 isVowelSignKind k = between 14 15 k
 
@@ -45,8 +48,9 @@ unfoldable pub widthIn : ℕ → ℕ → ℕ
 widthIn k c =
     cond (isBreakClass c || isConsonantClass c) 1
     (cond (eqb c 10) 1
-    (cond (eqb c 11) (cond (isConsonantClass k) 1 2)
-    (cond (eqb c 12) (cond (isSignKind k) 2 1) 0)))
+    (cond (eqb c 11) (cond (isSoftSignKind k) 2 1)
+    (cond (eqb c 12) (cond (isConsonantClass k) 1 2)
+    (cond (eqb c 13) (cond (isSignKind k) 2 1) 0))))
 
 -- a syllable is incomplete at the end of a word whose last letter is a consonant or a sign
 unfoldable pub tailNames : ℕ → ℕ

@@ -1,6 +1,6 @@
 // The numbers that code and tables agree on: classes of bytes, sizes of tables, units of their entries.
 
-// The class of each byte (specs/Classes.antt, classOf), 0 for one that no message may have. Signs, consonants and vowels are ranges, so a test of them is two comparisons.
+// The class of each byte (specs/Classes.antt, classOf), 0 for one that no message may have. Signs, consonants and vowels are ranges, so a test of them is two comparisons; the vowels that palatalize come last.
 pub const MARK: usize = 1;
 
 pub const GAP: usize = 2;
@@ -18,12 +18,14 @@ pub const PAIRED: usize = 7;
 pub const T_OR_D: usize = 8;
 
 pub const SOFT_ONLY: usize = 9;
-// а о у ы э
+// а у ы э
 pub const PLAIN_VOWEL: usize = 10;
+
+pub const VOWEL_O: usize = 11;
 // е ё ю я
-pub const GLIDE_VOWEL: usize = 11;
-// и
-pub const VOWEL_I: usize = 12;
+pub const GLIDE_VOWEL: usize = 12;
+
+pub const VOWEL_I: usize = 13;
 
 // The kind of what stands before a byte is the class of the byte before, or one of these where that is a sign after a vowel (specs/Steps.antt, nextKind).
 pub const HARD_SIGN_AFTER_VOWEL: usize = 14;

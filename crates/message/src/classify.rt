@@ -173,7 +173,7 @@ const CLASSES: ClassTable = [
     0, // byte A5
     0, // byte A6
     0, // byte A7
-    11, // byte A8 Ё
+    12, // byte A8 Ё
     0, // byte A9
     0, // byte AA
     0, // byte AB
@@ -189,7 +189,7 @@ const CLASSES: ClassTable = [
     0, // byte B5
     0, // byte B6
     0, // byte B7
-    11, // byte B8 ё
+    12, // byte B8 ё
     0, // byte B9
     0, // byte BA
     0, // byte BB
@@ -202,16 +202,16 @@ const CLASSES: ClassTable = [
     7, // byte C2 В
     7, // byte C3 Г
     8, // byte C4 Д
-    11, // byte C5 Е
+    12, // byte C5 Е
     6, // byte C6 Ж
     7, // byte C7 З
-    12, // byte C8 И
+    13, // byte C8 И
     9, // byte C9 Й
     7, // byte CA К
     7, // byte CB Л
     7, // byte CC М
     7, // byte CD Н
-    10, // byte CE О
+    11, // byte CE О
     7, // byte CF П
     7, // byte D0 Р
     7, // byte D1 С
@@ -227,23 +227,23 @@ const CLASSES: ClassTable = [
     10, // byte DB Ы
     5, // byte DC Ь
     10, // byte DD Э
-    11, // byte DE Ю
-    11, // byte DF Я
+    12, // byte DE Ю
+    12, // byte DF Я
     10, // byte E0 а
     7, // byte E1 б
     7, // byte E2 в
     7, // byte E3 г
     8, // byte E4 д
-    11, // byte E5 е
+    12, // byte E5 е
     6, // byte E6 ж
     7, // byte E7 з
-    12, // byte E8 и
+    13, // byte E8 и
     9, // byte E9 й
     7, // byte EA к
     7, // byte EB л
     7, // byte EC м
     7, // byte ED н
-    10, // byte EE о
+    11, // byte EE о
     7, // byte EF п
     7, // byte F0 р
     7, // byte F1 с
@@ -259,8 +259,8 @@ const CLASSES: ClassTable = [
     10, // byte FB ы
     5, // byte FC ь
     10, // byte FD э
-    11, // byte FE ю
-    11, // byte FF я
+    12, // byte FE ю
+    12, // byte FF я
 ];
 
 // A copy of the table.

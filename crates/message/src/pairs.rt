@@ -16,10 +16,10 @@ const PAIRS: PairTable = [
     0x0000001, // paired after unnamed
     0x0000001, // т or д after unnamed
     0x0000001, // soft only after unnamed
-    0x0004001, // а о у ы э after unnamed
+    0x0004001, // а у ы э after unnamed
+    0x0004001, // о after unnamed
     0x0004002, // е ё ю я after unnamed
     0x0004001, // и after unnamed
-    0x0400000, // unused 0 13
     0x0400000, // unused 0 14
     0x0400000, // unused 0 15
     0x0400000, // unnamed after mark
@@ -32,10 +32,10 @@ const PAIRS: PairTable = [
     0x0000001, // paired after mark
     0x0000001, // т or д after mark
     0x0000001, // soft only after mark
-    0x0004001, // а о у ы э after mark
+    0x0004001, // а у ы э after mark
+    0x0004001, // о after mark
     0x0004002, // е ё ю я after mark
     0x0004001, // и after mark
-    0x0400000, // unused 1 13
     0x0400000, // unused 1 14
     0x0400000, // unused 1 15
     0x0400000, // unnamed after gap
@@ -48,10 +48,10 @@ const PAIRS: PairTable = [
     0x0000001, // paired after gap
     0x0000001, // т or д after gap
     0x0000001, // soft only after gap
-    0x0004001, // а о у ы э after gap
+    0x0004001, // а у ы э after gap
+    0x0004001, // о after gap
     0x0004002, // е ё ю я after gap
     0x0004001, // и after gap
-    0x0400000, // unused 2 13
     0x0400000, // unused 2 14
     0x0400000, // unused 2 15
     0x0400000, // unnamed after pause
@@ -64,10 +64,10 @@ const PAIRS: PairTable = [
     0x0000001, // paired after pause
     0x0000001, // т or д after pause
     0x0000001, // soft only after pause
-    0x0004001, // а о у ы э after pause
+    0x0004001, // а у ы э after pause
+    0x0004001, // о after pause
     0x0004002, // е ё ю я after pause
     0x0004001, // и after pause
-    0x0400000, // unused 3 13
     0x0400000, // unused 3 14
     0x0400000, // unused 3 15
     0x0400000, // unnamed after ъ
@@ -80,10 +80,10 @@ const PAIRS: PairTable = [
     0x0900001, // paired after ъ
     0x0900001, // т or д after ъ
     0x0900001, // soft only after ъ
-    0x0004001, // а о у ы э after ъ
+    0x0004001, // а у ы э after ъ
+    0x0004001, // о after ъ
     0x0004002, // е ё ю я after ъ
     0x0004002, // и after ъ
-    0x0400000, // unused 4 13
     0x0400000, // unused 4 14
     0x0400000, // unused 4 15
     0x0400000, // unnamed after ь
@@ -96,10 +96,10 @@ const PAIRS: PairTable = [
     0x0000001, // paired after ь
     0x0000001, // т or д after ь
     0x0000001, // soft only after ь
-    0x0004001, // а о у ы э after ь
+    0x0004001, // а у ы э after ь
+    0x0004002, // о after ь
     0x0004002, // е ё ю я after ь
     0x0004002, // и after ь
-    0x0400000, // unused 5 13
     0x0400000, // unused 5 14
     0x0400000, // unused 5 15
     0x0400000, // unnamed after hard only
@@ -112,10 +112,10 @@ const PAIRS: PairTable = [
     0x0000001, // paired after hard only
     0x0000001, // т or д after hard only
     0x0000001, // soft only after hard only
-    0x0004001, // а о у ы э after hard only
+    0x0004001, // а у ы э after hard only
+    0x0004001, // о after hard only
     0x0004001, // е ё ю я after hard only
     0x0004001, // и after hard only
-    0x0400000, // unused 6 13
     0x0400000, // unused 6 14
     0x0400000, // unused 6 15
     0x0400000, // unnamed after paired
@@ -128,10 +128,10 @@ const PAIRS: PairTable = [
     0x0000001, // paired after paired
     0x0020001, // т or д after paired
     0x0000001, // soft only after paired
-    0x0004001, // а о у ы э after paired
+    0x0004001, // а у ы э after paired
+    0x0004001, // о after paired
     0x0004001, // е ё ю я after paired
     0x0004001, // и after paired
-    0x0400000, // unused 7 13
     0x0400000, // unused 7 14
     0x0400000, // unused 7 15
     0x0400000, // unnamed after т or д
@@ -144,10 +144,10 @@ const PAIRS: PairTable = [
     0x0000001, // paired after т or д
     0x0000001, // т or д after т or д
     0x0000001, // soft only after т or д
-    0x0004001, // а о у ы э after т or д
+    0x0004001, // а у ы э after т or д
+    0x0004001, // о after т or д
     0x0004001, // е ё ю я after т or д
     0x0004001, // и after т or д
-    0x0400000, // unused 8 13
     0x0400000, // unused 8 14
     0x0400000, // unused 8 15
     0x0400000, // unnamed after soft only
@@ -160,28 +160,44 @@ const PAIRS: PairTable = [
     0x0000001, // paired after soft only
     0x0000001, // т or д after soft only
     0x0000001, // soft only after soft only
-    0x0004001, // а о у ы э after soft only
+    0x0004001, // а у ы э after soft only
+    0x0004001, // о after soft only
     0x0004001, // е ё ю я after soft only
     0x0004001, // и after soft only
-    0x0400000, // unused 9 13
     0x0400000, // unused 9 14
     0x0400000, // unused 9 15
-    0x0400000, // unnamed after а о у ы э
-    0x0000000, // mark after а о у ы э
-    0x0000001, // gap after а о у ы э
-    0x0000001, // pause after а о у ы э
-    0x0100000, // ъ after а о у ы э
-    0x0100000, // ь after а о у ы э
-    0x0000001, // hard only after а о у ы э
-    0x0000001, // paired after а о у ы э
-    0x0000001, // т or д after а о у ы э
-    0x0000001, // soft only after а о у ы э
-    0x0004001, // а о у ы э after а о у ы э
-    0x0004002, // е ё ю я after а о у ы э
-    0x0004001, // и after а о у ы э
-    0x0400000, // unused 10 13
+    0x0400000, // unnamed after а у ы э
+    0x0000000, // mark after а у ы э
+    0x0000001, // gap after а у ы э
+    0x0000001, // pause after а у ы э
+    0x0100000, // ъ after а у ы э
+    0x0100000, // ь after а у ы э
+    0x0000001, // hard only after а у ы э
+    0x0000001, // paired after а у ы э
+    0x0000001, // т or д after а у ы э
+    0x0000001, // soft only after а у ы э
+    0x0004001, // а у ы э after а у ы э
+    0x0004001, // о after а у ы э
+    0x0004002, // е ё ю я after а у ы э
+    0x0004001, // и after а у ы э
     0x0400000, // unused 10 14
     0x0400000, // unused 10 15
+    0x0400000, // unnamed after о
+    0x0000000, // mark after о
+    0x0000001, // gap after о
+    0x0000001, // pause after о
+    0x0100000, // ъ after о
+    0x0100000, // ь after о
+    0x0000001, // hard only after о
+    0x0000001, // paired after о
+    0x0000001, // т or д after о
+    0x0000001, // soft only after о
+    0x0004001, // а у ы э after о
+    0x0004001, // о after о
+    0x0004002, // е ё ю я after о
+    0x0004001, // и after о
+    0x0400000, // unused 11 14
+    0x0400000, // unused 11 15
     0x0400000, // unnamed after е ё ю я
     0x0000000, // mark after е ё ю я
     0x0000001, // gap after е ё ю я
@@ -192,12 +208,12 @@ const PAIRS: PairTable = [
     0x0000001, // paired after е ё ю я
     0x0000001, // т or д after е ё ю я
     0x0000001, // soft only after е ё ю я
-    0x0004001, // а о у ы э after е ё ю я
+    0x0004001, // а у ы э after е ё ю я
+    0x0004001, // о after е ё ю я
     0x0004002, // е ё ю я after е ё ю я
     0x0004001, // и after е ё ю я
-    0x0400000, // unused 11 13
-    0x0400000, // unused 11 14
-    0x0400000, // unused 11 15
+    0x0400000, // unused 12 14
+    0x0400000, // unused 12 15
     0x0400000, // unnamed after и
     0x0000000, // mark after и
     0x0000001, // gap after и
@@ -208,26 +224,10 @@ const PAIRS: PairTable = [
     0x0000001, // paired after и
     0x0000001, // т or д after и
     0x0000001, // soft only after и
-    0x0004001, // а о у ы э after и
+    0x0004001, // а у ы э after и
+    0x0004001, // о after и
     0x0004002, // е ё ю я after и
     0x0004001, // и after и
-    0x0400000, // unused 12 13
-    0x0400000, // unused 12 14
-    0x0400000, // unused 12 15
-    0x0400000, // unused 13 0
-    0x0600000, // unused 13 1
-    0x0000001, // unused 13 2
-    0x0000001, // unused 13 3
-    0x0000000, // unused 13 4
-    0x0000000, // unused 13 5
-    0x0000001, // unused 13 6
-    0x0000001, // unused 13 7
-    0x0000001, // unused 13 8
-    0x0000001, // unused 13 9
-    0x0004001, // unused 13 10
-    0x0004002, // unused 13 11
-    0x0004001, // unused 13 12
-    0x0400000, // unused 13 13
     0x0400000, // unused 13 14
     0x0400000, // unused 13 15
     0x0400000, // unnamed after ъ after a vowel
@@ -240,10 +240,10 @@ const PAIRS: PairTable = [
     0x0900001, // paired after ъ after a vowel
     0x0900001, // т or д after ъ after a vowel
     0x0900001, // soft only after ъ after a vowel
-    0x0A04001, // а о у ы э after ъ after a vowel
+    0x0A04001, // а у ы э after ъ after a vowel
+    0x0A04001, // о after ъ after a vowel
     0x0A04002, // е ё ю я after ъ after a vowel
     0x0A04002, // и after ъ after a vowel
-    0x0400000, // unused 14 13
     0x0400000, // unused 14 14
     0x0400000, // unused 14 15
     0x0400000, // unnamed after ь after a vowel
@@ -256,10 +256,10 @@ const PAIRS: PairTable = [
     0x0000001, // paired after ь after a vowel
     0x0000001, // т or д after ь after a vowel
     0x0000001, // soft only after ь after a vowel
-    0x0A04001, // а о у ы э after ь after a vowel
+    0x0A04001, // а у ы э after ь after a vowel
+    0x0A04002, // о after ь after a vowel
     0x0A04002, // е ё ю я after ь after a vowel
     0x0A04002, // и after ь after a vowel
-    0x0400000, // unused 15 13
     0x0400000, // unused 15 14
     0x0400000, // unused 15 15
 ];

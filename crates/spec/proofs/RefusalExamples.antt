@@ -2,9 +2,9 @@
 -- Assumes nothing.
 use Prim.Native.Nat.{ℕ}
 use mathlib.Core.Path.{_≡_, refl}
-use mathlib.Core.List.{List, [], _∷_, _++_, map}
+use mathlib.Core.List.{List, [], _∷_, _++_, flatten, map}
 use lib.ListN.{replicate}
-use Rattle.spec.specs.Alphabet.{gap, pause, mark, «а», «б», «к», «ъ», «ь», «я»}
+use Rattle.spec.specs.Alphabet.{gap, pause, mark, «а», «б», «к», «о», «ъ», «ь», «я»}
 use Rattle.spec.specs.Refusals.{refusal}
 use Rattle.spec.specs.Answers.{joinAnswer}
 use Rattle.spec.specs.declared.Answer.the-variants.{Refused}
@@ -58,10 +58,14 @@ turnedAway =
     (record { message = «б» ∷ mark ∷ []; cuts = 0 ∷ []; room = 0; number = 5; place = 1 }) ∷
     -- а, output of 0
     (record { message = «а» ∷ []; cuts = []; room = 0; number = 11; place = 1 }) ∷
+    -- о after ь counts two codes (paper 02, request 4): 21 times бьо and б are 64, and there is room for 63
+    (record { message = flatten (replicate 21 («б» ∷ «ь» ∷ «о» ∷ [])) ++ («б» ∷ []); cuts = []; room = 63; number = 11; place = 64 }) ∷
+    -- after a vowel and ь it is turned away as every vowel is
+    (refused 9 2 («а» ∷ «ь» ∷ «о» ∷ [])) ∷
     -- а б, cuts 0
     (record { message = «а» ∷ gap ∷ «б» ∷ []; cuts = 0 ∷ []; room = 9999; number = 12; place = 0 }) ∷
     []
 
 pub turned-away : map (λ e. joinAnswer (e .message) (e .cuts) (e .room)) turnedAway ≡ map (λ e. Refused (refusal (e .number) (e .place))) turnedAway
-unfolding everything turnedAway
+unfolding everything turnedAway flatten
 turned-away = refl

@@ -1,11 +1,11 @@
--- Paper 01, 'Words to prove', and the program's example: one list, one proof, by computing the passes.
+-- Paper 01, 'Words to prove', and the program's example, with words for what paper 02 has changed: one list, one proof, by computing the passes.
 -- Assumes nothing.
 use Prim.Native.Nat.{ℕ}
 use mathlib.Core.Path.{_≡_, refl}
-use mathlib.Core.List.{List, [], _∷_, map}
-use lib.ListN.{length}
-use Rattle.spec.specs.Alphabet.{gap, pause, mark, «й», «а», «б», «в», «г», «д», «е», «ж», «з», «и», «к», «л», «м», «н», «о», «п», «р», «с», «т», «у», «ъ», «ы», «ь»}
-use Rattle.spec.specs.Codes.{J, И*, А*, А1, А2, Б, В, Г, Д, Ж, З, З', К, Л, М, Н, О*, П, Р, С, С', Т, Т', У*, У1, Ы*, Ы1, Э*}
+use mathlib.Core.List.{List, [], _∷_, _++_, flatten, map}
+use lib.ListN.{length, replicate}
+use Rattle.spec.specs.Alphabet.{gap, pause, mark, «й», «а», «б», «в», «г», «д», «е», «ж», «з», «и», «к», «л», «м», «н», «о», «п», «р», «с», «т», «у», «ш», «ъ», «ы», «ь»}
+use Rattle.spec.specs.Codes.{J, И*, И1, А*, А1, А2, Б, Б', В, Г, Г', Д, Ж, З, З', К, Л, Л', М, М', Н, Н', О*, П, Р, С, С', Т, Т', У*, У1, Ш, Ы*, Ы1, Э*, Э2}
 use Rattle.spec.specs.Tape.{tape}
 use Rattle.spec.specs.Joints.{joined}
 use Rattle.spec.specs.Answers.{tapeAnswer, joinAnswer}
@@ -64,6 +64,23 @@ examples =
     (word («с» ∷ «а» ∷ mark ∷ «д» ∷ gap ∷ «в» ∷ gap ∷ «д» ∷ «о» ∷ mark ∷ «м» ∷ []) (С ∷ А* ∷ Т ∷ 0 ∷ В ∷ 0 ∷ Д ∷ О* ∷ М ∷ [])) ∷
     -- и over a pause
     (word («с» ∷ «а» ∷ mark ∷ «д» ∷ pause ∷ «и» ∷ mark ∷ «в» ∷ «ы» ∷ []) (С ∷ А* ∷ Т ∷ 63 ∷ И* ∷ В ∷ Ы1 ∷ [])) ∷
+    -- paper 02, request 4: о after ь, at level S: бульо*н, каньо*н, медальо*н
+    (word («б» ∷ «у» ∷ «л» ∷ «ь» ∷ «о» ∷ mark ∷ «н» ∷ []) (Б ∷ У1 ∷ Л' ∷ J ∷ О* ∷ Н ∷ [])) ∷
+    (word («к» ∷ «а» ∷ «н» ∷ «ь» ∷ «о» ∷ mark ∷ «н» ∷ []) (К ∷ А1 ∷ Н' ∷ J ∷ О* ∷ Н ∷ [])) ∷
+    (word («м» ∷ «е» ∷ «д» ∷ «а» ∷ «л» ∷ «ь» ∷ «о» ∷ mark ∷ «н» ∷ []) (М' ∷ Э2 ∷ Д ∷ А1 ∷ Л' ∷ J ∷ О* ∷ Н ∷ [])) ∷
+    -- at level 1, with no mark and before the stress: бульон, гильоти*на
+    (word («б» ∷ «у» ∷ «л» ∷ «ь» ∷ «о» ∷ «н» ∷ []) (Б ∷ У1 ∷ Л' ∷ J ∷ А1 ∷ Н ∷ [])) ∷
+    (word («г» ∷ «и» ∷ «л» ∷ «ь» ∷ «о» ∷ «т» ∷ «и» ∷ mark ∷ «н» ∷ «а» ∷ []) (Г' ∷ И1 ∷ Л' ∷ J ∷ А1 ∷ Т' ∷ И* ∷ Н ∷ А2 ∷ [])) ∷
+    -- at level 2: гильотини*ровать
+    (word («г» ∷ «и» ∷ «л» ∷ «ь» ∷ «о» ∷ «т» ∷ «и» ∷ «н» ∷ «и» ∷ mark ∷ «р» ∷ «о» ∷ «в» ∷ «а» ∷ «т» ∷ «ь» ∷ [])
+    (Г' ∷ И1 ∷ Л' ∷ J ∷ А2 ∷ Т' ∷ И1 ∷ Н' ∷ И* ∷ Р ∷ А2 ∷ В ∷ А2 ∷ Т' ∷ [])) ∷
+    -- not after ъ, and no other vowel of V1 after ь: подъо*м, бульа*н
+    (word («п» ∷ «о» ∷ «д» ∷ «ъ» ∷ «о» ∷ mark ∷ «м» ∷ []) (П ∷ А1 ∷ Д ∷ О* ∷ М ∷ [])) ∷
+    (word («б» ∷ «у» ∷ «л» ∷ «ь» ∷ «а» ∷ mark ∷ «н» ∷ []) (Б ∷ У1 ∷ Л' ∷ А* ∷ Н ∷ [])) ∷
+    -- a hard-only consonant stays so: шьо*
+    (word («ш» ∷ «ь» ∷ «о» ∷ mark ∷ []) (Ш ∷ J ∷ О* ∷ [])) ∷
+    -- as many as a word has room for: 21 times бьо, and б
+    (word (flatten (replicate 21 («б» ∷ «ь» ∷ «о» ∷ [])) ++ («б» ∷ [])) (flatten (replicate 21 (Б' ∷ J ∷ А1 ∷ [])) ++ (П ∷ []))) ∷
     []
 
 -- room for every example's answer
@@ -82,5 +99,5 @@ found e = record {
 }
 
 pub words : map found examples ≡ map expected examples
-unfolding everything examples
+unfolding everything examples flatten
 words = refl

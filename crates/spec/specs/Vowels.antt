@@ -98,11 +98,12 @@ unfoldable pub bare : Cover → Bool
 bare Bare = true
 bare Covered = false
 
--- Has the vowel b, after p, a glide (the paper's J) before its sound? е ё ю я have one in a bare syllable, and they and и have one after a sign.
+-- Has the vowel b, after p, a glide (the paper's J) before its sound? е ё ю я have one in a bare syllable, and they and и have one after a sign. о has one after ь (paper 02, request 4).
 unfoldable pub glides : ℕ → Cover → ℕ → Bool
 glides p cover b =
     (among («е» ∷ «ё» ∷ «ю» ∷ «я» ∷ []) b && (bare cover || isSign p))
-    || (eqb b «и» && isSign p)
+    || ((eqb b «и» && isSign p)
+    || (eqb b «о» && eqb p «ь»))
 
 -- What the passes know of a sound: its letter, whether the next letter palatalizes it (used in pass 5), and its code so far.
 pub record Phone : Type 0 where

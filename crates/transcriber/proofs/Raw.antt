@@ -1,9 +1,9 @@
 -- What the code reads off the bytes beside a place is what the left context of the place says: in a steady message the class of the byte before tells the class of the last letter of the word.
 use Rattle.laws.proofs.Kit.{ℕ, zero, suc, _-_, _<_, _≤_, _≡_, refl, sym, ap, _∙_, Bool, true, false, true≢false, cond, _&&_, _||_, not, and-false, or-assoc, or-false, List, [], _∷_, _++_, map, _⊎_, inl, inr, arith, eqb, length, getD, eq-eqb, eqb-true, le-leb, ne-eqb}
-use Rattle.spec.specs.Alphabet.{pause, mark, «ь», «е», «ё», «и», «ю», «я»}
+use Rattle.spec.specs.Alphabet.{pause, mark, «ь»}
 use Rattle.spec.specs.Letters.{between, small, plainVowels, softeningVowels, isBreak, isGap, isHardOnly, isSoftOnly, isConsonant, isSign, isVowel, isMark}
 use Rattle.spec.specs.Syllables.{coverAfter, incomplete, syllableOf}
-use Rattle.spec.specs.{Tables.among, Refusals.vowelByte, Vowels.initial, Vowels.hardEnd, Vowels.glides, declared.Cover.Cover}
+use Rattle.spec.specs.{Tables.among, Vowels.initial, Vowels.hardEnd, Vowels.glides, declared.Cover.Cover}
 use Rattle.message.specs.Classes.{classOf, isBreakClass, isSignClass, isVowelClass, isLetterClass}
 use Rattle.message.specs.Places.{Steady, Left, stepLeft, leftAt, letterOf, wordAt, factsAt}
 use Rattle.message.proofs.Bytes.{by-class, letter-class, not-both, vowel-break, vowel-mark}
@@ -20,7 +20,7 @@ between-true lo hi c h l = rw (le-leb lo c h, le-leb c hi l)
 module _ {b c : ℕ} (h : b < 256) (e : c ≡ classOf b) where
   -- the highest classes are the vowels'
   pub vowel-class : 10 ≤ c → isVowelClass c ≡ true
-  vowel-class l = between-true 10 12 c l (omega (arith, by-class b h .class))
+  vowel-class l = between-true 10 13 c l (omega (arith, by-class b h .class))
 
   -- and the lowest that a byte of an accepted message has, but for the mark's, are the breaks'
   pub break-class : (classOf b ≡ 0 → ⊥) → c < 4 → isMark b ≡ false → isBreakClass c ≡ true
@@ -99,11 +99,6 @@ pub boundary-initial : {t m : List ℕ} {i k q : ℕ} → Before t m i k → Tol
 unfolding hardBefore
 boundary-initial {k = k} e w = rw (w .first, ← e .class) (either (eqb k 2) (λ d. rw (eqb-true k 2 d)) (λ d. rw d (and-false (isBreakClass k))))
 
--- е ё ю я are class 11, and и is class 12
-glide-class : (b : ℕ) → b < 256 → (among («е» ∷ «ё» ∷ «ю» ∷ «я» ∷ []) (small b) ≡ eqb (classOf b) 11) × (eqb (small b) «и» ≡ eqb (classOf b) 12)
-unfolding everything
-glide-class b h = (below-same (λ x. among («е» ∷ «ё» ∷ «ю» ∷ «я» ∷ []) (small x)) (λ x. eqb (classOf x) 11) 256 b refl h, below-same (λ x. eqb (small x) «и») (λ x. eqb (classOf x) 12) 256 b refl h)
-
 module _ (m : List ℕ) (steady : Steady m) where
   -- the class of the byte before a place tells the last letter of the word
   pub told-at : (i : ℕ) → i ≤ length m → Told (classBefore m i) (leftAt m i .p)
@@ -161,8 +156,11 @@ module _ (m : List ℕ) (steady : Steady m) where
   unfolding syllableOf coverAfter
   syllable-raw i h = rw (told-at i (omega arith) .covers)
 
-  -- whether the vowel there has a glide
-  pub glide-raw : (i : ℕ) → i < length m → vowelByte (getD m i 0) ≡ true → (cover : Cover)
+  -- whether a vowel there has a glide
+  pub glide-raw : (i : ℕ) → i < length m → (cover : Cover)
       → glides (leftAt m i .p) cover (small (getD m i 0)) ≡ glideBy (classOf (getD m i 0)) cover (classBefore m i)
   unfolding glides
-  glide-raw i h v cover = let k = glide-class (getD m i 0) (steady .bytes i) in rw (told-at i (omega arith) .sign, k .0, k .1)
+  glide-raw i h cover =
+      let b = by-class (getD m i 0) (steady .bytes i) in
+      let t = told-at i (omega arith) in
+      rw (t .sign, t .softSign, b .vowelO, b .glideVowel, b .vowelI)

@@ -3,7 +3,7 @@ use Rattle.laws.proofs.Kit.{ℕ, suc, _+_, _%_, _<_, _≤_, arith, _≡_, refl,
 use Rattle.spec.specs.Letters.{small, firstByte, isBreak, isGap, isMark}
 use Rattle.spec.specs.Codes.{J, markOf, isSound, isVoicing}
 use Rattle.spec.specs.{Vowels.softens, Voicing.Tone, Voicing.voiced, Voicing.voiceless, Refusals.vowelByte, Refusals.signByte, Refusals.consonantByte, declared.Level.Level, declared.Syllable.Syllable}
-use Rattle.message.specs.Classes.{classes, classOf, isBreakClass, isSignClass, isConsonantClass, isVowelClass, elidedAt}
+use Rattle.message.specs.Classes.{classCount, classes, classOf, isBreakClass, isSignClass, isConsonantClass, isVowelClass, isSofteningClass, elidedAt}
 use Rattle.message.specs.Fused.{toneBefore, vowelCodes, consonantCode, letterCodes}
 use Rattle.message.specs.Places.{Steady, leftAt, letterOf, tapeAt, wordAt, toneAt, soundAt, codesAt, toneAfter, soundAfter}
 use Rattle.message.proofs.Tail.{tape-letter, tape-mark, tape-break, word-letter, word-mark, word-break, word-end, tone-letter, sound-letter, tone-mark, sound-mark, tone-break, sound-break, tone-end, sound-end}
@@ -224,8 +224,8 @@ module _ {m out : List ℕ} {i c : ℕ} {r : Right} (a : ReadyFor isConsonantCla
 
 -- what is found of a vowel by the class of the byte before it, its own class, and the level is what the passes make of it
 module _ {m : List ℕ} {i c : ℕ} {level : Level} (a : VowelAt m i c level) where
-  pub vowel-sings : vowelByte (getD m i 0) ≡ true
-  vowel-sings = by-class (getD m i 0) (a .steady .bytes i) .vowel ∙ ap isVowelClass (sym (a .class)) ∙ a .vowel
+  pub class-small : c < classCount
+  class-small = rw (a .class) (by-class (getD m i 0) (a .steady .bytes i) .class)
 
   pub sung-by : {k : ℕ} {s : Syllable} {v : Vowel} → k ≡ classBefore m i → s ≡ syllableBy k level
       → ByRow (rowOf (small (getD m i 0))) (hardBefore m i) k s (v .sound) → v .glide ≡ glideBy c (s .cover) k → Sung m i v
@@ -234,14 +234,14 @@ module _ {m : List ℕ} {i c : ℕ} {level : Level} (a : VowelAt m i c level) wh
       let z : syllableAt m i ≡ s = rw (y, e, a .level) (syllable-raw m (a .steady) i (a .within)) in
       record {
         sound = rw (z, hard-raw m (a .steady) i h) (o (leftAt m i .p) (rw e (told-at m (a .steady) i h)));
-        glide = rw (z, glide-raw m (a .steady) i (a .within) vowel-sings (s .cover), ← a .class, ← e) g;
+        glide = rw (z, glide-raw m (a .steady) i (a .within) (s .cover), ← a .class, ← e) g;
       }
 
 module _ {m out : List ℕ} {i c : ℕ} {r : Right} (a : ReadyFor isVowelClass m out i c r) where
-  -- of the vowels those of classes 11 and 12 soften
-  vowel-spelt : Spelt (getD m i 0) false true (not (eqb c 10))
+  -- of the vowels the highest classes soften
+  vowel-spelt : Spelt (getD m i 0) false true (isSofteningClass c)
   unfolding everything
-  vowel-spelt = spelt-by a false true (λ x. not (eqb x 10)) refl
+  vowel-spelt = spelt-by a false true isSofteningClass refl
 
   -- a vowel may be sung where a step may be taken
   pub vowel-ready : {n : Level} → n ≡ numbered (countedBy (r .levels .since) (r .levels .marked)) → VowelAt m i c n
@@ -272,7 +272,7 @@ module _ {m out : List ℕ} {i c : ℕ} {r : Right} (a : ReadyFor isVowelClass m
         by true = tells-sound J soft refl
         by false = tells-sound (v .sound) soft (rw (s .sound) (vowel-sound _ _ _ (small (getD m i 0)) (vowel-spelt .sings)))
 
-    pub vowel-steps : {out′ : List ℕ} {at first seen : ℕ} {l : LevelRun} → first ≡ cond (v .glide) J (v .sound) → seen ≡ first + cond (not (eqb c 10)) 64 0
+    pub vowel-steps : {out′ : List ℕ} {at first seen : ℕ} {l : LevelRun} → first ≡ cond (v .glide) J (v .sound) → seen ≡ first + cond (isSofteningClass c) 64 0
         → l ≡ stepOver (r .levels) (getD m i 0) → Put (sungCodes v) out out′ (r .at) at → Stepped m out out′ i r (record { at = at; sound = seen; levels = l })
     vowel-steps f e l q = letter-steps (a .ready) vowel-spelt sung-codes (rw (e, f) (first-tells _ _ _)) l q
 

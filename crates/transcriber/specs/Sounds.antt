@@ -67,7 +67,7 @@ syllableBy k level = record { cover = coverClass k; level = level }
 
 -- a vowel of class c has a glide after a byte of class k
 abbrev pub glideBy : ℕ → Cover → ℕ → Bool
-glideBy c cover k = (eqb c 11 && (bare cover || isSignClass k)) || (eqb c 12 && isSignClass k)
+glideBy c cover k = (eqb c 12 && (bare cover || isSignClass k)) || ((eqb c 13 && isSignClass k) || (eqb c 11 && eqb k 5))
 
 -- a hard boundary stands before place i: a gap there, and before it the end of a word, which the two bytes before tell
 unfoldable pub hardBefore : List ℕ → ℕ → Bool

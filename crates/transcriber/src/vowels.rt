@@ -2,10 +2,11 @@
 // The letter before is told by the class of the byte before, k: that of a break at the start of a word, of a mark after a stressed vowel.
 ghost use mathlib.Core.Path.{_≡_};
 ghost use mathlib.Core.Bool.{false, cond};
+ghost use Prim.Native.Nat.{_<_};
 ghost use Rattle.spec.specs.Letters.{small};
 ghost use Rattle.spec.specs.Vowels.{byLevel, byStress, rowА, rowО, rowЭ, rowЕ, rowЯ, rowИ};
 ghost use Rattle.spec.specs.Codes.{J};
-ghost use Rattle.message.specs.Classes.{classes, isBreakClass, isSignClass};
+ghost use Rattle.message.specs.Classes.{classCount, classes, isBreakClass, isSignClass};
 ghost use Rattle.transcriber.specs.Sounds.{Before, ByRow, glideBy, hardBefore, rowOf};
 ghost use Rattle.transcriber.specs.Walk.{VowelAt, Sung};
 use crate::Vowel;
@@ -150,17 +151,21 @@ fn is_sign_class(k: usize) -> bool
     (classes::HARD_SIGN <= k) & (k <= classes::SOFT_SIGN)
 }
 
-// Has a vowel of class c a glide, after a byte of class k?
+// Has a vowel of class c a glide, after a byte of class k? Of those that do not palatalize о has one after ь. The others have one after a sign, and of them е ё ю я in a bare syllable.
 fn has_glide(c: usize, s: Syllable, k: usize) -> bool
+    requires { ⌜ c < classCount ⌝ }
     ensures { λ r. ⌜ r ≡ glideBy c (s .cover) k ⌝ }
 {
-    if c != classes::GLIDE_VOWEL {
-        return (c == classes::VOWEL_I) & is_sign_class(k);
+    if c < classes::GLIDE_VOWEL {
+        return (c == classes::VOWEL_O) & (k == classes::SOFT_SIGN);
+    }
+    if is_sign_class(k) {
+        return true;
     }
     let cover = s.cover;
     match cover {
-        Cover::Bare => true,
-        Cover::Covered => is_sign_class(k),
+        Cover::Bare => c == classes::GLIDE_VOWEL,
+        Cover::Covered => false,
     }
 }
 

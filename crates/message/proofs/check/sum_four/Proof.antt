@@ -1,12 +1,12 @@
 -- Each entry is small, and each class is a kind of the table.
 use Rattle.laws.proofs.Kit.{ℕ, _+_, _<_, arith, getD, needs}
-use Rattle.message.specs.Classes.{classAt}
+use Rattle.message.specs.Classes.{classCount, classAt}
 use Rattle.message.proofs.Bytes.{by-class}
 use Rattle.message.proofs.check.sum_four.Statement.{statement}
 use Rattle.message.proofs.check.sum_four.Tie as tie
 
 -- the class of each byte is a kind
-small : (c : tie.After-class-of) (j : ℕ) → classAt (c .before .before .before .args .m .now) j < 13
+small : (c : tie.After-class-of) (j : ℕ) → classAt (c .before .before .before .args .m .now) j < classCount
 small c j = by-class (getD (c .before .before .before .args .m .now) j 0) (omega (arith, c .before .before .shared-slice-known .given j)) .class
 
 pub sum-four-spec : {M : Type 1} → statement M

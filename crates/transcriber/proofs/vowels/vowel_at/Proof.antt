@@ -1,15 +1,18 @@
 -- The syllable, the sound and the glide are those of the vowel in its word, since the class of the byte before tells the letter before.
 use Rattle.laws.proofs.Kit.{needs}
-use Rattle.transcriber.proofs.Walking.{sung-by}
+use Rattle.transcriber.proofs.Walking.{class-small, sung-by}
 use Rattle.transcriber.proofs.vowels.vowel_at.Statement.{statement}
 use Rattle.transcriber.proofs.vowels.vowel_at.Tie as tie
+
+-- where the sound is known
+abbrev start : tie.After-vowel-sound → tie.Start
+start v = v .before .before .before .before .before
 
 returns : tie.Need-returns
 returns c =
     let v = c .before in
     let y = v .before .before in
-    let k = y .before in
-    sung-by (k .before .before .pre .1) (k .class-before .ensures) (y .syllable-by .ensures) (v .vowel-sound .ensures) (c .has-glide .ensures)
+    sung-by (start v .pre .1) (y .before .class-before .ensures) (y .syllable-by .ensures) (v .vowel-sound .ensures) (c .has-glide .ensures)
 
 pub vowel-at-spec : {M : Type 1} → statement M
-vowel-at-spec = tie.close (tie.spec (λ c κs. search needs) (search needs) (search needs) (λ c κs. search needs) (search needs) returns)
+vowel-at-spec = tie.close (tie.spec (λ c κs. search needs) (search needs) (search needs) (λ c κs. search needs) (λ v κs. class-small (start v .pre .1)) returns)
