@@ -7,7 +7,7 @@ ghost use Rattle.spec.specs.Letters.{small};
 ghost use Rattle.spec.specs.Vowels.{byLevel, byStress, rowА, rowО, rowЭ, rowЕ, rowЯ, rowИ};
 ghost use Rattle.spec.specs.Codes.{J};
 ghost use Rattle.message.specs.Classes.{classCount, classes, isBreakClass, isSignClass};
-ghost use Rattle.transcriber.specs.Sounds.{Before, ByRow, glideBy, hardBefore, rowOf};
+ghost use Rattle.transcriber.specs.Sounds.{Before, ByRow, coverClass, glideBy, hardBefore, rowOf};
 ghost use Rattle.transcriber.specs.Walk.{VowelAt, Sung};
 use crate::Vowel;
 use crate::before::class_before;
@@ -151,21 +151,18 @@ fn is_sign_class(k: usize) -> bool
     (classes::HARD_SIGN <= k) & (k <= classes::SOFT_SIGN)
 }
 
-// Has a vowel of class c a glide, after a byte of class k? Of those that do not palatalize о has one after ь. The others have one after a sign, and of them е ё ю я in a bare syllable.
+// Has a vowel of class c a glide, after a byte of class k? Of those that do not palatalize о has one, after ь. The others have one after a sign, so in a covered syllable, and е ё ю я in every bare one.
 fn has_glide(c: usize, s: Syllable, k: usize) -> bool
-    requires { ⌜ c < classCount ⌝ }
+    requires { ⌜ (c < classCount) × (s .cover ≡ coverClass k) ⌝ }
     ensures { λ r. ⌜ r ≡ glideBy c (s .cover) k ⌝ }
 {
     if c < classes::GLIDE_VOWEL {
         return (c == classes::VOWEL_O) & (k == classes::SOFT_SIGN);
     }
-    if is_sign_class(k) {
-        return true;
-    }
     let cover = s.cover;
     match cover {
         Cover::Bare => c == classes::GLIDE_VOWEL,
-        Cover::Covered => false,
+        Cover::Covered => is_sign_class(k),
     }
 }
 

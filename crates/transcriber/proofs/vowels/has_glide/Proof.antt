@@ -1,9 +1,9 @@
--- Of the vowels that palatalize only е ё ю я have a glide where no sign stands before them; of the others о has one, after ь.
-use Rattle.laws.proofs.Kit.{ℕ, _<_, _≤_, _≡_, _&&_, _||_, and-false, and-true, or-comm, or-false, eqb, eqb-true, eqb-false, ne-eqb, arith, needs}
+-- The vowels that palatalize have a glide after a sign, which covers the syllable, and е ё ю я in a bare one; of the others о has one, after ь.
+use Rattle.laws.proofs.Kit.{ℕ, _<_, _≤_, _≡_, ap, _&&_, _||_, false, true≢false, and-false, and-true, or-comm, or-false, eqb, leb, eqb-true, eqb-false, ne-eqb, leb-false, lt-leb, arith, needs}
 use Rattle.laws.proofs.Classes.{either}
 use Rattle.message.specs.Classes.{classCount, isSignClass}
-use Rattle.spec.specs.{Vowels.bare, declared.Cover.Cover}
-use Rattle.transcriber.specs.Sounds.{glideBy}
+use Rattle.spec.specs.{Vowels.bare, declared.Cover.Cover, declared.Cover.the-variants.Bare}
+use Rattle.transcriber.specs.Sounds.{coverClass, glideBy}
 use Rattle.transcriber.proofs.vowels.has_glide.Statement.{statement}
 use Rattle.transcriber.proofs.vowels.has_glide.Tie as tie
 
@@ -17,9 +17,12 @@ palatal c cover k h l = either (eqb c 12)
     (λ e. rw (eqb-true c 12 e, or-false (bare cover || isSignClass k)) (or-comm (bare cover) (isSignClass k)))
     (λ e. let d : c ≡ 13 = omega (arith, eqb-false c 12 e) in rw d)
 
--- which is asked for by what stands before it
-asked : (c : tie.After-is-sign-class) → let a = c .before .before .args in glideBy (a .c) (a .s .cover) (a .k) ≡ (c .is-sign-class .result || (eqb (a .c) 12 && bare (a .s .cover)))
-asked c = let s = c .before .before in rw (c .is-sign-class .ensures) (palatal _ _ (s .args .k) (c .before .if1 .left) (s .pre))
+-- before a bare syllable stands no sign
+unsigned : (k : ℕ) → Bare ≡ coverClass k → isSignClass k ≡ false
+unfolding bare
+unsigned k e = either (leb 4 k)
+    (λ h. either (leb k 9) (λ l. absurd (true≢false (ap bare (rw (h, l) at e)))) (λ l. rw h (lt-leb k 5 (omega (arith, leb-false k 9 l)))))
+    (λ h. rw h)
 
 pub has-glide-spec : {M : Type 1} → statement M
 unfolding bare
@@ -27,8 +30,8 @@ has-glide-spec =
     tie.close
     (tie.spec
     (λ c. rw (plain _ (c .before .args .s .cover) (c .before .args .k) (c .if1 .taken)))
-    (search needs)
-    (λ c. rw (asked (c .before), c .if2 .taken))
-    (search needs) (search needs)
-    (λ c. let e = c .before .before in rw (asked (e .before), e .if2 .left, c .enum-told .given .1, and-true (eqb (e .before .before .before .args .c) 12)))
-    (λ c. let e = c .before .before in rw (asked (e .before), e .if2 .left, c .enum-told2 .given .1, and-false (eqb (e .before .before .before .args .c) 12))))
+    (search needs) (search needs) (search needs)
+    (λ c. let e = c .before .before in let s = e .before in let b = c .enum-told .given .1 in
+    rw (palatal _ (s .args .s .cover) (s .args .k) (e .if1 .left) (s .pre .0), b, unsigned (s .args .k) (rw b at (s .pre .1)), and-true (eqb (s .args .c) 12)))
+    (λ c. let e = c .before .before .before in let s = e .before in
+    rw (palatal _ (s .args .s .cover) (s .args .k) (e .if1 .left) (s .pre .0), c .before .enum-told2 .given .1, and-false (eqb (s .args .c) 12), or-false (isSignClass (s .args .k))) (c .is-sign-class .ensures)))

@@ -1,5 +1,5 @@
 -- The syllable, the sound and the glide are those of the vowel in its word, since the class of the byte before tells the letter before.
-use Rattle.laws.proofs.Kit.{needs}
+use Rattle.laws.proofs.Kit.{ap, needs}
 use Rattle.transcriber.proofs.Walking.{class-small, sung-by}
 use Rattle.transcriber.proofs.vowels.vowel_at.Statement.{statement}
 use Rattle.transcriber.proofs.vowels.vowel_at.Tie as tie
@@ -15,4 +15,4 @@ returns c =
     sung-by (start v .pre .1) (y .before .class-before .ensures) (y .syllable-by .ensures) (v .vowel-sound .ensures) (c .has-glide .ensures)
 
 pub vowel-at-spec : {M : Type 1} → statement M
-vowel-at-spec = tie.close (tie.spec (λ c κs. search needs) (search needs) (search needs) (λ c κs. search needs) (λ v κs. class-small (start v .pre .1)) returns)
+vowel-at-spec = tie.close (tie.spec (λ c κs. search needs) (search needs) (search needs) (λ c κs. search needs) (λ v κs. (class-small (start v .pre .1), ap (λ s. s .cover) (v .before .before .syllable-by .ensures))) returns)
