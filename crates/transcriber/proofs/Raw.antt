@@ -29,6 +29,10 @@ module _ {b c : ℕ} (h : b < 256) (e : c ≡ classOf b) where
       let o : c ≡ 1 → ⊥ = λ o. true≢false (sym (by-class b h .mark ∙ eq-eqb (classOf b) 1 (sym e ∙ o)) ∙ k) in
       between-true 2 3 c (omega arith) (omega arith)
 
+  -- so such a byte is a break
+  pub break-byte : (classOf b ≡ 0 → ⊥) → c < 4 → isMark b ≡ false → isBreak b ≡ true
+  break-byte n l k = by-class b h .break ∙ (rw e at (break-class n l k))
+
 -- two functions that agree on the bytes that pass a test agree at each of them
 pub where-same : {A : Type 0} (t : ℕ → Bool) (f g : ℕ → A) (d : A) (b : ℕ) → map (λ x. cond (t x) (f x) d) (below 256) ≡ map (λ x. cond (t x) (g x) d) (below 256)
     → b < 256 → t b ≡ true → f b ≡ g b

@@ -1,9 +1,9 @@
 -- The class tells a vowel from another letter, and those from marks and breaks; of these the byte itself tells the mark.
 use Rattle.laws.proofs.Kit.{ℕ, _<_, _≤_, _≡_, _∙_, true, false, arith, needs, lt-leb, ne-eqb}
-use Rattle.spec.specs.{Letters.isBreak, Letters.isMark, Refusals.vowelByte}
+use Rattle.spec.specs.{Letters.isMark, Refusals.vowelByte}
 use Rattle.message.specs.Classes.{classOf}
 use Rattle.message.proofs.Bytes.{by-class}
-use Rattle.transcriber.proofs.{Levelling.plain-letter, Raw.between-true, Raw.vowel-class, Raw.break-class}
+use Rattle.transcriber.proofs.{Levelling.plain-letter, Raw.between-true, Raw.vowel-class, Raw.break-byte}
 use Rattle.transcriber.proofs.levels.step.Statement.{statement}
 use Rattle.transcriber.proofs.levels.step.Tie as tie
 
@@ -13,9 +13,6 @@ module _ {b c : ℕ} (h : b < 256) (e : c ≡ classOf b) where
 
   quiet : c < 10 → vowelByte b ≡ false
   quiet l = by-class b h .vowel ∙ rw (← e, lt-leb 10 c l)
-
-  breaks : (classOf b ≡ 0 → ⊥) → c < 4 → isMark b ≡ false → isBreak b ≡ true
-  breaks n l k = by-class b h .break ∙ (rw e at (break-class h e n l k))
 
 -- the byte
 byte : (k : tie.After-class-of) → k .before .args .b < 256
@@ -34,4 +31,4 @@ step-spec =
     (λ c. let e = c .before .before in let k = e .before .before in rw (quiet (byte k) (k .class-of .ensures) (e .if1 .left), c .if3 .taken))
     (search needs)
     (λ c. let o = c .before in let e = o .before .before in let k = e .before .before in let n = ne-eqb _ 42 (o .if3 .left) in
-    rw (quiet (byte k) (k .class-of .ensures) (e .if1 .left), n, breaks (byte k) (k .class-of .ensures) (k .before .pre .named) (o .before .if2 .left) n) (c .at-word-end .ensures)))
+    rw (quiet (byte k) (k .class-of .ensures) (e .if1 .left), n, break-byte (byte k) (k .class-of .ensures) (k .before .pre .named) (o .before .if2 .left) n) (c .at-word-end .ensures)))

@@ -4,7 +4,7 @@ use Rattle.spec.specs.Letters.{isBreak, isMark}
 use Rattle.message.specs.Classes.{classOf, isVowelClass}
 use Rattle.message.proofs.{Bytes.by-class, Bytes.vowel-break, Left.mark-within}
 use Rattle.transcriber.proofs.Namings.{other-piece, named-within, word-ends, named-break}
-use Rattle.transcriber.proofs.{Levelling.plain-letter, Levelling.mark-vowel, Levelling.levels-due, Levelling.break-due, Raw.between-true, Raw.vowel-class, Raw.break-class}
+use Rattle.transcriber.proofs.{Levelling.plain-letter, Levelling.mark-vowel, Levelling.levels-due, Levelling.break-due, Raw.between-true, Raw.vowel-class, Raw.break-byte}
 use Rattle.transcriber.proofs.naming.step.Statement.{statement}
 use Rattle.transcriber.proofs.naming.step.Tie as tie
 
@@ -21,8 +21,7 @@ unfolding isMark
 breaks c =
     let k = c .before .before .before .before in
     let s = k .before .before .before .before in
-    let h = s .pre .1 .steady .bytes (s .args .i) in
-    by-class _ h .break ∙ (rw (k .class-of .ensures) at (break-class h (k .class-of .ensures) (s .pre .1 .steady .named (s .args .i) (s .pre .1 .within)) (c .before .if2 .left) (ne-eqb _ 42 (c .if3 .left))))
+    break-byte (s .pre .1 .steady .bytes (s .args .i)) (k .class-of .ensures) (s .pre .1 .steady .named (s .args .i) (s .pre .1 .within)) (c .before .if2 .left) (ne-eqb _ 42 (c .if3 .left))
 
 pub step-spec : {M : Type 1} → statement M
 unfolding isMark
