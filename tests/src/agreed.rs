@@ -6,6 +6,7 @@ use std::thread;
 use std::time::Duration;
 
 use crate::answers::{Answer, Whole};
+use crate::demand3::Pair;
 use crate::program::{Program, GOVORUN, SPEAK};
 use crate::refusals::Refusal;
 use crate::text::hex;
@@ -51,6 +52,12 @@ pub fn tape(msg: &[u8], cap: usize) -> Result<Vec<u8>, Refusal> {
 pub fn join(msg: &[u8], cuts: &[usize], cap: usize) -> Result<Joined, Refusal> {
     with_output(Operation::Join(cuts), msg, cap).map(|(tape, live)| Joined { tape, live })
 }
+
+/// Transcriber and joiner with room enough, for the questions of demand 3.
+pub const PAIR: Pair = Pair {
+    tape: |msg| tape(msg, usize::MAX).ok(),
+    join: |msg, cuts| join(msg, cuts, usize::MAX).expect("good cuts"),
+};
 
 /// What the program `govorun` prints for a message.
 pub fn print(input: &[u8]) -> String {

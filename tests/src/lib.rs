@@ -1,5 +1,6 @@
-//! A second implementation of document 01 and of requests 1 and 2 of document 02, written from the
-//! papers for comparison. It says what each operation must answer; it is plain rather than fast.
+//! A second implementation of document 01 and of requests 1, 2 and 4 of document 02, written from
+//! the papers for comparison. It says what each operation must answer; it is plain rather than
+//! fast.
 //!
 //! The modules follow the papers: letters, refusals, the five passes, codes, joints; then editing
 //! and UTF-8. Beside them stand `gen` with the messages to try, `unit` and `program` with the

@@ -59,12 +59,14 @@ fn speak_vowel(word: &Word, syllable: &Syllable, hard_boundary: bool) -> Spoken 
     }
 }
 
-/// The paragraph below the rows: where a glide is put before the vowel.
+/// The paragraph below the rows, with request 4 of document 02: where a glide is put before the
+/// vowel. The request names ь alone, so о after ъ has none.
 fn has_glide(vowel: char, cover: Cover, previous: Option<char>) -> bool {
     let after_sign = previous.is_some_and(is_sign);
     match vowel {
         'е' | 'ё' | 'ю' | 'я' => cover == Cover::Bare || after_sign,
         'и' => after_sign,
+        'о' => previous == Some('ь'),
         _ => false,
     }
 }

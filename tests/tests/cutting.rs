@@ -1,19 +1,12 @@
 //! Demand 3 by search: the tape of a whole message beside the tapes of its parts, for every list
 //! of cuts of every short message over small alphabets, and for random ones of long messages.
 
-use govorun_tests::agreed::{join, tape};
-use govorun_tests::demand3::Pair;
+use govorun_tests::agreed::{tape, PAIR};
 use govorun_tests::gen::noise::every_string;
 use govorun_tests::gen::{every_list, good_cuts, message_of_any_length, Rng};
 use govorun_tests::joints::live_places;
 use govorun_tests::message::breaks;
 use govorun_tests::{cp1251, show};
-
-/// The transcriber and the joiner, the library's and those written from the paper alike.
-const PAIR: Pair = Pair {
-    tape: |msg| tape(msg, usize::MAX).ok(),
-    join: |msg, cuts| join(msg, cuts, usize::MAX).expect("good cuts"),
-};
 
 fn tape_of(msg: &[u8]) -> Vec<u8> {
     tape(msg, usize::MAX).expect("an accepted message")

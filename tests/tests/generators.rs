@@ -10,6 +10,8 @@ use govorun_tests::gen::utf8::{taken, untaken};
 use govorun_tests::gen::{
     bad_cuts, damaged, every_list, good_cuts, message, message_of_any_length, noise, Rng,
 };
+use govorun_tests::message::words;
+use govorun_tests::syllables::syllables;
 use govorun_tests::{cp1251, hex, show, Refusal};
 
 #[test]
@@ -46,6 +48,27 @@ fn accepted_messages_meet_every_sound() {
     let unseen: Vec<usize> = (0..256).filter(|&code| !seen[code]).collect();
     let never: Vec<usize> = [14, 15].into_iter().chain(57..63).chain(64..256).collect();
     assert_eq!(unseen, never);
+}
+
+#[test]
+fn accepted_messages_meet_o_after_either_sign_at_every_level() {
+    let mut rng = Rng::for_test(14);
+    let (mut after_soft, mut after_hard) = ([0; 3], [0; 3]);
+    for _ in 0..3000 {
+        for word in words(&message_of_any_length(&mut rng)) {
+            for syllable in syllables(&word) {
+                let (vowel, level) = (syllable.vowel, syllable.level as usize);
+                match (word.previous(vowel), word.letters[vowel].letter) {
+                    (Some('ь'), 'о') => after_soft[level] += 1,
+                    (Some('ъ'), 'о') => after_hard[level] += 1,
+                    _ => {}
+                }
+            }
+        }
+    }
+    println!("after ь {after_soft:?}, after ъ {after_hard:?}");
+    let met = after_soft.iter().chain(&after_hard);
+    assert!(met.copied().min() >= Some(300));
 }
 
 #[test]

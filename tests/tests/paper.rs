@@ -1,5 +1,5 @@
-//! The examples of document 01, its refusal table, its words to prove, the mistakes it names, and
-//! the settled readings.
+//! The examples of document 01, its refusal table, its words to prove, the mistakes it names, the
+//! settled readings, and the words of request 4 of document 02.
 
 use govorun_tests::agreed::{check, join, lent, names, print, tape};
 use govorun_tests::codes::NAMES;
@@ -83,9 +83,18 @@ fn refusals_near_the_edge() {
     assert_eq!(refused(&format!("{longest} ")), (4, 4095));
 }
 
+/// Each word as listed, in small letters and in capitals.
+fn sounds_in_either_case(list: &[(&str, &str)]) {
+    for (text, expected) in list {
+        assert_eq!(sounds(text), *expected, "{text}");
+        let capitals = text.to_uppercase();
+        assert_eq!(sounds(&capitals), *expected, "{capitals}");
+    }
+}
+
 #[test]
 fn words_to_prove() {
-    let list = [
+    sounds_in_either_case(&[
         ("вода*", "В А1 Д А*"),
         ("ду*б го*л", "Д У* Б | Г О* Л"),
         ("ду*б#го*л", "Д У* П # Г О* Л"),
@@ -96,11 +105,59 @@ fn words_to_prove() {
         ("сте*нды", "С' Т' Э* Н Д Ы1"),
         ("про*сьба", "П Р О* З' Б А2"),
         ("жена*", "Ж Ы1 Н А*"),
-    ];
-    for (text, expected) in list {
-        assert_eq!(sounds(text), expected, "{text}");
-        assert_eq!(sounds(&text.to_uppercase()), expected, "{text} in capitals");
-    }
+    ]);
+}
+
+/// Request 4: о after ь has a glide at every level.
+#[test]
+fn o_after_soft_sign() {
+    sounds_in_either_case(&[
+        ("бульо*н", "Б У1 Л' J О* Н"),
+        ("каньо*н", "К А1 Н' J О* Н"),
+        ("медальо*н", "М' Э2 Д А1 Л' J О* Н"),
+        // Unmarked, level 1, and level 2 before the mark and after it.
+        ("бульон", "Б У1 Л' J А1 Н"),
+        ("гильоти*на", "Г' И1 Л' J А1 Т' И* Н А2"),
+        ("гильотини*ровать", "Г' И1 Л' J А2 Т' И1 Н' И* Р А2 В А2 Т'"),
+        ("бо*льо", "Б О* Л' J А2"),
+        // Noise letters before the glide are voiced as written; ж ш ч щ and й keep their sounds.
+        ("бьо*б пьо*п", "Б' J О* П | П' J О* П"),
+        ("шьо*", "Ш J О*"),
+        ("ружьо*", "Р У1 Ж J О*"),
+        ("щьо чьо*", "Щ J А1 | Ч J О*"),
+        ("йьо*", "J J О*"),
+        // Such an о is after ь and not after ч.
+        ("ба*чо ба*чьо", "Б А* Ч Э2 | Б А* Ч J А2"),
+    ]);
+    assert_eq!(sounds("буЛЬо*н"), "Б У1 Л' J О* Н");
+    assert_eq!(sounds("бульО*н"), "Б У1 Л' J О* Н");
+    let counts = check(&cp1251("бульо*н"));
+    assert_eq!(counts, Ok(Counts { codes: 6, names: 3 }));
+    assert_eq!(named("бульо*н"), [3, 1, 7]);
+    assert_eq!(named("гильотини*ровать"), [5, 5, 3, 1, 5, 5, 7]);
+}
+
+/// Request 4 gives a glide to nothing else.
+#[test]
+fn plain_vowels_without_a_glide() {
+    sounds_in_either_case(&[
+        // о after ъ, after a consonant, which stays hard, after a vowel and at the start.
+        ("подъо*м", "П А1 Д О* М"),
+        ("объо отъопи*ть", "А1 Б А1 | А1 Т А1 П' И* Т'"),
+        ("по*дъом", "П О* Д А2 М"),
+        ("подъопери*ть", "П А2 Д А2 П' Э1 Р' И* Т'"),
+        ("ло*н лон", "Л О* Н | Л А1 Н"),
+        ("райо*н", "Р А1 J О* Н"),
+        ("као* о*н он", "К А1 О* | О* Н | А1 Н"),
+        // The other plain vowels after ь, at every level.
+        ("кольа* кольа", "К А1 Л' А* | К А1 Л' А1"),
+        ("ко*льа ко*льэ", "К О* Л' А2 | К О* Л' Э2"),
+        ("кольу* кольу", "К А1 Л' У* | К А1 Л' У1"),
+        ("кольы* кольы", "К А1 Л' Ы* | К А1 Л' Ы1"),
+        ("кольэ* кольэ", "К А1 Л' Э* | К А1 Л' Э1"),
+    ]);
+    assert_eq!(refused("аьо"), (9, 2));
+    assert_eq!(refused("а*ьо*"), (9, 3));
 }
 
 #[test]

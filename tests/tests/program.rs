@@ -77,7 +77,7 @@ fn bytes_and_strings_without_sense() {
     for _ in 0..1000 {
         let length = rng.below(60);
         messages.push(bytes(&mut rng, length));
-        let alphabet = rng.pick(&["абв* #", "иэдьж* ", "стндзцк ", "сбьъа ", "а7\n*"]);
+        let alphabet = rng.pick(&["абв* #", "иэдьж* ", "стндзцк ", "сбьъа ", "лоьъ* ", "а7\n*"]);
         let length = rng.between(3, 12);
         messages.push(string(&mut rng, &cp1251(alphabet), length));
     }

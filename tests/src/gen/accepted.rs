@@ -27,7 +27,7 @@ type Maker = fn(&mut Rng) -> String;
 const MAKERS: &[Maker] = &[
     real, real, real, real, syllabic, syllabic, syllabic, with_cluster, with_cluster, one_obstruent,
     one_obstruent, one_obstruent, opening_i_or_e, opening_i_or_e, hushing_with_soft_sign,
-    ending_in_hard_sign, without_vowel, unmarked, with_many_marks, babble,
+    ending_in_hard_sign, o_after_sign, without_vowel, unmarked, with_many_marks, babble,
 ];
 
 /// A random word that no row of the refusals fits.
@@ -231,6 +231,19 @@ fn ending_in_hard_sign(rng: &mut Rng) -> String {
         made.push(rng.pick(CONSONANTS));
     }
     made.push('ъ');
+    made
+}
+
+/// о after ь, which gives it a glide, or after ъ, which gives it none; at any level.
+fn o_after_sign(rng: &mut Rng) -> String {
+    let stressed = rng.one_in(4);
+    let mut made = syllable(rng, stressed);
+    made.push(rng.pick(CONSONANTS));
+    made.push(rng.pick(SIGNS));
+    made.push_str(rng.pick(&["о", "о", "о*"]));
+    if rng.one_in(2) {
+        made.push_str(&syllabic(rng));
+    }
     made
 }
 

@@ -5,7 +5,7 @@ use crate::refusals::MAX_BYTES;
 use crate::text::cp1251;
 
 /// The longest tape, the most words, the longest words, the longest chains of voice and softness,
-/// the most marks and silent letters; and random messages.
+/// the most marks, silent letters and glides after signs; and random messages.
 pub fn extreme_messages(rng: &mut Rng, random: usize) -> Vec<Vec<u8>> {
     let mut messages = vec![
         repeated(&"я".repeat(64), 63),
@@ -18,6 +18,8 @@ pub fn extreme_messages(rng: &mut Rng, random: usize) -> Vec<Vec<u8>> {
         repeated(&"а*".repeat(31), 65),
         repeated(&"а*".repeat(64), 31),
         repeated("стн", 1024),
+        repeated(&("дьо".repeat(21) + "к"), 63),
+        repeated(&("дьо*".repeat(21) + "к"), 47),
         repeated("жь и", 800),
     ];
     messages.extend((0..random).map(|_| message(rng, MAX_BYTES)));
