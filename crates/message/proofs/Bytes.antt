@@ -1,16 +1,16 @@
 -- What holds of every number below a bound is one computation, so a byte's tests go by its class.
 use Rattle.laws.proofs.Kit.{ℕ, suc, _<_, _≡_, refl, Bool, true, false, _&&_, _||_, List, [], _∷_, map, arith, eqb, leb, leb-true, ne-eqb}
 use Rattle.laws.proofs.Classes.{below, below-same}
-use Rattle.spec.specs.Alphabet.{«д», «е», «ё», «и», «о», «т», «ь», «ю», «я»}
+use Rattle.spec.specs.Alphabet.{«д», «и», «о», «т», «ь»}
 use Rattle.spec.specs.Letters.{small, isMark, isBreak, isConsonant}
 use Rattle.spec.specs.Refusals.{vowelByte, signByte, hardSignByte, consonantByte, letterByte}
-use Rattle.spec.specs.Tables.{among}
+use Rattle.spec.specs.{Tables.among, Vowels.iotated}
 use Rattle.message.specs.Classes.{classOf, classCount, isBreakClass, isSignClass, isConsonantClass, isVowelClass, isLetterClass, isTOrD}
 use Rattle.message.proofs.Computed.{everything}
 
 -- the tests of a byte
 abbrev tests : ℕ → List Bool
-tests b = isMark b ∷ isBreak b ∷ vowelByte b ∷ signByte b ∷ hardSignByte b ∷ eqb (small b) «ь» ∷ consonantByte b ∷ letterByte b ∷ among («т» ∷ «д» ∷ []) (small b) ∷ isTOrD b ∷ eqb (small b) «о» ∷ among («е» ∷ «ё» ∷ «ю» ∷ «я» ∷ []) (small b) ∷ eqb (small b) «и» ∷ true ∷ []
+tests b = isMark b ∷ isBreak b ∷ vowelByte b ∷ signByte b ∷ hardSignByte b ∷ eqb (small b) «ь» ∷ consonantByte b ∷ letterByte b ∷ among («т» ∷ «д» ∷ []) (small b) ∷ isTOrD b ∷ eqb (small b) «о» ∷ among iotated (small b) ∷ eqb (small b) «и» ∷ true ∷ []
 
 -- what its class says of them
 abbrev classTests : ℕ → List Bool
@@ -34,7 +34,7 @@ pub record ByClass (b : ℕ) : Type 0 where
   pub silent : among («т» ∷ «д» ∷ []) (small b) ≡ eqb (classOf b) 8
   pub tOrD : isTOrD b ≡ eqb (classOf b) 8
   pub vowelO : eqb (small b) «о» ≡ eqb (classOf b) 11
-  pub glideVowel : among («е» ∷ «ё» ∷ «ю» ∷ «я» ∷ []) (small b) ≡ eqb (classOf b) 12
+  pub iotatedVowel : among iotated (small b) ≡ eqb (classOf b) 12
   pub vowelI : eqb (small b) «и» ≡ eqb (classOf b) 13
   pub class : classOf b < classCount
 
@@ -42,7 +42,7 @@ pub record ByClass (b : ℕ) : Type 0 where
 pub by-class : (b : ℕ) → b < 256 → ByClass b
 by-class b h =
     let e = tests-same b h in
-    record { mark = cc; break = cc; vowel = cc; sign = cc; hardSign = cc; softSign = cc; consonant = cc; letter = cc; silent = cc; tOrD = cc; vowelO = cc; glideVowel = cc; vowelI = cc; class = leb-true (suc (classOf b)) classCount (cc) }
+    record { mark = cc; break = cc; vowel = cc; sign = cc; hardSign = cc; softSign = cc; consonant = cc; letter = cc; silent = cc; tOrD = cc; vowelO = cc; iotatedVowel = cc; vowelI = cc; class = leb-true (suc (classOf b)) classCount (cc) }
 
 -- two tests that no byte passes both
 pub not-both : (f g : ℕ → Bool) (b : ℕ) → map (λ x. f x && g x) (below 256) ≡ map (λ _. false) (below 256) → b < 256 → f b ≡ true → g b ≡ false

@@ -1,9 +1,9 @@
 -- The counts of the check are the lengths of the tape and of the names: each byte is counted as many codes and names as it puts before what comes after it, told by its class and the kind before it.
 use Rattle.laws.proofs.Kit.{ℕ, zero, suc, _+_, _<_, _≤_, _≡_, refl, sym, ap, _∙_, Bool, true, false, cond, _&&_, _||_, true≢false, List, [], _∷_, eqb, length, getD, length-append, eqb-true, arith}
-use Rattle.spec.specs.Alphabet.{«е», «ё», «и», «о», «ь», «ю», «я»}
+use Rattle.spec.specs.Alphabet.{«и», «о», «ь»}
 use Rattle.spec.specs.Letters.{Letter, isMark, isBreak, isVowel, isSign, isConsonant}
 use Rattle.spec.specs.Syllables.{Facts, coverAfter, syllableOf, incomplete}
-use Rattle.spec.specs.{Tables.among, Elision.elides, Vowels.bare, Vowels.glides, Voicing.Tone, Tape.tape, Tape.names, Refusals.vowelByte, Refusals.signByte, declared.Cover.the-variants.Bare, declared.Cover.the-variants.Covered}
+use Rattle.spec.specs.{Tables.among, Elision.elides, Vowels.bare, Vowels.iotated, Vowels.glides, Voicing.Tone, Tape.tape, Tape.names, Refusals.vowelByte, Refusals.signByte, declared.Cover.the-variants.Bare, declared.Cover.the-variants.Covered}
 use Rattle.message.specs.Classes.{classOf, classCount, isBreakClass, isSignClass, isConsonantClass, isVowelClass, isLetterClass}
 use Rattle.message.specs.Steps.{isSignKind, isSoftSignKind, kindAt, widthIn, widthAt, codesTo, namesIn, namesTo, tailNames}
 use Rattle.message.specs.Places.{leftAt, factsAt, toneAt, soundAt, tapeAt, wordAt, letterOf, codesAt, namesAt, Steady}
@@ -19,7 +19,7 @@ heard k g y s v e i o = cond s 0 (cond v (cond ((e && (bare (cond (k || g) Cover
 -- it makes as many, or none
 letter-length : (hard : Bool) (facts : Facts) (p : ℕ) (l : Letter) (w : List Letter) (tone : Tone) (c : ℕ)
     → length (letterCodes hard facts p l w tone c)
-    ≡ cond (elides p (l .byte) w) 0 (heard (isConsonant p) (isSign p) (eqb p «ь») (isSign (l .byte)) (isVowel (l .byte)) (among («е» ∷ «ё» ∷ «ю» ∷ «я» ∷ []) (l .byte)) (eqb (l .byte) «и») (eqb (l .byte) «о»))
+    ≡ cond (elides p (l .byte) w) 0 (heard (isConsonant p) (isSign p) (eqb p «ь») (isSign (l .byte)) (isVowel (l .byte)) (among iotated (l .byte)) (eqb (l .byte) «и») (eqb (l .byte) «о»))
 unfolding letterCodes vowelCodes glides coverAfter syllableOf
 letter-length hard facts p l w tone c = simp (cond-app (length {A = ℕ}))
 
@@ -56,7 +56,7 @@ module _ (m : List ℕ) (steady : Steady m) where
       let l = letter-length (leftAt m i .hard) (factsAt m i) (leftAt m i .p) (letterOf m i) (wordAt m (suc i)) (toneAt m (suc i)) (soundAt m (suc i)) in
       let n = heard-counted (kindAt m i) (classOf (getD m i 0)) (kind-small m (steady .bytes) i) (c .class) (letter-class (getD m i 0) t b k (steady .named i h)) in
       let a = kind-at m steady i (omega arith) in
-      l ∙ rw (elided-at m steady i h b k, a .consonant, a .sign, a .softSign, c .sign, c .vowel, c .glideVowel, c .vowelI, c .vowelO, n)
+      l ∙ rw (elided-at m steady i h b k, a .consonant, a .sign, a .softSign, c .sign, c .vowel, c .iotatedVowel, c .vowelI, c .vowelO, n)
 
   -- each byte is counted as many codes as it puts before the rest's
   pub codes-step : (i : ℕ) → i < length m → length (tapeAt m i) ≡ widthAt m i (kindAt m i) + length (tapeAt m (suc i))

@@ -5,10 +5,10 @@ use mathlib.Core.Bool.{Bool, cond, _||_}
 use mathlib.Core.List.{List, [], _∷_}
 use lib.Dec.{eqb, leb}
 use lib.ListN.{getD}
-use Rattle.spec.specs.Alphabet.{gap, pause, «д», «е», «ё», «и», «н», «о», «с», «т», «ц», «ч», «ш», «ъ», «ь», «ю», «я»}
+use Rattle.spec.specs.Alphabet.{gap, pause, «д», «и», «н», «о», «с», «т», «ц», «ч», «ш», «ъ», «ь»}
 use Rattle.spec.specs.Tables.{among}
 use Rattle.spec.specs.Letters.{between, small, isMark, isHardOnly, isPaired, isSoftOnly, isVowel}
-use Rattle.spec.specs.Elision.{elidesAmong}
+use Rattle.spec.specs.{Elision.elidesAmong, Vowels.iotated}
 
 -- The class of a small letter: 4 ъ, 5 ь, 6 hard only, 7 paired, 8 т and д, which may be elided, 9 soft only, 10 other vowels, 11 о, 12 е ё ю я, 13 и; 0 for no letter. The vowels that palatalize come last.
 unfoldable pub letterClass : ℕ → ℕ
@@ -20,7 +20,7 @@ letterClass s =
     (cond (isPaired s) 7
     (cond (isSoftOnly s) 9
     (cond (eqb s «о») 11
-    (cond (among («е» ∷ «ё» ∷ «ю» ∷ «я» ∷ []) s) 12
+    (cond (among iotated s) 12
     (cond (eqb s «и») 13
     (cond (isVowel s) 10 0)))))))))
 

@@ -23,7 +23,7 @@ pub const PLAIN_VOWEL: usize = 10;
 
 pub const VOWEL_O: usize = 11;
 // е ё ю я
-pub const GLIDE_VOWEL: usize = 12;
+pub const IOTATED: usize = 12;
 
 pub const VOWEL_I: usize = 13;
 
@@ -34,8 +34,10 @@ pub const SOFT_SIGN_AFTER_VOWEL: usize = 15;
 
 pub const AFTER_VOWEL_STEP: usize = SOFT_SIGN_AFTER_VOWEL - SOFT_SIGN;
 
-// The first class of letters.
+// The first class of letters, and of the vowels that palatalize.
 pub const FIRST_LETTER: usize = HARD_SIGN;
+
+pub const FIRST_PALATALIZING: usize = IOTATED;
 
 // How many bytes there are, and so entries of a table by byte; the longest message and the longest word.
 pub const BYTES: usize = 256;

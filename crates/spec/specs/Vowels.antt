@@ -98,10 +98,14 @@ unfoldable pub bare : Cover → Bool
 bare Bare = true
 bare Covered = false
 
+-- the iotated vowels, which the paper names first of those with J
+abbrev pub iotated : List ℕ
+iotated = «е» ∷ «ё» ∷ «ю» ∷ «я» ∷ []
+
 -- Has the vowel b, after p, a glide (the paper's J) before its sound? е ё ю я have one in a bare syllable, and they and и have one after a sign. о has one after ь (paper 02, request 4).
 unfoldable pub glides : ℕ → Cover → ℕ → Bool
 glides p cover b =
-    (among («е» ∷ «ё» ∷ «ю» ∷ «я» ∷ []) b && (bare cover || isSign p))
+    (among iotated b && (bare cover || isSign p))
     || ((eqb b «и» && isSign p)
     || (eqb b «о» && eqb p «ь»))
 

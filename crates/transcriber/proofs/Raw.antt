@@ -167,4 +167,4 @@ module _ (m : List ℕ) (steady : Steady m) where
   glide-raw i h cover =
       let b = by-class (getD m i 0) (steady .bytes i) in
       let t = told-at i (omega arith) in
-      rw (t .sign, t .softSign, b .vowelO, b .glideVowel, b .vowelI)
+      rw (t .sign, t .softSign, b .vowelO, b .iotatedVowel, b .vowelI)

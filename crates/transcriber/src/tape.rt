@@ -141,7 +141,7 @@ fn put_vowel(m: &[u8], i: usize, c: usize, r: Right, out: &mut [u8], t: &ClassTa
     let level = level_of(r.levels);
     let vowel = vowel_at(m, i, c, level, t);
     let at = put_sung(out, r.at, vowel);
-    let sound = sound_of(first_code(vowel), classes::GLIDE_VOWEL <= c);
+    let sound = sound_of(first_code(vowel), classes::FIRST_PALATALIZING <= c);
     Right { at, sound, levels }
 }
 

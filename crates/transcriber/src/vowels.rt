@@ -156,12 +156,12 @@ fn has_glide(c: usize, s: Syllable, k: usize) -> bool
     requires { ⌜ (c < classCount) × (s .cover ≡ coverClass k) ⌝ }
     ensures { λ r. ⌜ r ≡ glideBy c (s .cover) k ⌝ }
 {
-    if c < classes::GLIDE_VOWEL {
+    if c < classes::FIRST_PALATALIZING {
         return (c == classes::VOWEL_O) & (k == classes::SOFT_SIGN);
     }
     let cover = s.cover;
     match cover {
-        Cover::Bare => c == classes::GLIDE_VOWEL,
+        Cover::Bare => c == classes::IOTATED,
         Cover::Covered => is_sign_class(k),
     }
 }
