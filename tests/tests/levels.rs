@@ -11,7 +11,9 @@ const SYLLABLES: &str = "навосутымэлерёкинювясатомул�
 const LONGEST: usize = 4096;
 
 fn vowels(word: &str) -> usize {
-    word.chars().filter(|&letter| "аоуыэеёиюя".contains(letter)).count()
+    word.chars()
+        .filter(|&letter| "аоуыэеёиюя".contains(letter))
+        .count()
 }
 
 /// The word with a mark on each vowel of which `is_marked` says so by its number.
@@ -37,7 +39,10 @@ fn names(text: &str) -> Vec<u8> {
 /// The levels of pass 2, told from the marks: 0 for S.
 fn level(count: usize, is_marked: &impl Fn(usize) -> bool, number: usize) -> u8 {
     let any = (0..count).any(is_marked);
-    match (is_marked(number), number + 1 < count && is_marked(number + 1)) {
+    match (
+        is_marked(number),
+        number + 1 < count && is_marked(number + 1),
+    ) {
         (true, _) => 0,
         (false, true) => 1,
         (false, false) => 1 + u8::from(any),
@@ -52,14 +57,16 @@ fn expected(count: usize, is_bare: bool, is_marked: impl Fn(usize) -> bool) -> V
 
 #[test]
 fn every_set_of_marks_beside_other_words() {
-    for (word, is_bare) in [("аоуыэеёию", true), ("навосутымэлерёкиню", false)] {
+    for (word, is_bare) in [("аоуыэеёию", true), ("навосутымэлерёкиню", false)]
+    {
         let count = vowels(word);
         for set in 0..1 << count {
             let is_marked = |number: usize| set >> number & 1 == 1;
             let written = marked(word, is_marked);
             let own = expected(count, is_bare, is_marked);
             assert_eq!(names(&written), own);
-            for (before, after) in [("о* ", " у"), ("о ", " у*"), ("о*#", "#у*"), ("к ", " к")] {
+            for (before, after) in [("о* ", " у"), ("о ", " у*"), ("о*#", "#у*"), ("к ", " к")]
+            {
                 let all = names(&format!("{before}{written}{after}"));
                 assert_eq!(all[1..=count], own, "{before}{written}{after}");
             }
@@ -79,7 +86,10 @@ fn a_mark_at_every_place_of_the_longest_words() {
         let count = vowels(word);
         let tries = |is_marked: &dyn Fn(usize) -> bool| {
             let (text, words) = filled(&marked(word, is_marked));
-            assert_eq!(names(&text), expected(count, is_bare, is_marked).repeat(words));
+            assert_eq!(
+                names(&text),
+                expected(count, is_bare, is_marked).repeat(words)
+            );
         };
         for place in 0..count {
             tries(&|number| number == place);

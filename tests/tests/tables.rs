@@ -14,7 +14,9 @@ fn rows(document: &str, head: &str) -> Vec<Vec<String>> {
     let rows = below.skip(2).take_while(|line| line.starts_with('|'));
     rows.map(|line| line.replace("\\|", "\u{1}"))
         .map(|line| {
-            let line = line.strip_prefix('|').and_then(|line| line.strip_suffix('|'));
+            let line = line
+                .strip_prefix('|')
+                .and_then(|line| line.strip_suffix('|'));
             let cells = line.expect("a row").split('|');
             cells
                 .map(|cell| cell.trim().trim_matches('`').replace('\u{1}', "|"))

@@ -121,24 +121,26 @@ fn pass_fours(m: &[u8], to: usize, seen: Seen, t: &ClassTable, s: &PairTable) ->
     }
 }
 
-// How many letters of its word stand before the place of what is seen, counted back to a break or to the letters counted before.
+// How many letters of its word stand before the place of what is seen: all bytes but the marks, back to a break or to the letters counted before. Marks are fewer than letters, so they are what is counted.
 fn letters_at(m: &[u8], seen: Seen, t: &ClassTable) -> usize
     requires { ⌜ (now t ≡ classes) × Sees (now m) seen ⌝ }
     ensures { λ r. ⌜ r ≡ lettersAt (now (m .entry)) (seen .at) ⌝ }
 {
     let from = seen.from;
-    let mut j = seen.at;
-    let mut n = 0;
+    let at = seen.at;
+    let mut j = at;
+    let mut marks = 0;
     while from < j {
         j -= 1;
         let c = class_of(m[j], t);
-        if FIRST_LETTER <= c {
-            n += 1;
-        } else if GAP <= c {
-            return n;
+        if c < FIRST_LETTER {
+            if GAP <= c {
+                return at - j - 1 - marks;
+            }
+            marks += 1;
         }
     }
-    from + LETTERS_MAX - seen.limit + n
+    at + LETTERS_MAX - seen.limit - marks
 }
 
 // The same with the letters counted, where the limit is less than four bytes ahead. Each letter is counted once.

@@ -1,14 +1,14 @@
--- Going back, each letter is counted until a break or the letters counted before; what is counted and what stands before come to the same.
+-- Going back, each byte that is no mark is a letter, until a break or the letters counted before; these and what stands before come to the same.
 use Rattle.laws.proofs.Kit.{ℕ, suc, _+_, _-_, _≤_, _<_, _≡_, ap, _∙_, cond, and-false, List, arith, leb, le-leb, lt-leb, needs}
 use Rattle.message.specs.{Classes.isBreakClass, Classes.isLetterClass, Classes.classAt, Steps.lettersAt}
 use Rattle.message.proofs.check.letters_at.Statement.{statement}
 use Rattle.message.proofs.check.letters_at.Tie as tie
 
--- n letters are counted back to place j
-record Back (m : List ℕ) (from i j n : ℕ) : Type 0 where
+-- from place i back to place j so many bytes are marks, and the others letters
+record Back (m : List ℕ) (from i j marks : ℕ) : Type 0 where
   pub above : from ≤ j
-  pub counted : n + j ≤ i
-  pub same : n + lettersAt m j ≡ lettersAt m i
+  pub fewer : marks + j ≤ i
+  pub same : i + lettersAt m j ≡ lettersAt m i + (marks + j)
 
 -- one byte back, of class x: over a letter, a break, and any other
 record Over (m : List ℕ) (j x : ℕ) : Type 0 where
@@ -28,10 +28,10 @@ over m j x e h =
     }
 
 abbrev Inv-loop : tie.InvT-loop
-Inv-loop m seen t from j₀ n₀ j n = Back m from (seen .at) j n
+Inv-loop m seen t from at j₀ marks₀ j marks = Back m from at j marks
 
 abbrev μ-loop : tie.MeasureT-loop
-μ-loop m seen t from j₀ n₀ j n = j
+μ-loop m seen t from at j₀ marks₀ j marks = j
 
 -- the byte that is read
 here : (k : tie.After-class-of Inv-loop μ-loop) → let l = k .before .before .before in Over (l .before .before .args .m .now) (l .loop .j) (k .class-of .result)
@@ -41,11 +41,13 @@ pub letters-at-spec : {M : Type 1} → statement M
 letters-at-spec =
     tie.close
     (tie.spec
-    Inv-loop μ-loop (λ c. search needs) (λ c. search needs) (λ c. search needs) (λ c κs. search needs) (λ c. search needs) (λ c. search needs)
-    (λ c. let e = here (c .before) .letter (c .if1 .taken) in search needs)
-    (λ c. let e = here (c .before .before) .break (c .if2 .taken) (c .before .if1 .left) in search needs)
-    (λ c. search needs)
+    Inv-loop μ-loop (λ c. search needs) (λ c. search needs) (λ c. search needs) (λ c κs. search needs)
+    (λ c. search needs) (λ c. search needs) (λ c. search needs)
+    (λ c. let e = here (c .before .before) .break (c .if2 .taken) (c .before .if1 .taken) in search needs)
+    (λ c. search needs) (λ c. search needs)
     (λ c. let e = here (c .before .before) .other (c .if2 .left) in search needs)
+    (λ c. search needs)
+    (λ c. let e = here (c .before) .letter (c .if1 .left) in search needs)
     (λ c. search needs) (λ c. search needs) (λ c. search needs)
     (λ c. let l = c .before .before in let e : l .loop .j ≡ l .before .before .args .seen .from = omega (arith, c .before .loop-test .left, l .loop .inv .above) in
     let q = rw e at (l .loop .inv .same) in search needs))
