@@ -1,5 +1,5 @@
 -- What holds of every number below a bound is one computation, so a byte's tests go by its class.
-use Rattle.laws.proofs.Kit.{ℕ, suc, _<_, _≡_, refl, Bool, true, false, _&&_, _||_, List, [], _∷_, map, arith, eqb, leb, leb-true, ne-eqb}
+use Rattle.laws.proofs.Kit.{ℕ, suc, _<_, _≡_, refl, Bool, true, false, _&&_, _||_, List, [], _∷_, map, eqb, leb, leb-true, ne-eqb}
 use Rattle.laws.proofs.Classes.{below, below-same}
 use Rattle.spec.specs.Alphabet.{«д», «и», «о», «т», «ь»}
 use Rattle.spec.specs.Letters.{small, isMark, isBreak, isConsonant}
