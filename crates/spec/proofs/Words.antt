@@ -2,14 +2,18 @@
 -- Assumes nothing.
 use Prim.Native.Nat.{ℕ}
 use mathlib.Core.Path.{_≡_, refl}
+use mathlib.Core.Bool.{Bool}
 use mathlib.Core.List.{List, [], _∷_, _++_, flatten, map}
 use lib.ListN.{length, replicate}
 use Rattle.spec.specs.Alphabet.{gap, pause, mark, «й», «а», «б», «в», «г», «д», «е», «ж», «з», «и», «к», «л», «м», «н», «о», «п», «р», «с», «т», «у», «ш», «ъ», «ы», «ь»}
 use Rattle.spec.specs.Codes.{J, И*, И1, А*, А1, А2, Б, Б', В, Г, Г', Д, Ж, З, З', К, Л, Л', М, М', Н, Н', О*, П, Р, С, С', Т, Т', У*, У1, Ш, Ы*, Ы1, Э*, Э2}
+use Rattle.spec.specs.Vowels.{rowО, vowelPhones}
+use Rattle.spec.specs.Voicing.{codesOf}
 use Rattle.spec.specs.Tape.{tape}
 use Rattle.spec.specs.Joints.{joined}
 use Rattle.spec.specs.Answers.{tapeAnswer, joinAnswer}
 use Rattle.spec.specs.declared.Answer.{Answer}
+use Rattle.spec.specs.declared.Syllable.{Syllable}
 use Rattle.spec.specs.declared.Answer.the-variants.{Written}
 use Rattle.spec.proofs.Computed.{everything}
 
@@ -101,3 +105,8 @@ found e = record {
 pub words : map found examples ≡ map expected examples
 unfolding everything examples flatten
 words = refl
+
+-- paper 02, request 4, for every syllable: о after ь has J before the sound of its row, and after ъ that sound alone
+pub glide-of-o : (hard : Bool) (s : Syllable) → (codesOf (vowelPhones hard «ь» «о» s) ≡ J ∷ rowО hard «ь» s ∷ []) × (codesOf (vowelPhones hard «ъ» «о» s) ≡ rowО hard «ъ» s ∷ [])
+unfolding everything
+glide-of-o hard s = (refl, refl)
