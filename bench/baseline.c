@@ -36,7 +36,7 @@ enum { FOREIGN, PLAIN_VOWEL, VOWEL_O, VOWEL_I, SOFT_VOWEL, OTHER, SZNR, TD, HARD
 /* What the second pass does with a byte. */
 enum { CONSONANT, VOWEL, STRESS_MARK, SIGN, WORD_BREAK };
 
-/* What a vowel finds before it; a mark counts as the vowel that it stands after. */
+/* What a vowel finds before it; a mark counts as the vowel that it stands after. The signs are told apart for о, which has a glide after ь. */
 enum { INITIAL, AFTER_VOWEL, AFTER_HARD_SIGN, AFTER_SOFT_SIGN, AFTER_Q, AFTER_T, AFTER_P, PRECEDERS };
 
 /* Rows of the table of vowels. */
