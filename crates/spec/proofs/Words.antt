@@ -1,4 +1,4 @@
--- Paper 01, 'Words to prove', and the program's example, with words for what paper 02 has changed: one list, one proof, by computing the passes.
+-- Paper 01, 'Words to prove', and the program's example, with words for what paper 02 has changed: one list, one proof, by computing the passes. Last, request 4 for every syllable.
 -- Assumes nothing.
 use Prim.Native.Nat.{ℕ}
 use mathlib.Core.Path.{_≡_, refl}

@@ -1,4 +1,4 @@
--- Paper 01, pass 3: the sounds of vowels. The words here have been through pass 1.
+-- Paper 01, pass 3, with paper 02, request 4: the sounds of vowels. The words here have been through pass 1.
 -- Assumes nothing: these are definitions.
 use Prim.Native.Nat.{ℕ}
 use mathlib.Core.Bool.{Bool, true, false, cond, _&&_, _||_}

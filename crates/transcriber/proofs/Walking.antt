@@ -222,11 +222,13 @@ module _ {m out : List ℕ} {i c : ℕ} {r : Right} (a : ReadyFor isConsonantCla
         let z : code + 0 ≡ code = omega arith in
         letter-steps (a .ready) spelt codes (rw z at (tells-sound code false x)) l q
 
--- what is found of a vowel by the class of the byte before it, its own class, and the level is what the passes make of it
+-- a vowel may be sung
 module _ {m : List ℕ} {i c : ℕ} {level : Level} (a : VowelAt m i c level) where
+  -- its class is a byte's
   pub class-small : c < classCount
   class-small = rw (a .class) (by-class (getD m i 0) (a .steady .bytes i) .class)
 
+  -- what is found of it by the class of the byte before it, its own class, and the level is what the passes make of it
   pub sung-by : {k : ℕ} {s : Syllable} {v : Vowel} → k ≡ classBefore m i → s ≡ syllableBy k level
       → ByRow (rowOf (small (getD m i 0))) (hardBefore m i) k s (v .sound) → v .glide ≡ glideBy c (s .cover) k → Sung m i v
   sung-by {s = s} e y o g =
@@ -248,7 +250,7 @@ module _ {m out : List ℕ} {i c : ℕ} {r : Right} (a : ReadyFor isVowelClass m
   vowel-ready e =
       let y = a .ready .steady in
       let h = a .ready .within in
-      record { within = h; steady = y; class = a .class; vowel = a .kind; level = e ∙ levels-found m y i h (a .ready .stands .levels) (vowel-spelt .break) }
+      record { within = h; steady = y; class = a .class; level = e ∙ levels-found m y i h (a .ready .stands .levels) (vowel-spelt .break) }
 
   module _ {v : Vowel} (s : Sung m i v) where
     -- its codes

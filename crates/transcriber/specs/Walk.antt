@@ -39,12 +39,11 @@ pub record Stands (m : List ℕ) (i : ℕ) (r : Right) : Type 0 where
   pub sound : Tells (r .sound) (softens (firstByte (wordAt m i))) (toneAt m i) (soundAt m i)
   pub levels : LevelsAt m i (r .levels)
 
--- a vowel of class c may be sung at place i: n is the level of its syllable
+-- a vowel may be sung at place i: c is its class, and n the level of its syllable
 pub record VowelAt (m : List ℕ) (i c : ℕ) (n : Level) : Type 0 where
   pub within : i < length m
   pub steady : Steady m
   pub class : c ≡ classOf (getD m i 0)
-  pub vowel : isVowelClass c ≡ true
   pub level : n ≡ levelAt m i
 
 -- the syllable of the vowel at place i
