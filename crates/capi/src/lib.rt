@@ -2,10 +2,12 @@
 ghost use Rattle.spec.specs.Answers.{CheckPromise, NamePromise, TranscribePromise, JoinPromise, Carried};
 ghost use Rattle.spec.specs.Editing.{EditPromise};
 ghost use Rattle.spec.specs.Utf8.{ReadPromise, WritePromise};
+ghost use Rattle.spec.specs.SpokenLevels.{LevelPromise};
 ghost use Rattle.laws.proofs.Bounds.{Small, SmallCheck};
 ghost use Rattle.capi.specs.Said.{Said, Counted, Told};
 use editor::edit;
 use joiner::join::join;
+use levels::speak_level;
 use message::check::check;
 use spec::Answer;
 use spec::Checked;
@@ -112,6 +114,13 @@ pub extern "C" fn govorun_write_utf8(m: &[u8], out: &mut [u8]) -> GovorunAnswer
     ensures { λ r. ⌜ Carried (WritePromise (now (m .entry)) (now (out .entry)) (now (out .exit))) Said r ⌝ }
 {
     say(write_utf8(m, out))
+}
+
+#[no_mangle]
+pub extern "C" fn govorun_speak_level(level: i32, out: &mut [u8]) -> GovorunAnswer
+    ensures { λ r. ⌜ Carried (LevelPromise level (now (out .entry)) (now (out .exit))) Said r ⌝ }
+{
+    say(speak_level(level, out))
 }
 
 // The answer for a text in three numbers, which may be as large as it is long.

@@ -1,11 +1,13 @@
 -- How large an answer's numbers can be, whatever the bytes and the cuts: no place is past 4,096 bytes, a byte makes at most two codes and one name, and each good cut takes a break of its own.
-use Rattle.laws.proofs.Kit.{ℕ, suc, _≤_, ⊎-elim, List, [], _∷_, arith, leb, length, eq-eqb, ne-eqb}
+use Rattle.laws.proofs.Kit.{ℕ, suc, _≤_, ⊎-elim, List, [], _∷_, arith, leb, length, eq-eqb, ne-eqb, le-leb, lt-leb}
+use lib.IntN.{ℤ, natAbs}
 use Rattle.spec.specs.Joints.{joined, isLive, liveCount, badCut}
 use Rattle.spec.specs.Answers.{numberOf, placeOf, lengthOf, liveOf, checkedNumber, checkedPlace, checkedCodes, checkedNames, within, afterCheck, nameAnswer, tapeAnswer, joinAnswer}
 use Rattle.spec.specs.Utf8.{encoded, writeAnswer}
+use Rattle.spec.specs.SpokenLevels.{spoken, levelAnswer}
 use Rattle.spec.specs.{Tape.tape, Tape.names, Refusals.checkOf, declared.Checked.Checked, declared.Answer.Answer}
 use Rattle.laws.proofs.Cuts.{judged, rising-to, bad-bound, rising-length}
-use Rattle.laws.proofs.{Accepted.check-finds, Accepted.given-range, Classes.cond-both, Cutting.equal-lengths, Sizes.tape-size, Sizes.names-size, Utf8.encoded-size}
+use Rattle.laws.proofs.{Accepted.check-finds, Accepted.given-range, Classes.cond-both, Classes.below-or, Cutting.equal-lengths, Sizes.tape-size, Sizes.names-size, Utf8.encoded-size, SpokenLevels.level-size}
 use Rattle.spec.specs.declared.Answer.the-variants as answer
 
 -- the check's answer in numbers that are small
@@ -71,3 +73,9 @@ module _ (m : List ℕ) where
       (omega (arith, live-bound m cuts, rising-length m cuts r))))
       (λ b. rw (ne-eqb (badCut m cuts) (length cuts) (omega (arith, b .within)))
       (record { number = omega arith; place = omega (arith, bad-bound m cuts); length = omega arith; live = omega arith })) (judged m cuts))
+
+-- What is answered for a level is small.
+pub level-small : (level : ℤ) (room : ℕ) → Small (levelAnswer level room)
+unfolding levelAnswer numberOf placeOf lengthOf liveOf
+level-small level room = ⊎-elim (λ h. rw (lt-leb (natAbs level) 9999 h) (record { number = omega arith; place = omega arith; length = omega arith; live = omega arith }))
+    (λ h. rw (le-leb (natAbs level) 9999 h) (within-small room (length (spoken level)) 0 (omega (arith, level-size level h)) (omega arith))) (below-or 9999 (natAbs level))

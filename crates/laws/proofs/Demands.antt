@@ -1,14 +1,17 @@
 -- The operator's three demands, from the promises alone: every operation answers the check's refusal, then number 12, then 11, and else its text, so each way of ending is one case. Those of a text are those of its edited form.
 use Rattle.laws.proofs.Kit.{ℕ, _≤_, _≡_, refl, sym, ap, _∙_, cond, _⊎_, inl, inr, ⊎-elim, _↔_, List, [], _∷_, _<_, false≢true, arith, eqb, length, take, drop, length-append, length-drop, take-at, eq-eqb, ne-eqb, le-leb, lt-leb}
+use lib.IntN.{ℤ, natAbs}
 use Rattle.spec.specs.Joints.{Rising, joined, liveCount, badCutFrom, badCut}
 use Rattle.spec.specs.Answers.{numberOf, placeOf, lengthOf, liveOf, checkedNumber, checkedPlace, checkedCodes, checkedNames, within, afterCheck, outputAfter, nameAnswer, tapeAnswer, joinAnswer, Promise}
-use Rattle.spec.specs.Demands.{Due, turnedAway, wrongCut, tooShort, CarriedOut, Settled, Exactly, Demand1, Demand2, Demand3, EditDue, EditedDemands, ReadDue, unreadable, noRoom, ReadDemands, WriteDemands}
+use Rattle.spec.specs.Demands.{Due, turnedAway, wrongCut, tooShort, CarriedOut, Settled, Exactly, Demand1, Demand2, Demand3, EditDue, EditedDemands, ReadDue, unreadable, noRoom, ReadDemands, WriteDemands, LevelDue, outside, noRoomFor, LevelDemands}
 use Rattle.spec.specs.Editing.{edited, editAnswer}
 use Rattle.spec.specs.Utf8.{encoded, decoded, readTo, readAnswer, writeAnswer, Readable, ReadPromise}
+use Rattle.spec.specs.SpokenLevels.{spoken, levelAnswer, InRange}
 use Rattle.spec.specs.{Tape.tape, Tape.names, Refusals.refusal, Refusals.checkOf, Refusals.fits, Refusals.NoneFits, Refusals.Given, declared.Answer.Answer, declared.Answer.the-variants.Written, declared.Answer.the-variants.Refused}
 use Rattle.laws.proofs.Accepted.{check-finds, passes-none, none-accepted, given-range, given-refused, empty-given, long-given}
 use Rattle.laws.proofs.Edited.{edited-size, edited-twice, accepted-own, edited-never-four, only-breaks}
 use Rattle.laws.proofs.Utf8.{read-most, whole-run, run-once, run-whole, stops-at, stops-once, read-back, run-formed, encoded-size, decoded-size, accepted-rows}
+use Rattle.laws.proofs.SpokenLevels.{level-size, level-equal, level-marks, level-accepted}
 use Rattle.laws.proofs.Cuts.{judged, first-bad, rising-to, full-rising, full-every}
 use Rattle.laws.proofs.{Classes.below-or, Cutting.counts-none, Cutting.two-tapes}
 
@@ -241,4 +244,31 @@ write-demands m = record {
       let rows = accepted-rows m f in
       let e = read-back m rows in
       rw e at (carried (read-ways (encoded m) out) k (m, record { rows = rows; text = refl }) (rw e h));
+}
+
+-- A level is spoken or refused in these ways.
+level-ways : (level : ℤ) (out : List ℕ) → Ways 14 (InRange level) (LevelDue level (length out)) (spoken level) 0 out (levelAnswer level (length out))
+unfolding levelAnswer within
+level-ways level out = record {
+  written = λ a h. rw (le-leb (natAbs level) 9999 a, le-leb (length (spoken level)) (length out) h);
+  refused = refused;
+  ends = ⊎-elim (λ h. inr (_, _, outside h, omega arith, omega arith))
+      (λ a. ⊎-elim (λ h. inr (_, _, noRoomFor a h, omega arith, omega arith)) (λ h. inl (a, h)) (below-or (length out) (length (spoken level)))) (below-or 9999 (natAbs level));
+}
+  where
+    refused : (n p : ℕ) → LevelDue level (length out) n p → levelAnswer level (length out) ≡ Refused (refusal n p)
+    refused n p (outside h) = rw (lt-leb (natAbs level) 9999 h)
+    refused n p (noRoomFor a h) = rw (le-leb (natAbs level) 9999 a, lt-leb (length (spoken level)) (length out) h)
+
+-- What holds for a number that is to be spoken.
+pub level-demands : (level : ℤ) → LevelDemands level
+level-demands level = record {
+  settled = λ out out′ r k. settled (level-ways level out) k;
+  exact = λ out out′ r k. exactly (level-ways level out) k;
+  handed = λ out out′ r k. handed (level-ways level out) k;
+  size = level-size level;
+  equal = level-equal level;
+  marks = level-marks level;
+  message = level-accepted level;
+  transcriber = λ a out out′ r k h. demand2 (spoken level) .transcriber out out′ r k .gives h (level-accepted level a);
 }

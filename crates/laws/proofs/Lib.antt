@@ -20,3 +20,4 @@ pub mod Edited
 pub mod Utf8
 pub mod Putting
 pub mod Kit
+pub mod SpokenLevels

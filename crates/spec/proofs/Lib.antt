@@ -1,5 +1,6 @@
 pub mod Computed
 pub mod EditingExamples
+pub mod LevelExamples
 pub mod NameExamples
 pub mod PrintedExamples
 pub mod RefusalExamples

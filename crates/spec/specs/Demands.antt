@@ -1,5 +1,5 @@
 -- The operator's three demands (paper 00) as statements over what the operations promise. Each operation's contract is its promise, and `demand1`, `demand2` and `demand3` of crate laws prove these of it.
--- A dispatcher's text is covered by them through its edited form (paper 02, slip 1): `edited-demands`; one in UTF-8 (slip 2) through the bytes that are read: `read-demands`.
+-- A dispatcher's text is covered by them through its edited form (paper 02, slip 1): `edited-demands`; one in UTF-8 (slip 2) through the bytes that are read: `read-demands`; a level (slip 5) through its words: `level-demands`.
 -- That no step goes outside the lent memory and that every step ends is no statement over values: it is proved of each function by the language.
 -- Assumes nothing: these are definitions.
 use Prim.Native.Nat.{ℕ, _*_, _<_, _≤_}
@@ -8,6 +8,7 @@ use mathlib.Core.Bool.{true, false}
 use mathlib.Core.Logic.{_⊎_, _↔_}
 use mathlib.Core.List.{List, [], _++_}
 use lib.ListN.{length, take, drop, getD}
+use lib.IntN.{ℤ, natAbs}
 use Rattle.spec.specs.Letters.{isBreak}
 use Rattle.spec.specs.Tape.{tape, names}
 use Rattle.spec.specs.Refusals.{fits, NoneFits, Given}
@@ -15,6 +16,7 @@ use Rattle.spec.specs.Joints.{Rising, CutOf, breaks, joined, EachPart, m
 use Rattle.spec.specs.Answers.{numberOf, placeOf, lengthOf, liveOf, checkedNumber, checkedPlace, checkedCodes, checkedNames, CheckPromise, NamePromise, TranscribePromise, JoinPromise}
 use Rattle.spec.specs.Editing.{OnlyBreaks, edited, EditPromise}
 use Rattle.spec.specs.Utf8.{WellFormed, encoded, decoded, RunOf, Readable, StopsAt, ReadPromise, WritePromise}
+use Rattle.spec.specs.SpokenLevels.{levelWords, Each, marksIn, spoken, InRange, LevelPromise}
 use Rattle.spec.specs.declared.Checked.{Checked}
 use Rattle.spec.specs.declared.Answer.{Answer}
 
@@ -185,3 +187,28 @@ pub record WriteDemands (m : List ℕ) : Type 0 where
   pub size : length (encoded m) ≤ 2 * length m
   -- the reader gives the message back, with letters as they stood
   pub back : NoneFits m → (out out′ : List ℕ) (r : Answer) → ReadPromise (encoded m) out out′ r → length m ≤ length out → CarriedOut m 0 out out′ r
+
+-- The numbers for a level: 14, outside the range, and then 11.
+pub data LevelDue (level : ℤ) (room : ℕ) : ℕ → ℕ → Type 0 where
+  outside : 9999 < natAbs level → LevelDue level room 14 0
+  noRoomFor : InRange level → room < length (spoken level) → LevelDue level room 11 (length (spoken level))
+
+-- What holds for any signed number that is to be spoken as a level.
+pub record LevelDemands (level : ℤ) : Type 0 where
+  -- it is spoken, or refused with every byte left
+  pub settled : (out out′ : List ℕ) (r : Answer) → LevelPromise level out out′ r → Settled 14 (LevelDue level (length out)) (spoken level) 0 out out′ r
+  -- lent an output long enough, exactly the levels of the range are spoken
+  pub exact : (out out′ : List ℕ) (r : Answer) → LevelPromise level out out′ r → Exactly (InRange level) (LevelDue level (length out)) (spoken level) 0 out out′ r
+  -- what was written are its words, the message that is handed on
+  pub handed : (out out′ : List ℕ) (r : Answer) → LevelPromise level out out′ r → numberOf r ≡ 0 → take (lengthOf r) out′ ≡ spoken level
+  -- 54 bytes are always enough
+  pub size : InRange level → length (spoken level) ≤ 54
+  -- two levels have equal words exactly when they are equal
+  pub equal : (other : ℤ) → InRange level → InRange other → (spoken level ≡ spoken other) ↔ (level ≡ other)
+  -- each word has one stress mark
+  pub marks : Each (λ w. marksIn w ≡ 1) (levelWords level)
+  -- the words are an accepted message
+  pub message : InRange level → NoneFits (spoken level)
+  -- so the transcriber, lent an output long enough, gives its tape
+  pub transcriber : InRange level → (out out′ : List ℕ) (r : Answer) → TranscribePromise (spoken level) out out′ r → length (tape (spoken level)) ≤ length out
+      → CarriedOut (tape (spoken level)) 0 out out′ r

@@ -14,5 +14,6 @@ pub mod Answers
 pub mod Editing
 pub mod Utf8
 pub mod LevelSteps
+pub mod SpokenLevels
 pub mod Demands
 pub mod Printed

@@ -1,0 +1,43 @@
+-- Of a number that is not negative the signed quotients and remainders are the plain ones, and each fits.
+use Rattle.laws.proofs.Kit.{ℕ, _*_, _/_, _%_, _≤_, _≡_, refl, arith, needs}
+use lib.IntN.{pos, natAbs}
+use lib.Signed.{quotZ, remZ}
+use mir.Syntax.{w32}
+use mir.Val.{toZ, ofZ}
+use Rattle.levels.proofs.Signed.{near-fits, near-same}
+use Rattle.levels.proofs.split.Statement.{statement}
+use Rattle.levels.proofs.split.Tie as tie
+
+-- the number that is split
+abbrev number : tie.After-magnitude → ℕ
+number c = natAbs (c .before .args .level)
+
+held : (c : tie.After-magnitude) → toZ w32 (ofZ w32 (c .magnitude .result)) ≡ pos (number c)
+held c = rw (c .magnitude .ensures, near-same (c .before .args .level) (c .before .pre)) (near-same (pos (number c)) (c .before .pre))
+
+-- its part, as it is held
+part : (c : tie.After-magnitude) (k : ℕ) → k ≤ number c → toZ w32 (ofZ w32 (pos k)) ≡ pos k
+part c k h = near-same (pos k) (omega (arith, h, c .before .pre))
+
+pub split-spec : {M : Type 1} → statement M
+split-spec =
+    tie.close
+    (tie.spec
+    (λ c κs. search needs)
+    (λ c. (omega arith, rw (held c) (near-fits (pos (number c / 1000)) (omega (arith, c .before .pre)))))
+    (λ c. rw (held c, part c (number c / 1000) (omega arith)) (tt, record { fits = omega (arith, c .before .pre) }))
+    (λ c. (omega arith, rw (held c) (near-fits (pos (number c / 1000)) (omega (arith, c .before .pre)))))
+    (λ c. (omega arith, rw (held c, part c (number c % 1000) (omega arith)) (near-fits (pos (number c % 1000 / 100)) (omega arith))))
+    (λ c. rw (held c, part c (number c % 1000) (omega arith), part c (number c % 1000 / 100) (omega arith)) (near-fits (pos (number c % 1000 / 100 * 100)) (omega arith)))
+    (λ c. rw (held c, part c (number c % 1000) (omega arith), part c (number c % 1000 / 100) (omega arith), part c (number c % 1000 / 100 * 100) (omega arith)) (tt, record { fits = omega arith }))
+    (λ c. (omega arith, rw (held c) (near-fits (pos (number c / 100)) (omega (arith, c .before .pre)))))
+    (λ c. rw (held c, part c (number c % 100) (omega arith)) (tt, record { fits = omega arith }))
+    (λ c.
+    rw (
+      held c,
+      part c (number c / 1000) (omega arith),
+      part c (number c % 1000) (omega arith),
+      part c (number c % 1000 / 100) (omega arith),
+      part c (number c % 1000 / 100 * 100) (omega arith),
+      part c (number c % 100) (omega arith),
+    ) (record { thousands = refl; hundreds = refl; rest = refl })))

@@ -1,0 +1,118 @@
+// Spoken levels (paper 02, slip 5): the words of a level, put into the lent output.
+ghost use mathlib.Core.Path.{_≡_};
+ghost use Prim.Native.Nat.{_≤_, _/_, _%_};
+ghost use lib.Dec.{leb};
+ghost use lib.ListN.{length};
+ghost use lib.IntN.{pos, natAbs};
+ghost use Rattle.spec.specs.SpokenLevels.{spoken, InRange, LevelPromise};
+ghost use Rattle.laws.proofs.Putting.{Put};
+ghost use Rattle.levels.specs.Placing.{Room, Adds, Splits, partWords};
+use spec::Answer;
+use spec::Refusal;
+use words::put_below_hundred;
+use words::put_hundreds;
+use words::put_thousands;
+use words::put_word;
+
+mod words;
+
+// The range of levels goes to this on either side of zero.
+const FARTHEST: i32 = 9999;
+
+// No level has words of more bytes.
+const LONGEST: usize = 54;
+
+// A number of centimetres in the parts that it is spoken in.
+pub struct Parts {
+    pub thousands: usize,
+    pub hundreds: usize,
+    pub rest: usize,
+}
+
+// Is the level outside the range?
+fn is_outside(level: i32) -> bool
+    ensures { λ r. ⌜ r ≡ leb 10000 (natAbs level) ⌝ }
+{
+    (level < -FARTHEST) | (FARTHEST < level)
+}
+
+// How far from zero a level is.
+fn magnitude(level: i32) -> i32
+    requires { ⌜ InRange level ⌝ }
+    ensures { λ r. ⌜ r ≡ pos (natAbs level) ⌝ }
+{
+    if level < 0 {
+        return -level;
+    }
+    level
+}
+
+// The parts of a number of thousands, hundreds and what is left.
+fn split(level: i32) -> Parts
+    requires { ⌜ InRange level ⌝ }
+    ensures { λ r. ⌜ Splits (natAbs level) r ⌝ }
+{
+    let n = magnitude(level);
+    Parts {
+        thousands: (n / 1000) as usize,
+        hundreds: (n % 1000 / 100 * 100) as usize,
+        rest: (n % 100) as usize,
+    }
+}
+
+// Puts the words of a number, part by part.
+fn put_parts(out: &mut [u8], at: usize, p: Parts) -> usize
+    requires { ⌜ Room (partWords p) (now out) at ⌝ }
+    ensures { λ r. ⌜ Adds (partWords p) (now (out .entry)) (now (out .exit)) at r ⌝ }
+{
+    let thousands = put_thousands(out, at, p.thousands);
+    let hundreds = put_hundreds(out, thousands, p.hundreds);
+    put_below_hundred(out, hundreds, p.rest)
+}
+
+// Writes the words of a level, where there is room for them, and answers how long they are.
+fn write_level(level: i32, out: &mut [u8]) -> usize
+    requires { ⌜ InRange level × (length (spoken level) ≤ length (now out)) ⌝ }
+    ensures { λ r. ⌜ Put (spoken level) (now (out .entry)) (now (out .exit)) r 0 ⌝ }
+{
+    if level == 0 {
+        return put_word(out, 0, b"\xED\xEE*\xEB\xFC"); // но*ль
+    }
+    if level < 0 {
+        let at = put_word(out, 0, b"\xEC\xE8*\xED\xF3\xF1"); // ми*нус
+        return put_parts(out, at, split(level));
+    }
+    put_parts(out, 0, split(level))
+}
+
+// How long they are: they are written where there is room for every level.
+fn measure(level: i32) -> usize
+    requires { ⌜ InRange level ⌝ }
+    ensures { λ r. ⌜ r ≡ length (spoken level) ⌝ }
+{
+    let mut own = [0u8; LONGEST];
+    write_level(level, &mut own)
+}
+
+// Speaks a level: writes its words at the start of the lent output, or refuses and leaves every byte. Only an output that is shorter than the longest words can be too short.
+pub fn speak_level(level: i32, out: &mut [u8]) -> Answer
+    ensures { λ r. ⌜ LevelPromise level (now (out .entry)) (now (out .exit)) r ⌝ }
+{
+    if is_outside(level) {
+        return Answer::Refused(Refusal {
+            number: 14,
+            place: 0,
+        });
+    }
+    if out.len() < LONGEST {
+        let n = measure(level);
+        if out.len() < n {
+            return Answer::Refused(Refusal {
+                number: 11,
+                place: n,
+            });
+        }
+    }
+    let length = write_level(level, out);
+    Answer::Written { length, live: 0 }
+}
