@@ -2,8 +2,9 @@
  * A polling daemon's loop over the C interface. Each line of standard input is a text in UTF-8, without its newline, of any length and
  * with plain punctuation. It is read and edited first, and for the message that it becomes one line is printed: the message as it was
  * understood, in UTF-8, a colon and a space, and the codes of the tape in decimal; or the refusal, whose place counts in the line if the
- * number is 13, else in the edited message. Where the input can't be read any further or there is no memory left, the daemon says so on
- * standard error and ends with nothing spoken of that line.
+ * number is 13, else in the edited message. A line that is a whole number in decimal is a level of the probe's: its words are the message.
+ * Where the input can't be read any further or there is no memory left, the daemon says so on standard error and ends with nothing
+ * spoken of that line.
  *
  *     cc -I include examples/daemon.c target/staticlib/libcapi.a -o daemon
  */
@@ -11,6 +12,9 @@
 #include <stdlib.h>
 
 #include "govorun.h"
+
+/* The largest level that is spoken, and room for the words of any. */
+enum { MAX_LEVEL = 9999, LEVEL_BYTES = 54 };
 
 /* A line, and as much room for what is read of it and for that edited, which are never longer. */
 struct line {
@@ -110,6 +114,40 @@ static void read_and_speak(struct line *line)
         speak(line->edited, edited.length);
 }
 
+/* Is the line a whole number: digits alone, behind a minus sign or none? */
+static int is_number(const struct line *line)
+{
+    size_t sign = line->len > 0 && line->text[0] == '-';
+
+    for (size_t i = sign; i < line->len; i++)
+        if (line->text[i] < '0' || line->text[i] > '9')
+            return 0;
+    return line->len > sign;
+}
+
+/* The number. Digits that take it past the range no longer count, so that it stays outside however many there are. */
+static int32_t read_number(const struct line *line)
+{
+    size_t sign = line->text[0] == '-';
+    int32_t number = 0;
+
+    for (size_t i = sign; i < line->len; i++)
+        if (number <= MAX_LEVEL)
+            number = 10 * number + (line->text[i] - '0');
+    return sign ? -number : number;
+}
+
+static void speak_level(int32_t level)
+{
+    uint8_t words[LEVEL_BYTES];
+    govorun_answer spoken = govorun_speak_level(level, words, sizeof words);
+
+    if (spoken.number != 0)
+        print_refusal(spoken.number, spoken.place);
+    else
+        speak(words, spoken.length);
+}
+
 int main(void)
 {
     struct line line = { NULL, NULL, NULL, 0, 0 };
@@ -117,7 +155,10 @@ int main(void)
     /* Room from the start: the unit is handed no NULL, even for an empty line. */
     make_room(&line, 4096);
     while (read_line(&line)) {
-        read_and_speak(&line);
+        if (is_number(&line))
+            speak_level(read_number(&line));
+        else
+            read_and_speak(&line);
         /* Whoever polls waits for this line. */
         fflush(stdout);
     }

@@ -13,7 +13,7 @@
  *
  * A message is Windows-1251: words with one gap (0x20) or pause ('#') between neighbours, a stress mark ('*') right after a
  * stressed vowel, at most 4,096 bytes. A text in UTF-8 is read first, by govorun_read_utf8, and one with commas and stops is then
- * edited, by govorun_edit. govorun_write_utf8 turns a message back.
+ * edited, by govorun_edit. govorun_write_utf8 turns a message back. The words of a level are a message that govorun_speak_level writes.
  */
 #ifndef GOVORUN_H
 #define GOVORUN_H
@@ -40,13 +40,14 @@ extern "C" {
  *   10  the 65th letter of a word                    its place
  *   11  cap is too small                             the length of the full answer
  *   12  a cut is no place of a break, or not above the one before   its index in the list
- * 1, then 2, then the smallest place of 3 to 10 and there the smallest number, then 12, then 11.
+ *   14  a level outside -9,999 to 9,999              place 0
+ * 1, then 2, then the smallest place of 3 to 10 and there the smallest number, then 12, then 11. For a level 14, then 11.
  */
 typedef struct {
     uint32_t number, place, length, live;
 } govorun_answer;
 
-/* number and place as above (never 11 or 12); codes and names are the lengths of the tape and of the naming, 0 where refused. */
+/* number and place as above (1 to 10); codes and names are the lengths of the tape and of the naming, 0 where refused. */
 typedef struct {
     uint32_t number, place, codes, names;
 } govorun_counts;
@@ -99,6 +100,14 @@ govorun_text govorun_read_utf8(const uint8_t *text, size_t len, uint8_t *out, si
  * govorun_read_utf8 gives the message back; and where a text was read and is an accepted message, this gives the text back.
  */
 govorun_answer govorun_write_utf8(const uint8_t *msg, size_t len, uint8_t *out, size_t cap);
+
+/*
+ * Writes a level in centimetres as Russian words, a message that all calls above accept: thousands, hundreds, tens and units, before them
+ * the word for minus where the level is below zero, and for zero its own word alone; one gap between, one stress mark in each word. Two
+ * levels have equal words exactly when they are equal. Any number may be asked for: 14 outside -9,999 to 9,999, however small cap is, then
+ * 11. At most 54 bytes.
+ */
+govorun_answer govorun_speak_level(int32_t level, uint8_t *out, size_t cap);
 
 #ifdef __cplusplus
 }

@@ -2,7 +2,7 @@
 use Rattle.laws.proofs.Kit.{ℕ, zero, suc, _+_, _-_, _*_, _/_, _%_, _^_, _<_, _≤_, arith, _≡_, refl, sym, ap, _∙_, ⊎-elim, List, [], _∷_, _++_, append-assoc, append-nil, length, take, drop, getD, length-append, length-drop, take-at, drop-cons, drop-length, le-leb, lt-leb, lt-ltb, le-ltb}
 use Rattle.spec.specs.Printed.{lastDigits, decimal, printedCodes, printedAnswer}
 use Rattle.spec.specs.Answers.{numberOf, placeOf, lengthOf, outputAfter, tapeAnswer, Promise}
-use Rattle.spec.specs.{Tables.ascii, Tape.tape, declared.Refusal.Refusal, declared.Answer.Answer, declared.Answer.the-variants.Written, declared.Answer.the-variants.Refused}
+use Rattle.spec.specs.{Tables.ascii, Tape.tape, Demands.CarriedOut, declared.Refusal.Refusal, declared.Answer.Answer, declared.Answer.the-variants.Written, declared.Answer.the-variants.Refused}
 use Rattle.laws.proofs.{Bounds.tape-small, Classes.below-or}
 use Rattle.console.specs.Putting.{Put, codeAt}
 use native.Mathlib.Nat.{pow-suc}
@@ -106,3 +106,20 @@ answer-written m {codes} {n = n} full p e same =
     let l : length (tape m) ≡ n = omega (arith, (rw (sym d) at (tape-small m 8192)) .length, simp (length-append, length-drop) at (ap length w)) in
     let t = take-at (tape m) (drop n codes) n l in
     record { short = (rw (sym d) at (tape-small m 8192)) .length; size = rw (w, t) l; text = rw (sym d, w, t) }
+
+-- a refusal with small numbers is short in print, whatever tape there might be
+pub refusal-short : (r : Refusal) → r .number ≤ 99 → r .place ≤ 65536 → length (printedAnswer (Refused r) []) ≤ 40
+refusal-short r n p = omega (arith, refusal-length r [], decimal-size 1 (r .number) (omega (arith, n)), decimal-size 4 (r .place) (omega (arith, p)))
+
+-- Where an operation was carried out, the first n bytes of its output are its text.
+pub record Part (text out : List ℕ) (n : ℕ) : Type 0 where
+  pub bytes : take n out ≡ text
+  pub size : n ≡ length (take n out)
+  pub within : n ≤ length out
+
+pub part : {text out out′ : List ℕ} {count n k : ℕ} {a : Answer} → CarriedOut text count out out′ a → a ≡ Written n k → Part text out′ n
+unfolding lengthOf
+part {text} {out} {out′} {n = n} c e =
+    let l : n ≡ length text = sym (ap lengthOf e) ∙ c .length in
+    let b : take n out′ ≡ text = rw (c .output, l) (take-at text (drop (length text) out) (length text) refl) in
+    record { bytes = b; size = rw b l; within = omega (arith, l, ap length (c .output), length-append text (drop (length text) out)) }

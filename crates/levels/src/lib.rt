@@ -20,7 +20,7 @@ mod words;
 const FARTHEST: i32 = 9999;
 
 // No level has words of more bytes.
-const LONGEST: usize = 54;
+pub const LONGEST: usize = 54;
 
 // A number of centimetres in the parts that it is spoken in.
 pub struct Parts {

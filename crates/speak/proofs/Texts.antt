@@ -3,30 +3,17 @@ use Rattle.laws.proofs.Kit.{ℕ, _<_, _≤_, arith, _≡_, _≢_, refl, sym, ap
 use Rattle.spec.specs.Answers.{numberOf, placeOf, lengthOf, within, tapeAnswer}
 use Rattle.spec.specs.Editing.{edited, editAnswer, EditPromise}
 use Rattle.spec.specs.Utf8.{decoded, readTo, readAnswer, ReadPromise}
-use Rattle.spec.specs.Printed.{printedAnswer, afterReading, textAnswer}
-use Rattle.spec.specs.Demands.{CarriedOut, ReadDue, unreadable, noRoom}
+use Rattle.spec.specs.Printed.{printedAnswer, afterWriting, textAnswer}
+use Rattle.spec.specs.Demands.{ReadDue, unreadable, noRoom}
 use Rattle.spec.specs.{Refusals.refusal, declared.Refusal.Refusal, declared.Answer.Answer, declared.Answer.the-variants.Written, declared.Answer.the-variants.Refused}
 use Rattle.laws.proofs.{Classes.below-or, Utf8.read-most, Demands.edited-demands, Demands.read-demands}
 use Rattle.console.proofs.Room.{room-for-all}
-use Rattle.console.proofs.Texts.{decimal-size, refusal-length}
+use Rattle.console.proofs.Texts.{Part, part, refusal-short}
 
 -- no answer is both
 abbrev isWritten : Answer → Bool
 isWritten (Written n k) = true
 isWritten (Refused r) = false
-
--- Where an operation was carried out, the first n bytes of its output are its text.
-pub record Part (text out : List ℕ) (n : ℕ) : Type 0 where
-  pub bytes : take n out ≡ text
-  pub size : n ≡ length (take n out)
-  pub within : n ≤ length out
-
-part : {text out out′ : List ℕ} {count n k : ℕ} {a : Answer} → CarriedOut text count out out′ a → a ≡ Written n k → Part text out′ n
-unfolding lengthOf
-part {text} {out} {out′} {n = n} c e =
-    let l : n ≡ length text = sym (ap lengthOf e) ∙ c .length in
-    let b : take n out′ ≡ text = rw (c .output, l) (take-at text (drop (length text) out) (length text) refl) in
-    record { bytes = b; size = rw b l; within = omega (arith, l, ap length (c .output), length-append text (drop (length text) out)) }
 
 -- The editor, lent as much as it is given
 module _ (m : List ℕ) {out out′ : List ℕ} {a : Answer} (p : EditPromise m out out′ a) (h : length m ≤ length out) where
@@ -40,10 +27,6 @@ module _ (m : List ℕ) {out out′ : List ℕ} {a : Answer} (p : EditPromise m 
   edit-never e =
       let f : editAnswer m (length out) ≡ Written (length (edited m)) 0 = rw (le-leb (length (edited m)) (length out) (omega (arith, edited-demands m .size))) in
       true≢false (ap isWritten (sym f ∙ sym (p .answer) ∙ e))
-
--- a refusal with small numbers is short in print, whatever tape there might be
-pub refusal-short : (r : Refusal) → r .number ≤ 13 → r .place ≤ 65536 → length (printedAnswer (Refused r) []) ≤ 40
-refusal-short r n p = omega (arith, refusal-length r [], decimal-size 1 (r .number) (omega (arith, n)), decimal-size 4 (r .place) (omega (arith, p)))
 
 -- a place that the reader gives is within the text
 due-place : {t : List ℕ} {room : ℕ} (n p : ℕ) → ReadDue t room n p → p ≤ length t
@@ -77,15 +60,15 @@ module _ (t : List ℕ) {out out′ : List ℕ} {a : Answer} (p : ReadPromise t 
   module _ (short : length t ≤ 65536) where
     -- what is read is edited and spoken
     pub text-spoken : {n k : ℕ} → a ≡ Written n k → textAnswer t ≡ tapeAnswer (edited (decoded t)) 8192
-    unfolding textAnswer afterReading
+    unfolding textAnswer afterWriting
     text-spoken e = rw (le-leb (length t) 65536 short, same-answer, e)
 
     -- what is not is refused, in few digits
     pub text-refused : {r : Refusal} → a ≡ Refused r → (textAnswer t ≡ Refused r) × (length (printedAnswer (Refused r) []) ≤ 40)
-    unfolding textAnswer afterReading numberOf placeOf
+    unfolding textAnswer afterWriting numberOf placeOf
     text-refused {r} e =
         let f = rw e at few in
-        (rw (le-leb (length t) 65536 short, same-answer, e), refusal-short r (f .0) (omega (arith, f .1)))
+        (rw (le-leb (length t) 65536 short, same-answer, e), refusal-short r (omega (arith, f .0)) (omega (arith, f .1)))
 
 -- A text that is too long is refused as such.
 pub text-long : (t : List ℕ) → 65536 < length t → textAnswer t ≡ Refused (refusal 2 0)
@@ -94,7 +77,7 @@ text-long t h = rw (lt-leb (length t) 65536 h)
 
 -- Number 11 is never printed.
 pub text-never : (t : List ℕ) → numberOf (textAnswer t) ≢ 11
-unfolding textAnswer afterReading readAnswer within numberOf
+unfolding textAnswer afterWriting readAnswer within numberOf
 text-never t e = ⊎-elim (λ h. absurd (omega (arith, rw (lt-leb (length t) 65536 h) at e)))
     (λ s. ⊎-elim (λ h. absurd (omega (arith, rw (le-leb (length t) 65536 s, ne-eqb (readTo t) (length t) (omega arith)) at e)))
     (λ h. absurd (omega (

@@ -3,10 +3,14 @@
 use Prim.Native.Nat.{ℕ}
 use Prim.Native.String as text
 use mathlib.Core.Path.{_≡_, refl}
+use mathlib.Core.Bool.{true, false}
 use mathlib.Core.List.{List, [], _∷_, map}
+use lib.ListN.{replicate}
 use lib.IntN.{ℤ, pos, negsuc}
+use Rattle.spec.specs.Tables.{ascii}
 use Rattle.spec.specs.Refusals.{refusal}
 use Rattle.spec.specs.SpokenLevels.{bytes, spoken, levelAnswer}
+use Rattle.spec.specs.Printed.{lastDigits, decimal, printedCodes, printedAnswer, afterWriting, signLength, areDigits, isDecimal, digitsFrom, levelIn, spokenAnswer, printedLevel}
 use Rattle.spec.specs.declared.Answer.{Answer}
 use Rattle.spec.specs.declared.Answer.the-variants.{Written, Refused}
 use Rattle.spec.proofs.Computed.{everything}
@@ -77,3 +81,39 @@ answers =
 pub answers-right : map (λ (l : Lent). levelAnswer (l .level) (l .room)) answers ≡ map (λ (l : Lent). l .answer) answers
 unfolding everything answers
 answers-right = refl
+
+-- what is typed, and the text that the program for levels prints
+pub record Typed : Type 0 where
+  pub typed : text.String
+  pub line : text.String
+
+-- a minus sign and zeros before the number, the ends, a number that is longer than any machine's; and no numbers
+unfoldable pub lines : List Typed
+lines =
+    (record { typed = "0"; line = "37 2 34\n" }) ∷
+    (record { typed = "-0"; line = "37 2 34\n" }) ∷
+    (record { typed = "-0040"; line = "36 5 37 11 43 0 43 2 41 12 31\n" }) ∷
+    (record { typed = "9999"; line = "25 3 19 13 46 0 45 4 44 13 54 0 25 13 19 8 46 43 2 24 0 25 13 19 8 37 2 43 45 12 0 25 3 19 13 46\n" }) ∷
+    (record { typed = "10000"; line = "refused 14 at 0\n" }) ∷
+    (record { typed = "-10000"; line = "refused 14 at 0\n" }) ∷
+    (record { typed = "36893488147419103237"; line = "refused 14 at 0\n" }) ∷
+    (record { typed = ""; line = "" }) ∷
+    (record { typed = "-"; line = "" }) ∷
+    (record { typed = "--1"; line = "" }) ∷
+    (record { typed = "+1"; line = "" }) ∷
+    (record { typed = "1-"; line = "" }) ∷
+    (record { typed = "1/"; line = "" }) ∷
+    (record { typed = "1:"; line = "" }) ∷ []
+
+pub lines-right : map (λ (t : Typed). printedLevel (ascii (t .typed))) lines ≡ map (λ (t : Typed). ascii (t .line)) lines
+unfolding everything lines lastDigits decimal printedCodes printedAnswer afterWriting signLength areDigits isDecimal digitsFrom levelIn spokenAnswer printedLevel
+lines-right = refl
+
+-- the longest text that can be a number, and one byte more
+pub longest-right : isDecimal (replicate 4096 48) ≡ true
+unfolding everything signLength areDigits isDecimal
+longest-right = refl
+
+pub longer-right : isDecimal (replicate 4097 48) ≡ false
+unfolding everything signLength areDigits isDecimal
+longer-right = refl

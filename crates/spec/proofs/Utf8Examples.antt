@@ -10,7 +10,7 @@ use Rattle.spec.specs.Alphabet.{gap, pause, mark, «а», «б», «у»
 use Rattle.spec.specs.Tables.{ascii}
 use Rattle.spec.specs.Refusals.{refusal}
 use Rattle.spec.specs.Utf8.{octets, characters, rowBytes, encoded, decoded, readAnswer, writeAnswer}
-use Rattle.spec.specs.Printed.{lastDigits, decimal, printedCodes, printedAnswer, afterReading, textAnswer, printedText}
+use Rattle.spec.specs.Printed.{lastDigits, decimal, printedCodes, printedAnswer, afterWriting, textAnswer, printedText}
 use Rattle.spec.specs.declared.Answer.the-variants.{Written, Refused}
 use Rattle.spec.proofs.{Computed.everything, EditingExamples.Lent}
 
@@ -127,7 +127,7 @@ lines =
     []
 
 pub printed-right : map (λ e. printedText (utf8 (e .typed))) lines ≡ map (λ e. ascii (e .line)) lines
-unfolding everything utf8 lines lastDigits decimal printedCodes printedAnswer afterReading textAnswer printedText
+unfolding everything utf8 lines lastDigits decimal printedCodes printedAnswer afterWriting textAnswer printedText
 printed-right = refl
 
 -- one that is too long

@@ -1,16 +1,18 @@
--- Paper 01, 'Joints', the program: the text that it prints for a message, in ASCII. And the text that a second program prints for a text in UTF-8, with paper 02's slips 1 and 2 before it.
+-- Paper 01, 'Joints', the program: the text that it prints for a message, in ASCII. The text that a second program prints for a text in UTF-8, with paper 02's slips 1 and 2 before it; and that a third prints for a level in decimal, with slip 5 before it.
 -- Assumes nothing: these are definitions.
-use Prim.Native.Nat.{ℕ, zero, suc, _+_, _/_, _%_}
-use mathlib.Core.Bool.{cond}
+use Prim.Native.Nat.{ℕ, zero, suc, _+_, _-_, _*_, _/_, _%_}
+use mathlib.Core.Bool.{Bool, true, cond, _&&_, not}
 use mathlib.Core.List.{List, [], _∷_, _++_}
-use lib.Dec.{leb}
-use lib.ListN.{length}
+use lib.Dec.{eqb, leb}
+use lib.ListN.{length, drop}
+use lib.IntN.{ℤ, pos, negℤ}
 use Rattle.spec.specs.Tables.{ascii}
 use Rattle.spec.specs.Tape.{tape}
 use Rattle.spec.specs.Refusals.{refusal}
 use Rattle.spec.specs.Answers.{tapeAnswer}
 use Rattle.spec.specs.Editing.{edited}
 use Rattle.spec.specs.Utf8.{decoded, readAnswer}
+use Rattle.spec.specs.SpokenLevels.{spoken, levelAnswer}
 use Rattle.spec.specs.declared.Answer.{Answer}
 use Rattle.spec.specs.declared.Answer.the-variants.{Written, Refused}
 
@@ -38,14 +40,46 @@ printedAnswer (Refused r) codes = ascii "refused " ++ (decimal (r .number) ++ (a
 unfoldable pub printed : List ℕ → List ℕ
 printed m = printedAnswer (tapeAnswer m 8192) (tape m) ++ ascii "\n"
 
--- what is answered after the reader: its refusal, where it has one
-unfoldable pub afterReading : Answer → Answer → Answer
-afterReading (Written n k) a = a
-afterReading (Refused r) a = Refused r
+-- what is answered after another operation: its refusal, where it has one
+unfoldable pub afterWriting : Answer → Answer → Answer
+afterWriting (Written n k) a = a
+afterWriting (Refused r) a = Refused r
 
 -- A text t in UTF-8 is read, lent as much as it has, then edited and transcribed as a message is; the editor, lent as much, refuses nothing. One of over 65,536 bytes is refused as a message of over 4,096 is.
 unfoldable pub textAnswer : List ℕ → Answer
-textAnswer t = cond (leb (length t) 65536) (afterReading (readAnswer t (length t)) (tapeAnswer (edited (decoded t)) 8192)) (Refused (refusal 2 0))
+textAnswer t = cond (leb (length t) 65536) (afterWriting (readAnswer t (length t)) (tapeAnswer (edited (decoded t)) 8192)) (Refused (refusal 2 0))
 
 unfoldable pub printedText : List ℕ → List ℕ
 printedText t = printedAnswer (textAnswer t) (tape (edited (decoded t))) ++ ascii "\n"
+
+-- A level in decimal: the sign that the text begins with is a minus sign or none,
+unfoldable pub signLength : List ℕ → ℕ
+signLength [] = 0
+signLength (b ∷ t) = cond (eqb b 45) 1 0
+
+-- nothing but digits stands after it,
+unfoldable pub areDigits : List ℕ → Bool
+areDigits [] = true
+areDigits (b ∷ t) = (leb 48 b && leb b 57) && areDigits t
+
+-- and at least one; of more than 4,096 bytes a text is no number
+unfoldable pub isDecimal : List ℕ → Bool
+isDecimal t = leb (length t) 4096 && (not (leb (length t) (signLength t)) && areDigits (drop (signLength t) t))
+
+-- the number that digits say, behind those that say n
+unfoldable pub digitsFrom : ℕ → List ℕ → ℕ
+digitsFrom n [] = n
+digitsFrom n (b ∷ t) = digitsFrom (10 * n + (b - 48)) t
+
+unfoldable pub levelIn : List ℕ → ℤ
+levelIn t =
+    let n = pos (digitsFrom 0 (drop (signLength t) t)) in
+    cond (eqb (signLength t) 0) n (negℤ n)
+
+-- a level is spoken, lent as much as any takes, and its words are transcribed as a message is
+unfoldable pub spokenAnswer : ℤ → Answer
+spokenAnswer level = afterWriting (levelAnswer level 54) (tapeAnswer (spoken level) 8192)
+
+-- The whole text for a text t in decimal; nothing where it is no number.
+unfoldable pub printedLevel : List ℕ → List ℕ
+printedLevel t = cond (isDecimal t) (printedAnswer (spokenAnswer (levelIn t)) (tape (spoken (levelIn t))) ++ ascii "\n") []

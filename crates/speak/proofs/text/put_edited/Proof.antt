@@ -1,7 +1,8 @@
 -- The editor puts the edited text, and the transcriber's answer for it is put.
 use Rattle.laws.proofs.Kit.{needs}
 use Rattle.spec.specs.Editing.{edited}
-use Rattle.speak.proofs.Texts.{Part, edit-part, edit-never}
+use Rattle.console.proofs.Texts.{Part}
+use Rattle.speak.proofs.Texts.{edit-part, edit-never}
 use Rattle.speak.proofs.text.put_edited.Statement.{statement}
 use Rattle.speak.proofs.text.put_edited.Tie as tie
 

@@ -3,7 +3,8 @@ use Rattle.laws.proofs.Kit.{_≤_, _≡_, [], arith, length, needs}
 use Rattle.spec.specs.Utf8.{decoded}
 use Rattle.spec.specs.Printed.{printedAnswer, textAnswer}
 use Rattle.spec.specs.{Refusals.refusal, declared.Answer.the-variants.Refused}
-use Rattle.speak.proofs.Texts.{Part, refusal-short, read-part, read-short, text-spoken, text-refused, text-long}
+use Rattle.console.proofs.Texts.{Part, refusal-short}
+use Rattle.speak.proofs.Texts.{read-part, read-short, text-spoken, text-refused, text-long}
 use Rattle.speak.proofs.text.put_read.Statement.{statement}
 use Rattle.speak.proofs.text.put_read.Tie as tie
 
