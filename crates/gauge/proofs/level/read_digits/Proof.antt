@@ -26,6 +26,6 @@ read-digits-spec =
     (λ c. omega (arith, c .before .loop-test .taken))
     (λ c.
     let n = c .before in
-    ⊎-elim (λ w. rw (w .2) (reads-more (n .before .loop .inv) (n .loop-test .taken) (w .0 .taken)))
-    (λ w. rw (w .1) (reads-past (n .before .loop .inv) (n .loop-test .taken) (w .0 .left))) (c .if1 .came))
+    ⊎-elim (λ w. rw (w .2) (reads-more (n .before .loop .inv) (n .loop-test .taken) (omega (arith, w .0 .taken))))
+    (λ w. rw (w .1) (reads-past (n .before .loop .inv) (n .loop-test .taken) (omega (arith, w .0 .left)))) (c .if1 .came))
     (λ c. reads-all (c .before .loop .inv) (c .loop-test .left)))
