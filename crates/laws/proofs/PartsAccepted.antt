@@ -1,9 +1,9 @@
 -- A part of an accepted message, cut at its breaks, is accepted: every row looks back no further than the break before, and a break last in a part would stand before a break or last in the message.
 use Rattle.laws.proofs.Kit.{ℕ, zero, suc, _+_, _-_, _<_, _≤_, _≡_, refl, sym, _∙_, Bool, true, false, _||_, or-true, true≢false, List, [], _∷_, _++_, append-nil, _⊎_, inl, inr, ⊎-elim, arith, length, take, drop, getD, length-take, length-drop, take-all, take-append-drop, drop-cons, drop-drop, drop-length, getD-take, getD-drop}
-use Rattle.spec.specs.Refusals.{vowelByte, signByte, hardSignByte, letterByte, first, none, adjacent, vowelSign, lettersBefore, row3, row4, row5, row6, row7, row8, row9, row10, rows, fitsIn, beforeAt, checkOf, NoneFits}
+use Rattle.spec.specs.Refusals.{vowelByte, signByte, hardSignByte, first, none, adjacent, vowelSign, lettersBefore, row3, row4, row5, row6, row7, row8, row9, row10, rows, fitsIn, beforeAt, checkOf, NoneFits}
 use Rattle.spec.specs.{Letters.isBreak, Letters.isMark, Joints.RisingFrom, Joints.EachPartFrom, declared.Counts.Counts, declared.Checked.the-variants.Accepted}
 use Rattle.laws.proofs.Accepted.{countsOf, Clear, Passes, ClearFrom, places-clear, each-place, accepted-passes, passes-accepted, passes-none}
-use Rattle.laws.proofs.Classes.{cond-app, cond-same, either, refuted, NoBreak, break-mark, break-vowel, break-sign, break-hard-sign, break-consonant, or-false}
+use Rattle.laws.proofs.Classes.{cond-app, either, refuted, NoBreak, break-mark, break-vowel, break-sign, break-hard-sign, or-false}
 use Rattle.laws.proofs.{Cuts.break-within, Parts.part, Parts.Begins}
 
 -- the bytes before a part, nearest first: none, or a break is next
@@ -147,33 +147,3 @@ module _ (m : List ℕ) (p : Passes m) where
   parts-none a (c ∷ cuts) b l r =
       let n = break-within m c (r .1) in
       (passes-none (part m a c) (part-passes m p a c b (r .0) (omega arith) (inl (r .1))), parts-none (suc c) cuts (r .1) n (r .2))
-
--- The other way round: what is clear by itself is clear behind a break and what stands before that,
-clear-over : (t : List ℕ) → Opens t → (x m : List ℕ) → ClearFrom x m → ClearFrom (x ++ t) m
-clear-over t o x [] c = tt
-clear-over t o x (b ∷ m) c = (λ k. rows-over k x t b m o ∙ c .0 k, clear-over t o (b ∷ x) m (c .1))
-
--- a break between two other bytes is clear,
-break-clear : (x : List ℕ) (b d : ℕ) (after : List ℕ) → isBreak b ≡ false → isBreak d ≡ true → none after ≡ false → Clear (b ∷ x) d after
-unfolding fitsIn rows row3 row4 row5 row6 row7 row8 row9 row10 none first letterByte
-break-clear x b d after f o n k = rw (o, f, n, break-mark d o, break-sign d o, break-vowel d o, break-consonant d o) (simp cond-same)
-
--- and so are clear bytes with a break and clear bytes behind them.
-join-clear : (x p : List ℕ) (b d : ℕ) (m : List ℕ) → isBreak d ≡ true → none m ≡ false → ClearFrom x (b ∷ p) → ClearFrom [] m → ClearFrom x ((b ∷ p) ++ (d ∷ m))
-unfolding none
-join-clear x [] b d m o n c e =
-    let f = last-firm x b [] tt c in
-    (λ k. rows-after k x b (d ∷ m) [] (λ q. absurd (true≢false (sym q ∙ f))) ∙ c .0 k, (break-clear x b d m f o n, clear-over (d ∷ b ∷ x) o [] m e))
-join-clear x (a ∷ p) b d m o n c e = (λ k. rows-after k x b ((a ∷ p) ++ (d ∷ m)) (a ∷ p) (λ _. refl) ∙ c .0 k, join-clear (b ∷ x) p a d m o n (c .1) e)
-
--- Two messages that pass, with a break between and short enough, are a message that passes.
-pub joined-passes : (a m : List ℕ) (d : ℕ) → isBreak d ≡ true → Passes a → Passes m → length (a ++ (d ∷ m)) ≤ 4096 → Passes (a ++ (d ∷ m))
-unfolding beforeAt none
-joined-passes [] m d o p q s = absurd (omega (arith, p .some))
-joined-passes (b ∷ a) [] d o p q s = absurd (omega (arith, q .some))
-joined-passes (b ∷ a) (e ∷ m) d o p q s = record {
-  some = omega arith;
-  short = s;
-  rows = λ i. each-place (b ∷ (a ++ (d ∷ e ∷ m))) Clear (b ∷ (a ++ (d ∷ e ∷ m))) 0 refl
-      (join-clear [] a b d (e ∷ m) o refl (places-clear (b ∷ a) (p .rows) (b ∷ a) 0 refl) (places-clear (e ∷ m) (q .rows) (e ∷ m) 0 refl)) i (omega arith);
-}

@@ -6,7 +6,7 @@ use Rattle.spec.specs.{Alphabet.gap, Letters.isGap, Letters.isBreak, Refusals.c
 use Rattle.spec.proofs.Computed.{everything}
 use Rattle.laws.proofs.Classes.{cond-both, or-false, below-same}
 use Rattle.laws.proofs.Accepted.{Passes, check-finds, given-range, passes-none}
-use Rattle.laws.proofs.PartsAccepted.{joined-passes}
+use Rattle.laws.proofs.Phrases.{passes-join}
 
 -- what is claimed of two lists of words is claimed of both
 each-append : (Claim : List ℕ → Type 0) (a b : List (List ℕ)) → Each Claim a → Each Claim b → Each Claim (a ++ b)
@@ -109,7 +109,7 @@ spaced-passes : (w : List ℕ) (words : List (List ℕ)) → Each Sound (w ∷ w
 unfolding spaced afterGaps
 spaced-passes w [] e h = rw append-nil (e .0 .passes)
 spaced-passes w (v ∷ words) e h =
-    joined-passes w (spaced (v ∷ words)) gap gap-break (e .0 .passes) (spaced-passes v words (e .1) (omega (arith, length-append w (gap ∷ spaced (v ∷ words))))) h
+    passes-join gap (spaced (v ∷ words)) (spaced-passes v words (e .1) (omega (arith, length-append w (gap ∷ spaced (v ∷ words))))) gap-break w (e .0 .passes) h
 
 -- Words behind a gap each, one list of them after another.
 pub gaps-append : (a b : List (List ℕ)) → afterGaps (a ++ b) ≡ afterGaps a ++ afterGaps b
