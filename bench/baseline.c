@@ -4,7 +4,8 @@
  * stands to its right and on little else. Nothing is written before every refusal is settled.
  *
  * The editor, after them, is apart: one pass from left to right, and one before it only where the output might be too short. So is the
- * writer of UTF-8, but for the check. The reader of UTF-8 always makes two passes, since any sequence may be refused.
+ * writer of UTF-8, but for the check. The reader of UTF-8 always makes two passes, since any sequence may be refused. The words of a level
+ * come from two tables, by two digits each.
  *
  * The classes T, P, Q, V1 and V2, the sets D and U and the numbers of the refusals are those of document 01.
  */
@@ -735,4 +736,109 @@ baseline_answer baseline_write_utf8(const uint8_t *msg, size_t len, uint8_t *out
             return refused(11, (uint32_t)length);
     }
     return (baseline_answer){.length = (uint32_t)(write_sequences(msg, msg + len, out) - out)};
+}
+
+/*
+ * Where the words of levels stand in their table. Those of 1 to 19 stand at their numbers, those of tens and hundreds and the feminine one and
+ * two as many places from these as their digit says.
+ */
+enum { ZERO, TENS = 18, HUNDREDS = 27, FEMININE = 36, THOUSAND_OF_ONE = 39, THOUSAND_OF_FEW, THOUSAND_OF_MANY, MINUS };
+
+enum { MAX_LEVEL = 9999, MAX_WORDS = 6 };
+
+struct word {
+    uint8_t length;
+    char letters[15];
+};
+
+#define WORD(letters) {sizeof(letters) - 1, letters}
+
+static const struct word level_words[] = {
+    [ZERO] = WORD("\xED\xEE*\xEB\xFC"),                                               /* но*ль */
+    [1] = WORD("\xEE\xE4\xE8*\xED"),                                                  /* оди*н */
+    [2] = WORD("\xE4\xE2\xE0*"),                                                      /* два* */
+    [3] = WORD("\xF2\xF0\xE8*"),                                                      /* три* */
+    [4] = WORD("\xF7\xE5\xF2\xFB*\xF0\xE5"),                                          /* четы*ре */
+    [5] = WORD("\xEF\xFF*\xF2\xFC"),                                                  /* пя*ть */
+    [6] = WORD("\xF8\xE5*\xF1\xF2\xFC"),                                              /* ше*сть */
+    [7] = WORD("\xF1\xE5*\xEC\xFC"),                                                  /* се*мь */
+    [8] = WORD("\xE2\xEE*\xF1\xE5\xEC\xFC"),                                          /* во*семь */
+    [9] = WORD("\xE4\xE5*\xE2\xFF\xF2\xFC"),                                          /* де*вять */
+    [10] = WORD("\xE4\xE5*\xF1\xFF\xF2\xFC"),                                         /* де*сять */
+    [11] = WORD("\xEE\xE4\xE8*\xED\xED\xE0\xE4\xF6\xE0\xF2\xFC"),                     /* оди*ннадцать */
+    [12] = WORD("\xE4\xE2\xE5\xED\xE0*\xE4\xF6\xE0\xF2\xFC"),                         /* двена*дцать */
+    [13] = WORD("\xF2\xF0\xE8\xED\xE0*\xE4\xF6\xE0\xF2\xFC"),                         /* трина*дцать */
+    [14] = WORD("\xF7\xE5\xF2\xFB*\xF0\xED\xE0\xE4\xF6\xE0\xF2\xFC"),                 /* четы*рнадцать */
+    [15] = WORD("\xEF\xFF\xF2\xED\xE0*\xE4\xF6\xE0\xF2\xFC"),                         /* пятна*дцать */
+    [16] = WORD("\xF8\xE5\xF1\xF2\xED\xE0*\xE4\xF6\xE0\xF2\xFC"),                     /* шестна*дцать */
+    [17] = WORD("\xF1\xE5\xEC\xED\xE0*\xE4\xF6\xE0\xF2\xFC"),                         /* семна*дцать */
+    [18] = WORD("\xE2\xEE\xF1\xE5\xEC\xED\xE0*\xE4\xF6\xE0\xF2\xFC"),                 /* восемна*дцать */
+    [19] = WORD("\xE4\xE5\xE2\xFF\xF2\xED\xE0*\xE4\xF6\xE0\xF2\xFC"),                 /* девятна*дцать */
+    [TENS + 2] = WORD("\xE4\xE2\xE0*\xE4\xF6\xE0\xF2\xFC"),                           /* два*дцать */
+    [TENS + 3] = WORD("\xF2\xF0\xE8*\xE4\xF6\xE0\xF2\xFC"),                           /* три*дцать */
+    [TENS + 4] = WORD("\xF1\xEE*\xF0\xEE\xEA"),                                       /* со*рок */
+    [TENS + 5] = WORD("\xEF\xFF\xF2\xFC\xE4\xE5\xF1\xFF*\xF2"),                       /* пятьдеся*т */
+    [TENS + 6] = WORD("\xF8\xE5\xF1\xF2\xFC\xE4\xE5\xF1\xFF*\xF2"),                   /* шестьдеся*т */
+    [TENS + 7] = WORD("\xF1\xE5*\xEC\xFC\xE4\xE5\xF1\xFF\xF2"),                       /* се*мьдесят */
+    [TENS + 8] = WORD("\xE2\xEE*\xF1\xE5\xEC\xFC\xE4\xE5\xF1\xFF\xF2"),               /* во*семьдесят */
+    [TENS + 9] = WORD("\xE4\xE5\xE2\xFF\xED\xEE*\xF1\xF2\xEE"),                       /* девяно*сто */
+    [HUNDREDS + 1] = WORD("\xF1\xF2\xEE*"),                                           /* сто* */
+    [HUNDREDS + 2] = WORD("\xE4\xE2\xE5*\xF1\xF2\xE8"),                               /* две*сти */
+    [HUNDREDS + 3] = WORD("\xF2\xF0\xE8*\xF1\xF2\xE0"),                               /* три*ста */
+    [HUNDREDS + 4] = WORD("\xF7\xE5\xF2\xFB*\xF0\xE5\xF1\xF2\xE0"),                   /* четы*реста */
+    [HUNDREDS + 5] = WORD("\xEF\xFF\xF2\xFC\xF1\xEE*\xF2"),                           /* пятьсо*т */
+    [HUNDREDS + 6] = WORD("\xF8\xE5\xF1\xF2\xFC\xF1\xEE*\xF2"),                       /* шестьсо*т */
+    [HUNDREDS + 7] = WORD("\xF1\xE5\xEC\xFC\xF1\xEE*\xF2"),                           /* семьсо*т */
+    [HUNDREDS + 8] = WORD("\xE2\xEE\xF1\xE5\xEC\xFC\xF1\xEE*\xF2"),                   /* восемьсо*т */
+    [HUNDREDS + 9] = WORD("\xE4\xE5\xE2\xFF\xF2\xFC\xF1\xEE*\xF2"),                   /* девятьсо*т */
+    [FEMININE + 1] = WORD("\xEE\xE4\xED\xE0*"),                                       /* одна* */
+    [FEMININE + 2] = WORD("\xE4\xE2\xE5*"),                                           /* две* */
+    [THOUSAND_OF_ONE] = WORD("\xF2\xFB*\xF1\xFF\xF7\xE0"),                            /* ты*сяча */
+    [THOUSAND_OF_FEW] = WORD("\xF2\xFB*\xF1\xFF\xF7\xE8"),                            /* ты*сячи */
+    [THOUSAND_OF_MANY] = WORD("\xF2\xFB*\xF1\xFF\xF7"),                               /* ты*сяч */
+    [MINUS] = WORD("\xEC\xE8*\xED\xF3\xF1"),                                          /* ми*нус */
+};
+
+/* The words of a level, of which it has as many as are given back. */
+static size_t find_words(int32_t level, const struct word **words)
+{
+    uint32_t n = (uint32_t)(level < 0 ? -level : level);
+    uint32_t thousands = n / 1000, hundreds = n % 1000 / 100, rest = n % 100;
+    size_t count = 0;
+
+    if (level < 0)
+        words[count++] = &level_words[MINUS];
+    if (thousands != 0) {
+        words[count++] = &level_words[thousands <= 2 ? FEMININE + thousands : thousands];
+        words[count++] = &level_words[thousands == 1 ? THOUSAND_OF_ONE : thousands <= 4 ? THOUSAND_OF_FEW : THOUSAND_OF_MANY];
+    }
+    if (hundreds != 0)
+        words[count++] = &level_words[HUNDREDS + hundreds];
+    if (rest >= 20)
+        words[count++] = &level_words[TENS + rest / 10];
+    rest = rest >= 20 ? rest % 10 : rest;
+    if (rest != 0 || n == 0)
+        words[count++] = &level_words[rest];
+    return count;
+}
+
+baseline_answer baseline_speak_level(int32_t level, uint8_t *out, size_t cap)
+{
+    if (level < -MAX_LEVEL || level > MAX_LEVEL)
+        return refused(14, 0);
+    const struct word *words[MAX_WORDS];
+    size_t count = find_words(level, words);
+    size_t length = count - 1;
+
+    for (size_t i = 0; i < count; i++)
+        length += words[i]->length;
+    if (length > cap)
+        return refused(11, (uint32_t)length);
+    for (size_t i = 0; i < count; i++) {
+        if (i != 0)
+            *out++ = GAP;
+        memcpy(out, words[i]->letters, words[i]->length);
+        out += words[i]->length;
+    }
+    return (baseline_answer){.length = (uint32_t)length};
 }

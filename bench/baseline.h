@@ -28,5 +28,6 @@ baseline_answer baseline_join(const uint8_t *msg, size_t len, const size_t *cuts
 baseline_text baseline_edit(const uint8_t *text, size_t len, uint8_t *out, size_t cap);
 baseline_text baseline_read_utf8(const uint8_t *text, size_t len, uint8_t *out, size_t cap);
 baseline_answer baseline_write_utf8(const uint8_t *msg, size_t len, uint8_t *out, size_t cap);
+baseline_answer baseline_speak_level(int32_t level, uint8_t *out, size_t cap);
 
 #endif

@@ -1,5 +1,5 @@
 /*
- * Measures the proved library beside the baseline on the same messages, and on texts for the editor and for the reader.
+ * Measures the proved library beside the baseline on the same messages, on texts for the editor and for the reader, and on levels.
  *
  *   measure time    compares all answers and outputs of the two, then prints the nanoseconds a byte of each
  *   measure count   makes each call once between requests to callgrind, which then holds the instructions of each
@@ -19,6 +19,7 @@
 #include "baseline.h"
 
 enum { MAX_BYTES = 65536, MAX_CUTS = 4096 / 2, OUT_BYTES = 2 * MAX_BYTES, FILLER = 0xAA };
+enum { MAX_LEVEL = 9999, MAX_LEVELS = 2 * MAX_LEVEL + 1, LEVEL_ROOM = 64, LEVEL_BYTES = 2 * LEVEL_ROOM };
 enum { ROUNDS = 40, ROUND_NS = 200000 };
 
 /* Words of dispatchers' messages, a mark after each stressed vowel. */
@@ -98,14 +99,24 @@ static uint8_t next_byte(const char **text)
     return (uint8_t)(point - 0x410 + 0xC0);
 }
 
+struct spoken {
+    int32_t level;
+    size_t length; /* of its words; 0 where the level is refused */
+};
+
 struct message {
     uint8_t bytes[MAX_BYTES];
     size_t len;
     size_t cuts[MAX_CUTS];
     size_t cut_count;
-    size_t edited;                   /* the length of its edited text, where it is a text for the editor */
-    uint8_t utf8[2 * MAX_BYTES + 1]; /* the same in UTF-8, where it is for the reader or the writer, and a first byte alone after it */
-    size_t utf8_len;                 /* without that byte */
+    size_t edited;                    /* the length of its edited text, where it is a text for the editor */
+    uint8_t utf8[2 * MAX_BYTES + 1];  /* the same in UTF-8, where it is for the reader or the writer, and a first byte alone after it */
+    size_t utf8_len;                  /* without that byte */
+    struct spoken levels[MAX_LEVELS]; /* where it is no message but levels */
+    size_t level_count;
+    const char *name;
+    size_t units; /* what costs are divided by: its bytes; the bytes of all words of its levels; or how many these are, if refused */
+    int uses;
 };
 
 struct list {
@@ -113,8 +124,14 @@ struct list {
     size_t count;
 };
 
-/* What operations a case is for. A text with punctuation is for the editor or the reader alone: all else would refuse it. */
-enum { FOR_MESSAGES = 1, FOR_EDITOR = 2, FOR_READER = 4, FOR_WRITER = 8, FOR_ALL = 15 };
+/*
+ * What operations a case is for. A text with punctuation is for the editor or the reader alone: all else would refuse it. Levels are
+ * apart from all of these: spoken with room for any, with just room, or outside the range.
+ */
+enum {
+    FOR_MESSAGES = 1, FOR_EDITOR = 2, FOR_READER = 4, FOR_WRITER = 8,
+    FOR_SPEAKER = 16, FOR_SHORT_OUTPUT = 32, FOR_REFUSAL = 64, FOR_LEVELS = FOR_SPEAKER | FOR_SHORT_OUTPUT | FOR_REFUSAL, FOR_ALL = 127
+};
 
 struct test_case {
     const char *name;
@@ -124,6 +141,20 @@ struct test_case {
     const char *last; /* the word to end with, or NULL */
     int uses;
 };
+
+/* The levels from first to last whose words have at least so many bytes. */
+struct level_case {
+    const char *name;
+    int32_t first, last;
+    size_t least;
+    int uses;
+};
+
+static uint32_t next_random(uint32_t *seed)
+{
+    *seed = *seed * 1664525u + 1013904223u;
+    return *seed >> 8;
+}
 
 static void append(struct message *message, size_t len, const char *word)
 {
@@ -137,8 +168,7 @@ static void fill(struct message *message, const struct test_case *c)
     uint32_t seed = 1;
     message->len = 0;
     for (size_t i = 0; message->len < c->len; i++) {
-        seed = seed * 1664525u + 1013904223u;
-        size_t pick = c->shuffled ? seed >> 8 : i;
+        size_t chance = next_random(&seed), pick = c->shuffled ? chance : i;
         append(message, c->len, c->words.items[pick % c->words.count]);
         append(message, c->len, c->after.items[i % c->after.count]);
     }
@@ -219,12 +249,20 @@ static const struct test_case cases[] = {
     {"every character", 4096, LIST(characters), LIST(nothing), 0, NULL, FOR_READER},
 };
 
-enum operation {
-    NOTHING, CHECK, NAME, TRANSCRIBE, JOIN_NO_CUT, JOIN_ALL_CUTS, EDIT, EDIT_JUST_ROOM, EDIT_NO_ROOM,
-    READ, READ_JUST_ROOM, READ_NO_ROOM, READ_REFUSED, WRITE, WRITE_JUST_ROOM, WRITE_NO_ROOM, OPERATIONS
+static const struct level_case level_cases[] = {
+    {"every level", -MAX_LEVEL, MAX_LEVEL, 0, FOR_SPEAKER | FOR_SHORT_OUTPUT},
+    {"longest levels", -MAX_LEVEL, MAX_LEVEL, 54, FOR_SPEAKER},
+    {"levels 0 to 20", 0, 20, 0, FOR_SPEAKER | FOR_SHORT_OUTPUT},
+    {"levels outside", MAX_LEVEL + 1, MAX_LEVEL + 1000, 0, FOR_REFUSAL},
 };
 
-/* A refusal for want of room is compared but not measured: just enough room takes no less. */
+enum operation {
+    NOTHING, CHECK, NAME, TRANSCRIBE, JOIN_NO_CUT, JOIN_ALL_CUTS, EDIT, EDIT_JUST_ROOM, EDIT_NO_ROOM,
+    READ, READ_JUST_ROOM, READ_NO_ROOM, READ_REFUSED, WRITE, WRITE_JUST_ROOM, WRITE_NO_ROOM,
+    SPEAK, SPEAK_JUST_ROOM, SPEAK_REFUSED, OPERATIONS
+};
+
+/* A refusal for want of room is compared but not measured: just enough room takes no less. Levels are compared apart. */
 static const struct {
     const char *name;
     int uses, measured;
@@ -246,12 +284,15 @@ static const struct {
     [WRITE] = {"write", FOR_WRITER, 1, 0},
     [WRITE_JUST_ROOM] = {"write, just room", FOR_WRITER, 1, 0},
     [WRITE_NO_ROOM] = {"write, no room", FOR_WRITER, 0, 11},
+    [SPEAK] = {"speak", FOR_SPEAKER, 1, 0},
+    [SPEAK_JUST_ROOM] = {"speak, just room", FOR_SHORT_OUTPUT, 1, 0},
+    [SPEAK_REFUSED] = {"speak, refused", FOR_REFUSAL, 1, 14},
 };
 
 /* No output is too short for an edit of breaks alone. */
-static int suits(const struct test_case *c, const struct message *m, enum operation operation)
+static int suits(const struct message *m, enum operation operation)
 {
-    return (c->uses & operations[operation].uses) && !(operation == EDIT_NO_ROOM && m->edited == 0);
+    return (m->uses & operations[operation].uses) && !(operation == EDIT_NO_ROOM && m->edited == 0);
 }
 
 /* The four numbers of either library's answers. Editor's and reader's place and length are wider: the fourth has what is above 32 bits. */
@@ -260,6 +301,7 @@ struct result {
 };
 
 typedef struct result run_function(enum operation operation, const struct message *m, uint8_t *out);
+typedef struct result speak_function(int32_t level, uint8_t *out, size_t cap);
 
 /*
  * How long an output is given to an edit, a reading or a writing: to the plain operation as much as any answer may take, to the next as
@@ -272,7 +314,10 @@ static size_t room(enum operation operation, enum operation plain, size_t most, 
     return operation == plain + 1 ? taken : taken - 1;
 }
 
-/* Edits and readings are in functions apart: their answers are too wide for two registers, and in line made the other calls longer. */
+/*
+ * Edits and readings are in functions apart: their answers are too wide for two registers, and in line made the other calls longer. The
+ * levels of a case are spoken in one loop, and to do nothing is there the same loop with calls of a function that is empty.
+ */
 #define DEFINE_RUN(library)                                                                                     \
     static struct result library##_answer_of(library##_answer a)                                                \
     {                                                                                                           \
@@ -295,6 +340,26 @@ static size_t room(enum operation operation, enum operation plain, size_t most, 
         size_t len = operation == READ_REFUSED ? m->utf8_len + 1 : m->utf8_len;                                 \
         size_t cap = room(operation, READ, m->utf8_len, m->len);                                                \
         return library##_text_of(library##_read_utf8(m->utf8, len, out, cap));                                  \
+    }                                                                                                           \
+    __attribute__((noipa))                                                                                      \
+    static library##_answer library##_speak_nothing(int32_t level, uint8_t *out, size_t cap)                    \
+    {                                                                                                           \
+        (void)level, (void)out, (void)cap;                                                                      \
+        return (library##_answer){0, 0, 0, 0};                                                                  \
+    }                                                                                                           \
+    __attribute__((noinline))                                                                                   \
+    static struct result library##_run_levels(enum operation operation, const struct message *m, uint8_t *out)  \
+    {                                                                                                           \
+        library##_answer (*speak)(int32_t, uint8_t *, size_t) =                                                 \
+            operation == NOTHING ? library##_speak_nothing : library##_speak_level;                             \
+        library##_answer a = {0, 0, 0, 0};                                                                      \
+        for (const struct spoken *s = m->levels; s != m->levels + m->level_count; s++)                          \
+            a = speak(s->level, out, operation == SPEAK_JUST_ROOM ? s->length : LEVEL_ROOM);                    \
+        return library##_answer_of(a);                                                                          \
+    }                                                                                                           \
+    static struct result library##_speak(int32_t level, uint8_t *out, size_t cap)                               \
+    {                                                                                                           \
+        return library##_answer_of(library##_speak_level(level, out, cap));                                     \
     }                                                                                                           \
     static struct result library##_run(enum operation operation, const struct message *m, uint8_t *out)         \
     {                                                                                                           \
@@ -335,12 +400,17 @@ DEFINE_RUN(baseline)
 DEFINE_RUN(govorun)
 
 static run_function *const libraries[] = {baseline_run, govorun_run};
+static run_function *const level_libraries[] = {baseline_run_levels, govorun_run_levels};
+static speak_function *const speakers[] = {baseline_speak, govorun_speak};
 static const char *const library_names[] = {"baseline", "proved"};
 
 static uint8_t outputs[2][OUT_BYTES];
 
 static void make(struct message *message, const struct test_case *c)
 {
+    message->name = c->name;
+    message->units = c->len;
+    message->uses = c->uses;
     fill(message, c);
     if (c->uses & FOR_EDITOR)
         message->edited = baseline_edit(message->bytes, message->len, outputs[0], OUT_BYTES).length;
@@ -354,34 +424,102 @@ static void make(struct message *message, const struct test_case *c)
         encode(message);
 }
 
-/* Whether the bytes of an output from this place on are those that it had before the call. */
-static int kept(const uint8_t *out, size_t from)
+/* Puts levels in an order by chance: in rising order the processor would foresee which words come next. */
+static void shuffle(struct spoken *levels, size_t count)
 {
-    while (from < OUT_BYTES && out[from] == FILLER)
+    uint32_t seed = 1;
+    for (size_t i = count; i > 1; i--) {
+        size_t pick = next_random(&seed) % i;
+        struct spoken s = levels[pick];
+        levels[pick] = levels[i - 1];
+        levels[i - 1] = s;
+    }
+}
+
+static void make_levels(struct message *message, const struct level_case *c)
+{
+    message->name = c->name;
+    message->units = message->level_count = 0;
+    message->uses = c->uses;
+    for (int32_t level = c->first; level <= c->last; level++) {
+        size_t length = baseline_speak_level(level, outputs[0], LEVEL_ROOM).length;
+        if (length < c->least)
+            continue;
+        message->levels[message->level_count++] = (struct spoken){level, length};
+        message->units += length == 0 ? 1 : length;
+    }
+    shuffle(message->levels, message->level_count);
+}
+
+/* Whether the bytes of an output from this place on are those that it had before the call. */
+static int kept(const uint8_t *out, size_t from, size_t bytes)
+{
+    while (from < bytes && out[from] == FILLER)
         from++;
-    return from >= OUT_BYTES;
+    return from >= bytes;
 }
 
 /*
  * Ends the program unless both libraries answer with the operation's number, agree on the answer and on every byte of the output, and
  * keep what is past the answer's length, which is 0 where they refuse.
  */
-static void compare(const struct test_case *c, const struct message *message, enum operation operation)
+static void compare(const struct message *message, enum operation operation)
 {
     struct result results[2];
     for (int i = 0; i < 2; i++) {
         memset(outputs[i], FILLER, OUT_BYTES);
         results[i] = libraries[i](operation, message, outputs[i]);
-        if (results[i].number != operations[operation].number || !kept(outputs[i], results[i].first)) {
-            fprintf(stderr, "%s fails %s on '%s' of %zu bytes: %u at %u\n", library_names[i], operations[operation].name, c->name,
-                    c->len, results[i].number, results[i].place);
+        if (results[i].number != operations[operation].number || !kept(outputs[i], results[i].first, OUT_BYTES)) {
+            fprintf(stderr, "%s fails %s on '%s' of %zu bytes: %u at %u\n", library_names[i], operations[operation].name, message->name,
+                    message->len, results[i].number, results[i].place);
             exit(1);
         }
     }
     if (memcmp(&results[0], &results[1], sizeof results[0]) != 0 || memcmp(outputs[0], outputs[1], OUT_BYTES) != 0) {
-        fprintf(stderr, "the two differ: %s on '%s' of %zu bytes\n", operations[operation].name, c->name, c->len);
+        fprintf(stderr, "the two differ: %s on '%s' of %zu bytes\n", operations[operation].name, message->name, message->len);
         exit(1);
     }
+}
+
+/* The same for a level and an output of cap bytes; the answer must have this number. */
+static void compare_level(int32_t level, size_t cap, uint32_t number)
+{
+    struct result results[2];
+    for (int i = 0; i < 2; i++) {
+        memset(outputs[i], FILLER, LEVEL_BYTES);
+        results[i] = speakers[i](level, outputs[i], cap);
+        if (results[i].number != number || !kept(outputs[i], results[i].first, LEVEL_BYTES)) {
+            fprintf(stderr, "%s fails level %d with %zu bytes of output: %u at %u\n", library_names[i], level, cap, results[i].number,
+                    results[i].place);
+            exit(1);
+        }
+    }
+    if (memcmp(&results[0], &results[1], sizeof results[0]) != 0 || memcmp(outputs[0], outputs[1], LEVEL_BYTES) != 0) {
+        fprintf(stderr, "the two differ: level %d with %zu bytes of output\n", level, cap);
+        exit(1);
+    }
+}
+
+/* With every output from no byte to more than any level takes. */
+static void compare_outputs(int32_t level)
+{
+    int outside = level < -MAX_LEVEL || level > MAX_LEVEL;
+    size_t length = baseline_speak_level(level, outputs[0], LEVEL_ROOM).length;
+    for (size_t cap = 0; cap <= LEVEL_ROOM; cap++)
+        compare_level(level, cap, outside ? 14 : cap < length ? 11 : 0);
+}
+
+/* All levels, the numbers around them, those at both ends of int32_t, and some between. */
+static void compare_levels(void)
+{
+    for (int32_t level = -MAX_LEVEL - 1000; level <= MAX_LEVEL + 1000; level++)
+        compare_outputs(level);
+    for (int32_t i = 0; i < 100; i++) {
+        compare_outputs(INT32_MIN + i);
+        compare_outputs(INT32_MAX - i);
+    }
+    for (int64_t number = INT32_MIN; number <= INT32_MAX; number += 1000003)
+        compare_outputs((int32_t)number);
 }
 
 static double now_ns(void)
@@ -391,11 +529,17 @@ static double now_ns(void)
     return 1e9 * (double)t.tv_sec + (double)t.tv_nsec;
 }
 
+static run_function *run_of(int library, const struct message *message)
+{
+    return message->uses & FOR_LEVELS ? level_libraries[library] : libraries[library];
+}
+
 static double time_calls(int library, enum operation operation, const struct message *message, long calls)
 {
+    run_function *run = run_of(library, message);
     double start = now_ns();
     for (long i = 0; i < calls; i++)
-        libraries[library](operation, message, outputs[library]);
+        run(operation, message, outputs[library]);
     return (now_ns() - start) / (double)calls;
 }
 
@@ -414,38 +558,45 @@ static void time_both(enum operation operation, const struct message *message, d
         }
 }
 
-static void time_case(const struct test_case *c, const struct message *message, enum operation operation)
+static void time_case(const struct message *message, enum operation operation)
 {
-    double best[2];
+    double best[2], units = (double)message->units;
     time_both(operation, message, best);
-    printf("%s\t%zu\t%s\t%.2f\t%.2f\n", c->name, c->len, operations[operation].name, best[0] / (double)c->len,
-           best[1] / (double)c->len);
+    printf("%s\t%zu\t%s\t%.2f\t%.2f\n", message->name, message->units, operations[operation].name, best[0] / units, best[1] / units);
 }
 
 /* The first call is not counted: it may bind symbols. */
-static void count_case(const struct test_case *c, const struct message *message, enum operation operation)
+static void count_case(const struct message *message, enum operation operation)
 {
     char label[128];
     for (int i = 0; i < 2; i++) {
-        libraries[i](operation, message, outputs[i]);
+        run_function *run = run_of(i, message);
+        run(operation, message, outputs[i]);
         CALLGRIND_TOGGLE_COLLECT;
-        libraries[i](operation, message, outputs[i]);
+        run(operation, message, outputs[i]);
         CALLGRIND_TOGGLE_COLLECT;
-        snprintf(label, sizeof label, "%s\t%zu\t%s\t%s", c->name, c->len, operations[operation].name, library_names[i]);
+        snprintf(label, sizeof label, "%s\t%zu\t%s\t%s", message->name, message->units, operations[operation].name, library_names[i]);
         CALLGRIND_DUMP_STATS_AT(label);
     }
 }
 
-static void measure(const struct test_case *c, const struct message *message, enum operation operation, int timing)
+static void measure(const struct message *message, enum operation operation, int timing)
 {
-    if (timing)
-        compare(c, message, operation);
+    if (timing && !(message->uses & FOR_LEVELS))
+        compare(message, operation);
     if (!operations[operation].measured)
         return;
     if (timing)
-        time_case(c, message, operation);
+        time_case(message, operation);
     else
-        count_case(c, message, operation);
+        count_case(message, operation);
+}
+
+static void measure_all(const struct message *message, int timing)
+{
+    for (int operation = timing ? CHECK : NOTHING; operation < OPERATIONS; operation++)
+        if (suits(message, (enum operation)operation))
+            measure(message, (enum operation)operation, timing);
 }
 
 int main(int argc, char **argv)
@@ -460,9 +611,13 @@ int main(int argc, char **argv)
     }
     for (size_t i = 0; i < sizeof cases / sizeof cases[0]; i++) {
         make(&message, &cases[i]);
-        for (int operation = timing ? CHECK : NOTHING; operation < OPERATIONS; operation++)
-            if (suits(&cases[i], &message, (enum operation)operation))
-                measure(&cases[i], &message, (enum operation)operation, timing);
+        measure_all(&message, timing);
+    }
+    if (timing)
+        compare_levels();
+    for (size_t i = 0; i < sizeof level_cases / sizeof level_cases[0]; i++) {
+        make_levels(&message, &level_cases[i]);
+        measure_all(&message, timing);
     }
     return 0;
 }

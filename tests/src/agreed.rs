@@ -1,13 +1,13 @@
-//! The operations as all implementations agree on them. Each call asks the library, in `print` and
-//! `speak` a program, and ends the test unless the answer and every byte of the output are those of
-//! the implementation written from the papers; then it hands the answer on.
+//! The operations as all implementations agree on them. Each call asks the library, in `print`,
+//! `speak` and `gauge` a program, and ends the test unless the answer and every byte of the output
+//! are those of the implementation written from the papers; then it hands the answer on.
 
 use std::thread;
 use std::time::Duration;
 
 use crate::answers::{Answer, Whole};
 use crate::demand3::Pair;
-use crate::program::{Program, GOVORUN, SPEAK};
+use crate::program::{Program, GAUGE, GOVORUN, SPEAK};
 use crate::refusals::Refusal;
 use crate::text::hex;
 use crate::trial::{Operation, Trial};
@@ -53,6 +53,11 @@ pub fn join(msg: &[u8], cuts: &[usize], cap: usize) -> Result<Joined, Refusal> {
     with_output(Operation::Join(cuts), msg, cap).map(|(tape, live)| Joined { tape, live })
 }
 
+/// The speaker of levels with an output of `cap` bytes.
+pub fn speak_level(level: i32, cap: usize) -> Result<Vec<u8>, Refusal> {
+    with_output(Operation::SpeakLevel(level), &[], cap).map(|(words, _)| words)
+}
+
 /// Transcriber and joiner with room enough, for the questions of demand 3.
 pub const PAIR: Pair = Pair {
     tape: |msg| tape(msg, usize::MAX).ok(),
@@ -69,10 +74,16 @@ pub fn speak(input: &[u8]) -> String {
     printed(SPEAK, input)
 }
 
+/// What the program `gauge` prints for a level in decimal; nothing for what is no number.
+pub fn gauge(input: &[u8]) -> String {
+    printed(GAUGE, input)
+}
+
 fn printed(program: Program, input: &[u8]) -> String {
     let given = program.piped(input, input.len().max(1), Duration::ZERO);
     assert_eq!(given, (program.expected)(input), "input {}", hex(input));
-    given
+    let (print, _) = given;
+    print
 }
 
 /// Tries a program on all inputs; the workers take them in turns.
@@ -94,9 +105,9 @@ pub fn lent(operation: Operation, msg: &[u8], before: &[u8]) -> (Answer, Vec<u8>
     (answer, out)
 }
 
-/// No answer has more than two bytes for a byte of its message, so no more are lent.
+/// No more bytes are lent than an answer may have.
 fn with_output(operation: Operation, msg: &[u8], cap: usize) -> Whole {
-    let before = vec![0xAA; cap.min(2 * msg.len())];
+    let before = vec![0xAA; cap.min(operation.most(msg))];
     let (answer, mut out) = lent(operation, msg, &before);
     if let Some(refusal) = answer.refusal() {
         return Err(refusal);

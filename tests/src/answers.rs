@@ -3,10 +3,14 @@
 
 use crate::editing::edited;
 use crate::refusals::Refusal;
-use crate::{edit, fit, join, names, read_utf8, tape, write_utf8};
+use crate::spoken_levels::spoken_number;
+use crate::{edit, fit, join, names, read_utf8, speak_level, tape, write_utf8};
 
 /// The most bytes of standard input that the program `speak` takes.
 pub const MAX_INPUT: usize = 65_536;
+
+/// The most bytes of standard input that the program `gauge` takes.
+pub const MAX_NUMBER: usize = 4_096;
 
 /// The four numbers of an answer, wide enough for whatever the library gives. An accepted message
 /// has number 0 and place 0.
@@ -31,7 +35,7 @@ impl Answer {
 
     /// The refusal, unless the message was accepted.
     pub fn refusal(self) -> Option<Refusal> {
-        let number = u8::try_from(self.number).expect("no number is above 13");
+        let number = u8::try_from(self.number).expect("no number is above 14");
         let place = self.place;
         (number != 0).then_some(Refusal { number, place })
     }
@@ -65,6 +69,10 @@ pub fn whole_join(msg: &[u8], cuts: &[usize]) -> Whole {
     join(msg, cuts, usize::MAX).map(|joined| (joined.tape, joined.live))
 }
 
+pub fn whole_speak_level(level: i32) -> Whole {
+    speak_level(level, usize::MAX).map(|words| (words, 0))
+}
+
 /// An answer with an output lent to it, and the output afterwards.
 pub fn lent(whole: &Whole, before: &[u8]) -> (Answer, Vec<u8>) {
     let fitted = whole
@@ -93,26 +101,35 @@ pub fn lent(whole: &Whole, before: &[u8]) -> (Answer, Vec<u8>) {
 
 /// What the program `govorun` prints for the bytes of its standard input, a message.
 pub fn expected_print(input: &[u8]) -> String {
-    match tape(input, usize::MAX) {
-        Ok(tape) => {
-            let codes: Vec<String> = tape.iter().map(u8::to_string).collect();
-            codes.join(" ") + "\n"
-        }
-        Err(refusal) => print_refusal(refusal),
-    }
+    print_of(tape(input, usize::MAX))
 }
 
 /// What the program `speak` prints for the bytes of its standard input, a text in UTF-8.
 pub fn expected_speech(input: &[u8]) -> String {
     if input.len() > MAX_INPUT {
-        return print_refusal(Refusal::new(2, 0));
+        return print_of(Err(Refusal::new(2, 0)));
     }
-    match read_utf8(input, usize::MAX) {
-        Ok(read) => expected_print(&edited(&read)),
-        Err(refusal) => print_refusal(refusal),
-    }
+    let read = read_utf8(input, usize::MAX);
+    print_of(read.and_then(|read| tape(&edited(&read), usize::MAX)))
 }
 
-fn print_refusal(refusal: Refusal) -> String {
-    format!("refused {} at {}\n", refusal.number, refusal.place)
+/// What the program `gauge` prints for the bytes of its standard input, a level in decimal. Gives
+/// nothing where they are no number.
+pub fn expected_level(input: &[u8]) -> Option<String> {
+    if input.len() > MAX_NUMBER {
+        return None;
+    }
+    let words = spoken_number(input)?;
+    Some(print_of(words.and_then(|words| tape(&words, usize::MAX))))
+}
+
+/// A tape or a refusal as all programs print it.
+pub fn print_of(answer: Result<Vec<u8>, Refusal>) -> String {
+    match answer {
+        Ok(tape) => {
+            let codes: Vec<String> = tape.iter().map(u8::to_string).collect();
+            codes.join(" ") + "\n"
+        }
+        Err(Refusal { number, place }) => format!("refused {number} at {place}\n"),
+    }
 }

@@ -1,5 +1,5 @@
-//! What a fuzzer's bytes stand for: a list of cuts and a message, or a text in its place. `fuzz/`
-//! has the target.
+//! What a fuzzer's bytes stand for: a list of cuts and a message, or a text in its place; the first
+//! bytes of that are levels, too. `fuzz/` has the target.
 
 use crate::editing::edited;
 use crate::gen::Rng;
@@ -10,6 +10,9 @@ use crate::{read_utf8, write_utf8};
 
 /// How many bytes a cut that is written out takes.
 const WRITTEN: usize = 3;
+
+/// What is below this, with either sign, is within the range of levels or close to it.
+const CLOSE: i32 = 10_100;
 
 /// A list of cuts and a message, on which the library and the paper are compared.
 #[derive(Debug, PartialEq, Eq)]
@@ -37,9 +40,20 @@ impl<'a> Input<'a> {
         Input { cuts, msg }
     }
 
+    /// The level that the first four bytes of the message make, the low one first and 0 for those
+    /// that are missing; and, if that is far outside the range, one that is not.
+    pub fn levels(&self) -> [i32; 2] {
+        let mut bytes = [0; 4];
+        for (byte, &first) in bytes.iter_mut().zip(self.msg) {
+            *byte = first;
+        }
+        let level = i32::from_le_bytes(bytes);
+        [level, level % CLOSE]
+    }
+
     /// Tries all operations, reader and writer too, and says what is wrong with the library's answer.
     /// If the editor changes the message, or if it is a text in UTF-8, what it becomes is tried as
-    /// well, cut at every break; and if it is written, that is read back.
+    /// well, cut at every break; and if it is written, that is read back. Both levels are spoken.
     pub fn compare(&self, rng: &mut Rng) -> Result<(), String> {
         compare(rng, self.msg, &self.cuts)?;
         self.compare_made(rng, &edited(self.msg))?;
@@ -49,7 +63,8 @@ impl<'a> Input<'a> {
         if let Ok(written) = write_utf8(self.msg, usize::MAX) {
             compare_read(rng, &written, self.msg)?;
         }
-        Ok(())
+        let mut levels = self.levels().map(Operation::SpeakLevel).into_iter();
+        levels.try_for_each(|level| trial::with_any_output(rng, level, &[]))
     }
 
     /// Tries what the message becomes, if that is another.

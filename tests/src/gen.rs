@@ -1,4 +1,4 @@
-//! Random messages, texts and lists of cuts, the same ones for the same seed.
+//! Random messages, texts, lists of cuts and numbers, the same ones for the same seed.
 
 pub mod accepted;
 pub mod cuts;
@@ -6,6 +6,7 @@ pub mod damaged;
 pub mod extreme;
 pub mod lexicon;
 pub mod noise;
+pub mod numbers;
 pub mod punctuated;
 pub mod utf8;
 

@@ -1,11 +1,11 @@
-//! A second implementation of document 01 and of requests 1, 2 and 4 of document 02, written from
-//! the papers for comparison. It says what each operation must answer; it is plain rather than
-//! fast.
+//! A second implementation of document 01 and of requests 1, 2, 4 and 5 of document 02, written
+//! from the papers for comparison. It says what each operation must answer; it is plain rather
+//! than fast.
 //!
-//! The modules follow the papers: letters, refusals, the five passes, codes, joints; then editing
-//! and UTF-8. Beside them stand `gen` with the messages to try, `unit` and `program` with the
-//! library and the programs under test, and what holds them to each other: `trial`, and `agreed`
-//! for the tests.
+//! The modules follow the papers: letters, refusals, the five passes, codes, joints; then editing,
+//! UTF-8 and spoken levels. Beside them stand `gen` with the messages to try, `unit` and `program`
+//! with the library and the programs under test, and what holds them to each other: `trial`, and
+//! `agreed` for the tests.
 
 pub mod agreed;
 pub mod answers;
@@ -23,6 +23,7 @@ pub mod message;
 pub mod palatalization;
 pub mod program;
 pub mod refusals;
+pub mod spoken_levels;
 pub mod syllables;
 pub mod text;
 pub mod transcription;
@@ -32,7 +33,7 @@ pub mod utf8;
 pub mod voicing;
 pub mod vowels;
 
-pub use answers::{expected_print, expected_speech, Answer};
+pub use answers::{expected_level, expected_print, expected_speech, Answer};
 pub use codes::spell;
 pub use refusals::Refusal;
 pub use text::{cp1251, hex, show};
@@ -67,6 +68,11 @@ pub fn read_utf8(text: &[u8], cap: usize) -> Result<Vec<u8>, Refusal> {
 pub fn write_utf8(msg: &[u8], cap: usize) -> Result<Vec<u8>, Refusal> {
     accept(msg)?;
     fit(utf8::written(msg), cap)
+}
+
+/// The speaker of levels with an output of `cap` bytes.
+pub fn speak_level(level: i32, cap: usize) -> Result<Vec<u8>, Refusal> {
+    fit(spoken_levels::spoken(level)?, cap)
 }
 
 /// The message check: refusals 1 to 10, or the lengths of the answers.

@@ -7,32 +7,52 @@ use std::process::{Child, Command, Stdio};
 use std::thread;
 use std::time::Duration;
 
-use crate::answers::{expected_print, expected_speech};
-use crate::text::hex;
+use crate::answers::{expected_level, expected_print, expected_speech};
 
-/// A program under test, and what it must print.
+/// What goes to standard output and to standard error.
+pub type Written = (String, String);
+
+/// What is written where all goes well and this is printed.
+pub fn good(print: impl Into<String>) -> Written {
+    (print.into(), String::new())
+}
+
+/// A program under test, and what it must write.
 #[derive(Clone, Copy, Debug)]
 pub struct Program {
     pub name: &'static str,
     /// The environment variable that names another program to try in its place.
     variable: &'static str,
-    /// What it must print for the bytes of its standard input.
-    pub expected: fn(&[u8]) -> String,
+    /// What it must write for the bytes of its standard input.
+    pub expected: fn(&[u8]) -> Written,
 }
 
 /// It takes a message.
 pub const GOVORUN: Program = Program {
     name: "govorun",
     variable: "GOVORUN_PROGRAM",
-    expected: expected_print,
+    expected: |input| good(expected_print(input)),
 };
 
 /// It takes a text in UTF-8.
 pub const SPEAK: Program = Program {
     name: "speak",
     variable: "GOVORUN_SPEAK",
-    expected: expected_speech,
+    expected: |input| good(expected_speech(input)),
 };
+
+/// It takes a level in decimal.
+pub const GAUGE: Program = Program {
+    name: "gauge",
+    variable: "GOVORUN_GAUGE",
+    expected: |input| match expected_level(input) {
+        Some(print) => good(print),
+        None => (String::new(), NO_NUMBER.to_string()),
+    },
+};
+
+/// What `gauge` says on standard error where its input is no number.
+pub const NO_NUMBER: &str = "gauge: standard input is no number\n";
 
 impl Program {
     /// Where the program is.
@@ -52,8 +72,8 @@ impl Program {
         })
     }
 
-    /// What it prints for an input that comes through a pipe, in pieces of this length.
-    pub fn piped(self, input: &[u8], piece: usize, wait: Duration) -> String {
+    /// What it writes for an input that comes through a pipe, in pieces of this length.
+    pub fn piped(self, input: &[u8], piece: usize, wait: Duration) -> Written {
         let mut child = self.start(Stdio::piped());
         let mut pipe = child.stdin.take().expect("a pipe was asked for");
         for part in input.chunks(piece) {
@@ -64,21 +84,14 @@ impl Program {
             }
         }
         drop(pipe);
-        printed(child, input)
+        written(child)
     }
 }
 
-/// What a process wrote to standard output and to standard error, once it has ended with status 0.
-pub fn written(child: Child) -> (String, String) {
+/// What a process wrote, once it has ended with status 0.
+pub fn written(child: Child) -> Written {
     let output = child.wait_with_output().expect("the program ends");
     assert!(output.status.success(), "{}", output.status);
     let text = |bytes: Vec<u8>| String::from_utf8_lossy(&bytes).into_owned();
     (text(output.stdout), text(output.stderr))
-}
-
-/// What a program printed for this input; it must have had no complaint.
-pub fn printed(child: Child, input: &[u8]) -> String {
-    let (print, complaint) = written(child);
-    assert_eq!(complaint, "", "input {}", hex(input));
-    print
 }

@@ -2,11 +2,12 @@
 //! lent memory and around it.
 
 use crate::answers::{
-    lent, whole_edit, whole_join, whole_names, whole_read_utf8, whole_tape, whole_write_utf8,
-    Answer, Whole,
+    lent, whole_edit, whole_join, whole_names, whole_read_utf8, whole_speak_level, whole_tape,
+    whole_write_utf8, Answer, Whole,
 };
 use crate::fence::{Fenced, Side};
 use crate::gen::{noise, Rng};
+use crate::spoken_levels::LONGEST;
 use crate::text::{hex, show};
 use crate::unit;
 
@@ -16,7 +17,8 @@ const GUARD: usize = 64;
 /// Answers up to this length are tried with outputs of every length.
 const SHORT: usize = 12;
 
-/// An operation that writes to a lent output.
+/// An operation that writes to a lent output. All but the speaker of levels are given a message or
+/// a text.
 #[derive(Clone, Copy, Debug)]
 pub enum Operation<'a> {
     Edit,
@@ -25,6 +27,7 @@ pub enum Operation<'a> {
     Name,
     Transcribe,
     Join(&'a [usize]),
+    SpeakLevel(i32),
 }
 
 impl Operation<'_> {
@@ -37,6 +40,7 @@ impl Operation<'_> {
             Operation::Name => whole_names(msg),
             Operation::Transcribe => whole_tape(msg),
             Operation::Join(cuts) => whole_join(msg, cuts),
+            Operation::SpeakLevel(level) => whole_speak_level(level),
         }
     }
 
@@ -49,6 +53,15 @@ impl Operation<'_> {
             Operation::Name => unit::name(msg, out).into(),
             Operation::Transcribe => unit::transcribe(msg, out).into(),
             Operation::Join(cuts) => unit::join(msg, cuts, out).into(),
+            Operation::SpeakLevel(level) => unit::speak_level(level, out).into(),
+        }
+    }
+
+    /// The most bytes that its answer may have.
+    pub fn most(self, msg: &[u8]) -> usize {
+        match self {
+            Operation::SpeakLevel(_) => LONGEST,
+            _ => 2 * msg.len(),
         }
     }
 
@@ -217,7 +230,7 @@ fn told_memory(out: &Placed, expected: &[u8]) -> String {
     format!("changes the byte at {index} of an output of {}", out.length)
 }
 
-/// The operations that write to an output.
+/// The operations on a message that write to an output.
 pub fn writing(cuts: &[usize]) -> [Operation<'_>; 6] {
     [
         Operation::Edit,
@@ -250,12 +263,15 @@ pub fn every_cap(rng: &mut Rng, operation: Operation, msg: &[u8]) -> Result<(), 
 /// All operations on a message, each with an output of one length.
 pub fn once(rng: &mut Rng, msg: &[u8], cuts: &[usize]) -> Result<(), String> {
     check(rng, msg)?;
-    for operation in writing(cuts) {
-        let trial = Trial::new(operation, msg);
-        let cap = any_cap(rng, trial.length());
-        trial.with_output(rng, cap)?;
-    }
-    Ok(())
+    let mut operations = writing(cuts).into_iter();
+    operations.try_for_each(|operation| with_any_output(rng, operation, msg))
+}
+
+/// An operation with an output of one length.
+pub fn with_any_output(rng: &mut Rng, operation: Operation, msg: &[u8]) -> Result<(), String> {
+    let trial = Trial::new(operation, msg);
+    let cap = any_cap(rng, trial.length());
+    trial.with_output(rng, cap)
 }
 
 /// The lengths of outputs to try for an answer of this length: every one up to one more, or only

@@ -55,6 +55,7 @@ pub mod raw {
             out: *mut u8,
             cap: usize,
         ) -> Answer;
+        pub fn govorun_speak_level(level: i32, out: *mut u8, cap: usize) -> Answer;
     }
 }
 
@@ -94,6 +95,11 @@ pub fn join(msg: &[u8], cuts: &[usize], out: &mut [u8]) -> Answer {
     let (start, cap) = (out.as_mut_ptr(), out.len());
     // SAFETY: as above.
     unsafe { raw::govorun_join(msg.as_ptr(), msg.len(), places, count, start, cap) }
+}
+
+pub fn speak_level(level: i32, out: &mut [u8]) -> Answer {
+    // SAFETY: as above.
+    unsafe { raw::govorun_speak_level(level, out.as_mut_ptr(), out.len()) }
 }
 
 /// An answer of the library, to be held beside the expected one.

@@ -1,5 +1,5 @@
-//! The daemon in C: it builds without a warning, reads and edits each line and answers as expected,
-//! and touches no memory that is not its own.
+//! The daemon in C: it builds without a warning, speaks each line, a level or else a text that is
+//! read and edited, and answers as expected, and touches no memory that is not its own.
 
 use std::fs::File;
 use std::io::{BufRead, BufReader, Write};
@@ -7,16 +7,19 @@ use std::path::{Path, PathBuf};
 use std::process::{Command, Stdio};
 use std::sync::OnceLock;
 
+use govorun_tests::answers::print_of;
 use govorun_tests::editing::edited;
 use govorun_tests::gen::damaged::{Spot, SPOTS};
 use govorun_tests::gen::noise::{bytes, string};
+use govorun_tests::gen::numbers::{level, outside, NO_NUMBERS};
 use govorun_tests::gen::punctuated::BREAKS;
 use govorun_tests::gen::utf8::{taken, untaken};
 use govorun_tests::gen::{damaged, message, message_of_any_length, punctuated, Rng};
 use govorun_tests::input::{directory, impatient};
+use govorun_tests::spoken_levels::spoken_number;
 use govorun_tests::unit::ARCHIVE;
 use govorun_tests::utf8::{read, written};
-use govorun_tests::{expected_print, write_utf8};
+use govorun_tests::{tape, write_utf8, Refusal};
 
 /// What to do about a missing tool.
 const SET_UP: &str = "tests/setup installs what is missing";
@@ -53,7 +56,8 @@ fn output(command: &mut Command, input: &[u8]) -> String {
     String::from_utf8_lossy(&output.stdout).into_owned()
 }
 
-/// Lines of the daemon's input, with and without punctuation, and some that can't be read.
+/// Lines of the daemon's input: texts with and without punctuation, and some that can't be read;
+/// levels, other numbers, and texts that look like some.
 fn lines() -> Vec<Vec<u8>> {
     let mut rng = Rng::for_test(60);
     let plain = "|ду*б ра*д|Ду*б Ра*д|са*д к до*му|Ёлка|а7|#|\0|а\r";
@@ -66,6 +70,9 @@ fn lines() -> Vec<Vec<u8>> {
         lines.push([before.as_bytes(), &sequence, after.as_bytes()].concat());
     }
     lines.push(bytes(&mut rng, 10_000));
+    lines.extend((0..100).map(|_| level(&mut rng).into_bytes()));
+    lines.extend(outside().into_iter().map(String::into_bytes));
+    lines.extend(NO_NUMBERS.iter().map(|line| line.to_vec()));
     // A newline would make two lines of one.
     lines.retain(|line| !line.contains(&b'\n'));
     lines
@@ -86,15 +93,18 @@ fn messages(rng: &mut Rng) -> Vec<Vec<u8>> {
     messages
 }
 
+/// The message that a line becomes: the words of the level, if it is a number.
+fn understood(line: &[u8]) -> Result<Vec<u8>, Refusal> {
+    spoken_number(line).unwrap_or_else(|| read(line).map(|read| edited(&read)))
+}
+
 /// What the daemon must print for a line: the message as it was understood and its codes, or a
 /// refusal.
 fn expected(line: &[u8]) -> String {
-    let msg = match read(line) {
-        Ok(read) => edited(&read),
-        Err(refusal) => return format!("refused 13 at {}\n", refusal.place),
-    };
-    let print = expected_print(&msg);
-    match write_utf8(&msg, usize::MAX) {
+    let msg = understood(line);
+    let shown = msg.clone().and_then(|msg| write_utf8(&msg, usize::MAX));
+    let print = print_of(msg.and_then(|msg| tape(&msg, usize::MAX)));
+    match shown {
         Ok(shown) => format!("{}: {print}", String::from_utf8_lossy(&shown)),
         Err(_) => print,
     }
@@ -114,7 +124,7 @@ fn answers_as_expected(command: &mut Command, lines: &[Vec<u8>]) {
 #[test]
 fn daemon_answers_each_line() {
     let lines = lines();
-    assert!(lines.len() >= 200);
+    assert!(lines.len() >= 700);
     answers_as_expected(&mut Command::new(daemon()), &lines);
 }
 
@@ -126,6 +136,44 @@ fn daemon_shows_what_it_understood() {
     assert_eq!(run("Ду*б#ра*д\n"), spoken);
     assert_eq!(run("ду*б☃"), "refused 13 at 7\n");
     assert_eq!(run("- а, б*"), "refused 5 at 3\n");
+}
+
+#[test]
+fn daemon_speaks_levels() {
+    let run = |line: &str| output(&mut Command::new(daemon()), line.as_bytes());
+    assert_eq!(run("-1"), "ми*нус оди*н: 36 5 37 11 43 0 7 25 5 37\n");
+    assert_eq!(run("40\n"), "со*рок: 43 2 41 12 31\n");
+    for zero in ["0", "-0", "-00"] {
+        assert_eq!(run(zero), "но*ль: 37 2 34\n");
+    }
+    let words = "ми*нус четы*ре ты*сячи девятьсо*т во*семьдесят де*вять: 36 ";
+    assert!(run("-4989").starts_with(words));
+    assert_eq!(run("10000"), "refused 14 at 0\n");
+    assert_eq!(run("-4294967301"), "refused 14 at 0\n");
+}
+
+/// Texts, as before, in which no digit is taken.
+#[test]
+fn daemon_on_lines_that_are_almost_levels() {
+    let run = |line: &str| output(&mut Command::new(daemon()), line.as_bytes());
+    assert_eq!(run("-"), "refused 1 at 0\n");
+    assert_eq!(run("--5"), "refused 13 at 2\n");
+    assert_eq!(run("5-"), "refused 13 at 0\n");
+    assert_eq!(run("- 5"), "refused 13 at 2\n");
+    assert_eq!(run("5\r\n"), "refused 13 at 0\n");
+    assert_eq!(run("+5"), "refused 13 at 0\n");
+}
+
+/// However many digits a number has.
+#[test]
+fn daemon_on_long_numbers() {
+    let run = |line: String| output(&mut Command::new(daemon()), line.as_bytes());
+    for length in [10, 4_095, 4_096, 4_097, 100_000] {
+        assert_eq!(run("0".repeat(length) + "7"), "се*мь: 44 3 36\n");
+        assert_eq!(run("9".repeat(length)), "refused 14 at 0\n");
+        let almost = run("7".repeat(length) + "а");
+        assert_eq!(almost, "refused 13 at 0\n");
+    }
 }
 
 /// Only what is left of a line after editing must not be too long.
@@ -159,7 +207,12 @@ fn daemon_answers_before_the_next_line() {
     let mut child = started.expect("timeout is installed");
     let mut pipe = child.stdin.take().expect("a pipe was asked for");
     let mut answers = BufReader::new(child.stdout.take().expect("a pipe was asked for"));
-    for (line, expected) in [("а\n", "а: 7\n"), ("7\n", "refused 13 at 0\n")] {
+    for (line, expected) in [
+        ("а\n", "а: 7\n"),
+        ("7\n", "се*мь: 44 3 36\n"),
+        ("10000\n", "refused 14 at 0\n"),
+        ("а7\n", "refused 13 at 2\n"),
+    ] {
         pipe.write_all(line.as_bytes()).expect("the daemon reads");
         let mut answer = String::new();
         answers.read_line(&mut answer).expect("the daemon answers");

@@ -42,6 +42,17 @@ fn cuts_that_are_written_out() {
 }
 
 #[test]
+fn levels_by_the_first_bytes() {
+    let levels = |bytes: &[u8]| Input::of(&[b"\0\0", bytes].concat()).levels();
+    assert_eq!(levels(&(-4_989_i32).to_le_bytes()), [-4_989; 2]);
+    assert_eq!(levels(b"\x10\x27\0\0a"), [10_000; 2]);
+    assert_eq!(levels(b"\x10\x27"), [10_000; 2]);
+    assert_eq!(levels(b""), [0; 2]);
+    assert_eq!(levels(&i32::MIN.to_le_bytes()), [i32::MIN, -1_448]);
+    assert_eq!(levels(&20_205_i32.to_le_bytes()), [20_205, 5]);
+}
+
+#[test]
 fn short_inputs() {
     let nothing = Input {
         cuts: Vec::new(),

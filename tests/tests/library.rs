@@ -1,6 +1,8 @@
 //! Every function of the C interface beside the expected answers: the four numbers, the lent
 //! output byte for byte, and the bytes around it.
 
+use std::collections::BTreeSet;
+
 use govorun_tests::fence::{as_places, Fenced, Side, SIDES};
 use govorun_tests::gen::cuts::BAD_CUTS;
 use govorun_tests::gen::damaged::SPOTS;
@@ -286,7 +288,25 @@ fn lengths_above_32_bits() {
     assert_eq!(unit::transcribe(&msg, lent).length, 3);
     assert_eq!(unit::join(&msg, &[1], lent).length, 3);
     assert_eq!(unit::write_utf8(&msg, lent).length, 5);
+    assert_eq!(unit::speak_level(-4_989, lent).length, 54);
     let mut zeros = Fenced::new(HUGE * size_of::<usize>());
     let answer = unit::join(&msg, as_places(zeros.whole()), &mut out);
     assert_eq!((answer.number, answer.place, out), (12, 0, [9; 8]));
+}
+
+/// The names of the functions that a source declares on lines with this beginning.
+fn declared(source: &str, beginning: &str) -> BTreeSet<String> {
+    let lines = source.lines().map(str::trim_start);
+    let declarations = lines.filter(|line| line.starts_with(beginning));
+    let before_arguments = declarations.filter_map(|line| Some(line.split_once('(')?.0));
+    let names = before_arguments.filter_map(|before| before.split(' ').next_back());
+    names.map(str::to_string).collect()
+}
+
+#[test]
+fn every_function_of_the_header_is_called() {
+    let header = declared(include_str!("../../include/govorun.h"), "govorun_");
+    let called = declared(include_str!("../src/unit.rs"), "pub fn govorun_");
+    assert_eq!(header, called);
+    assert!(header.contains("govorun_speak_level"));
 }

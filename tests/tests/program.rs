@@ -11,8 +11,8 @@ use govorun_tests::gen::noise::{bytes, string};
 use govorun_tests::gen::{
     damaged, extreme_messages, lexicon, message, message_of_any_length, word, Rng,
 };
-use govorun_tests::program::{printed, GOVORUN};
-use govorun_tests::{cp1251, expected_print, hex};
+use govorun_tests::program::{good, written, GOVORUN};
+use govorun_tests::{cp1251, hex};
 
 /// Compares all messages.
 fn compare_all(messages: &[Vec<u8>]) {
@@ -120,7 +120,7 @@ fn input_that_comes_in_pieces() {
     ] {
         let msg = message(&mut rng, length);
         let given = GOVORUN.piped(&msg, piece, wait);
-        assert_eq!(given, expected_print(&msg), "message {}", hex(&msg));
+        assert_eq!(given, (GOVORUN.expected)(&msg), "message {}", hex(&msg));
     }
 }
 
@@ -132,11 +132,9 @@ fn input_from_a_file() {
         let msg = message(&mut rng, length);
         std::fs::write(&path, &msg).expect("a file for the message");
         let file = File::open(&path).expect("the file is there");
-        let given = printed(GOVORUN.start(file.into()), &msg);
-        assert_eq!(given, expected_print(&msg), "message {}", hex(&msg));
+        let given = written(GOVORUN.start(file.into()));
+        assert_eq!(given, (GOVORUN.expected)(&msg), "message {}", hex(&msg));
     }
-    assert_eq!(
-        printed(GOVORUN.start(Stdio::null()), &[]),
-        "refused 1 at 0\n"
-    );
+    let given = written(GOVORUN.start(Stdio::null()));
+    assert_eq!(given, good("refused 1 at 0\n"));
 }

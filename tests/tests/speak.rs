@@ -1,5 +1,5 @@
-//! The script `speak`: the tape, its sounds or the refusal and nothing else where all goes well,
-//! nothing spoken and a reason where it does not.
+//! The script `speak`, on texts and on levels: the tape, its sounds or the refusal and nothing else
+//! where all goes well, nothing spoken and a reason where it does not.
 
 use std::collections::BTreeSet;
 use std::env;
@@ -13,7 +13,8 @@ use std::sync::OnceLock;
 
 use govorun_tests::codes::{GAP, NAMES, PAUSE};
 use govorun_tests::gen::lexicon;
-use govorun_tests::{cp1251, edit, expected_speech, tape};
+use govorun_tests::program::NO_NUMBER;
+use govorun_tests::{cp1251, edit, expected_level, expected_speech, speak_level, tape};
 
 /// The status, and what went to standard output and to standard error.
 type Run = (Option<i32>, String, String);
@@ -34,12 +35,15 @@ fn script() -> Command {
     Command::new(concat!(env!("CARGO_MANIFEST_DIR"), "/../speak"))
 }
 
-/// A folder with another `rt`, which prints these lines and ends so.
+/// A folder with another `rt`, which keeps what it is asked beside itself, prints these lines and
+/// ends so.
 fn other_rt(name: &str, lines: &str, status: u8) -> PathBuf {
     let folder = Path::new(env!("CARGO_TARGET_TMPDIR")).join(name);
     fs::create_dir_all(&folder).expect("a folder for the other rt");
     let rt = folder.join("rt");
-    fs::write(&rt, format!("#!/bin/sh\nprintf '{lines}'\nexit {status}\n")).expect("the other rt");
+    let script = "#!/bin/sh\necho \"$*\" >\"$0.asked\"";
+    let script = format!("{script}\nprintf '{lines}'\nexit {status}\n");
+    fs::write(&rt, script).expect("the other rt");
     fs::set_permissions(&rt, fs::Permissions::from_mode(0o755)).expect("it may be run");
     folder
 }
@@ -55,6 +59,13 @@ fn script_with(folder: &Path) -> Command {
     script
 }
 
+/// What `rt` is asked by a run of the script with these arguments.
+fn asked(arguments: &[&str]) -> String {
+    let folder = other_rt("rt-that-is-asked", "rt: ok\n", 0);
+    run(script_with(&folder).args(arguments));
+    fs::read_to_string(folder.join("rt.asked")).expect("it was asked")
+}
+
 /// Runs the script on a text with an `rt` that prints what the prover printed once and ends so.
 fn speak_with_rt(name: &str, status: u8) -> Run {
     let lines = "fn message::check::check: proved\nrt: message proved (23 s)\n\
@@ -64,7 +75,7 @@ fn speak_with_rt(name: &str, status: u8) -> Run {
 }
 
 /// Runs the script with an `rt` that takes no time, since it has nothing to prove.
-fn speak<Argument: AsRef<OsStr>, const COUNT: usize>(arguments: [Argument; COUNT]) -> Run {
+fn speak(arguments: impl IntoIterator<Item: AsRef<OsStr>>) -> Run {
     static FOLDER: OnceLock<PathBuf> = OnceLock::new();
     let folder = FOLDER.get_or_init(|| other_rt("rt-with-nothing-to-prove", "rt: ok\n", 0));
     run(script_with(folder).args(arguments))
@@ -121,8 +132,11 @@ fn a_refusal_is_printed() {
 
 /// What is printed with -s for a text that is spoken.
 fn sounds(text: &str) -> String {
-    let msg = edit(&cp1251(text), usize::MAX).expect("room enough");
-    let tape = tape(&msg, usize::MAX).expect("an accepted message");
+    sounds_of(&edit(&cp1251(text), usize::MAX).expect("room enough"))
+}
+
+fn sounds_of(msg: &[u8]) -> String {
+    let tape = tape(msg, usize::MAX).expect("an accepted message");
     let line = |&code: &u8| match code {
         GAP => "0 gap\n".to_string(),
         PAUSE => "63 pause\n".to_string(),
@@ -168,7 +182,7 @@ fn a_refusal_is_printed_in_the_place_of_sounds() {
     assert_eq!(speak(["-s"]), good("refused 1 at 0\n"));
 }
 
-/// Only -s itself is an option, and only before the text; -- ends the options.
+/// Only -s and -l themselves are options, and only before the text; -- ends the options.
 #[test]
 fn texts_that_look_like_options() {
     assert_eq!(speak(["--", "-s"]), good("refused 13 at 1\n"));
@@ -178,6 +192,84 @@ fn texts_that_look_like_options() {
     assert_eq!(speak(["--", "--", "а"]), good("7\n"));
     assert_eq!(speak(["-а"]), good("7\n"));
     assert_eq!(speak(["а", "-s"]), good("refused 13 at 4\n"));
+    assert_eq!(speak(["а", "-l"]), good("refused 13 at 4\n"));
+    assert_eq!(speak(["--", "-l", "5"]), good("refused 13 at 1\n"));
+    assert_eq!(speak(["-s", "--", "-l", "5"]), good("refused 13 at 1\n"));
+    // Without -l a number is a text, and no digit is taken.
+    assert_eq!(speak(["5"]), good("refused 13 at 0\n"));
+    assert_eq!(speak(["-5"]), good("refused 13 at 1\n"));
+}
+
+/// What is printed for a level in decimal.
+fn level(number: &str) -> Run {
+    good(expected_level(number.as_bytes()).expect("a number"))
+}
+
+#[test]
+fn a_level_is_spoken() {
+    assert_eq!(speak(["-l", "0"]), good("37 2 34\n"));
+    assert_eq!(speak(["-l", "-1"]), good("36 5 37 11 43 0 7 25 5 37\n"));
+    for number in [
+        "-4989", "9999", "-9999", "1000", "2", "-0", "0012", "-00300",
+    ] {
+        assert_eq!(speak(["-l", number]), level(number), "{number}");
+        assert_eq!(speak(["-l", "--", number]), level(number), "{number}");
+    }
+    let zeros = "0".repeat(4_096);
+    assert_eq!(speak(["-l", &zeros]), good("37 2 34\n"));
+}
+
+#[test]
+fn sounds_of_a_level() {
+    for options in ["-s -l", "-l -s", "-s -l --", "-l -s --"] {
+        let spoken = |number: &str| speak(options.split(' ').chain([number]));
+        assert_eq!(spoken("0"), good("37 Н\n2 О*\n34 Л'\n"));
+        for level in [-4989, 5, 42, 1000] {
+            let words = speak_level(level, usize::MAX).expect("a level within the range");
+            assert_eq!(spoken(&level.to_string()), good(sounds_of(&words)));
+        }
+        assert_eq!(spoken("10000"), good("refused 14 at 0\n"));
+    }
+}
+
+#[test]
+fn a_level_outside_the_range_is_refused() {
+    let far = "9".repeat(4_096);
+    for number in [
+        "10000",
+        "-10000",
+        "4294967301",
+        "-18446744073709551621",
+        &far,
+    ] {
+        assert_eq!(speak(["-l", number]), good("refused 14 at 0\n"), "{number}");
+    }
+}
+
+/// Nothing is spoken, and the program says why.
+#[test]
+fn what_is_no_number_is_no_level() {
+    let too_long = "0".repeat(4_097);
+    let numbers = [
+        "12x", "", "-", "--5", "5-", " 5", "5 ", "5\n", "+5", "−5", "два*", &too_long,
+    ];
+    let malformed = OsStr::from_bytes(b"5\xFF");
+    for number in numbers.map(OsStr::new).into_iter().chain([malformed]) {
+        for options in ["-l", "-l --", "-s -l", "-l -s"] {
+            let options = options.split(' ').map(OsStr::new);
+            let (status, print, complaint) = speak(options.chain([number]));
+            assert_ne!(status, Some(0), "{number:?}");
+            assert_eq!((&print[..], &complaint[..]), ("", NO_NUMBER), "{number:?}");
+        }
+    }
+}
+
+#[test]
+fn the_program_that_is_needed_is_proved() {
+    assert_eq!(asked(&["-l", "5"]), "check gauge\n");
+    assert_eq!(asked(&["-s", "-l", "5"]), "check gauge\n");
+    assert_eq!(asked(&["-s", "а"]), "check speak\n");
+    assert_eq!(asked(&["5"]), "check speak\n");
 }
 
 #[test]

@@ -13,9 +13,9 @@ use govorun_tests::gen::utf8::{taken, untaken, TAKEN};
 use govorun_tests::gen::{
     damaged, extreme_messages, lexicon, message, message_of_any_length, punctuated, Rng,
 };
-use govorun_tests::program::{printed, SPEAK};
+use govorun_tests::program::{self, good, SPEAK};
 use govorun_tests::utf8::written;
-use govorun_tests::{cp1251, expected_print, expected_speech, hex};
+use govorun_tests::{cp1251, expected_print, hex};
 
 /// Compares all texts.
 fn compare_all(texts: &[Vec<u8>]) {
@@ -153,7 +153,7 @@ fn input_that_comes_in_pieces() {
         let text = spoken_text(&mut rng, 65_536);
         let text = &[&text[..], b"-"].concat()[..length];
         let given = SPEAK.piped(text, piece, wait);
-        assert_eq!(given, expected_speech(text), "text {}", hex(text));
+        assert_eq!(given, (SPEAK.expected)(text), "text {}", hex(text));
     }
 }
 
@@ -165,8 +165,9 @@ fn input_from_a_file() {
         let text = spoken_text(&mut rng, length);
         std::fs::write(&path, &text).expect("a file for the text");
         let file = File::open(&path).expect("the file is there");
-        let given = printed(SPEAK.start(file.into()), &text);
-        assert_eq!(given, expected_speech(&text), "text {}", hex(&text));
+        let given = program::written(SPEAK.start(file.into()));
+        assert_eq!(given, (SPEAK.expected)(&text), "text {}", hex(&text));
     }
-    assert_eq!(printed(SPEAK.start(Stdio::null()), &[]), "refused 1 at 0\n");
+    let given = program::written(SPEAK.start(Stdio::null()));
+    assert_eq!(given, good("refused 1 at 0\n"));
 }

@@ -3,14 +3,15 @@
 
 use std::arch::asm;
 
-use govorun_tests::check;
 use govorun_tests::fence::Fenced;
 use govorun_tests::gen::damaged::SPOTS;
 use govorun_tests::gen::utf8::{taken, untaken};
 use govorun_tests::gen::{damaged, extreme_messages, noise, punctuated, Rng};
 use govorun_tests::message::breaks;
+use govorun_tests::spoken_levels::LONGEST;
 use govorun_tests::unit::{raw, Text};
 use govorun_tests::utf8::written;
+use govorun_tests::{check, speak_level};
 
 /// The most that a call may take, in bytes, its return address with it, as the header says it.
 fn bound() -> usize {
@@ -96,10 +97,12 @@ struct Deepest {
     name: usize,
     transcribe: usize,
     join: usize,
+    speak_level: usize,
 }
 
 impl Deepest {
-    /// Calls all functions on a message, with this list of cuts and an output of this length.
+    /// Calls all functions that take a message or a text on this one, with this list of cuts and an
+    /// output of this length.
     fn measure(&mut self, stack: &mut Stack, msg: &[u8], cuts: &[usize], cap: usize) {
         self.measure_edit(stack, msg, cap);
         self.measure_read(stack, msg, cap);
@@ -141,11 +144,26 @@ impl Deepest {
         number
     }
 
+    /// Calls the speaker of levels. The level takes the lower half of its register, and nothing is
+    /// said of what the upper half holds.
+    fn measure_level(&mut self, stack: &mut Stack, level: i32, upper: u32, cap: usize) {
+        let mut out = vec![0; cap];
+        let register = (upper as usize) << 32 | level as u32 as usize;
+        let arguments = [register, out.as_mut_ptr() as usize, cap];
+        let (number, touched) = stack.call(raw::govorun_speak_level as _, &arguments);
+        self.speak_level = touched.max(self.speak_level);
+        match speak_level(level, cap) {
+            Ok(words) => assert!(number == 0 && out.starts_with(&words), "{level}"),
+            Err(refusal) => assert_eq!(number, refusal.number.into(), "{level}"),
+        }
+    }
+
     fn at_most(&self, bound: usize) {
         println!("bytes of stack: {self:?}");
         let messages = [self.check, self.name, self.transcribe, self.join];
         let texts = [self.edit, self.read_utf8, self.write_utf8];
-        for used in messages.into_iter().chain(texts) {
+        let all = messages.into_iter().chain(texts).chain([self.speak_level]);
+        for used in all {
             assert!(used <= bound, "{used} bytes of stack, over {bound}");
         }
     }
@@ -227,6 +245,22 @@ fn texts_in_utf_8() {
         let text = [taken(&mut rng, 5000).as_bytes(), &sequence].concat();
         for cap in [text.len(), 0] {
             assert_eq!(deepest.measure_read(&mut stack, &text, cap), 13);
+        }
+    }
+    deepest.at_most(bound());
+}
+
+/// Levels of every kind and numbers outside the range.
+#[test]
+fn levels() {
+    let mut rng = Rng::for_test(74);
+    let mut stack = Stack::new(&mut rng);
+    let mut deepest = Deepest::default();
+    let close = (-10_100..=10_100).step_by(13);
+    for level in close.chain([-4_989, 0, 9_999, i32::MIN, i32::MAX]) {
+        for upper in [0, u32::MAX, rng.bits() as u32] {
+            deepest.measure_level(&mut stack, level, upper, LONGEST);
+            deepest.measure_level(&mut stack, level, upper, 0);
         }
     }
     deepest.at_most(bound());

@@ -1,15 +1,23 @@
 //! Holds the tables of examples in docs/CODES.md and docs/SPECIFICATION.md to the unit: each
-//! message has the tape, the names and the live cuts that its row says.
+//! message has the tape, the names and the live cuts that its row says. So are the words of
+//! docs/LEVELS.md held to the levels that the unit speaks, and to the proved definition.
 
-use govorun_tests::agreed::{join, names, tape};
+use std::fs;
+
+use govorun_tests::agreed::{join, names, speak_level, tape};
 use govorun_tests::codes::NAMES;
 use govorun_tests::{cp1251, spell};
+
+/// The text of a file of the repository.
+fn file(path: &str) -> String {
+    let path = format!("{}/../{path}", env!("CARGO_MANIFEST_DIR"));
+    fs::read_to_string(&path).unwrap_or_else(|error| panic!("{path}: {error}"))
+}
 
 /// The rows below the line that begins with this head, to the table's end: their cells without the
 /// backticks, with `\|` in a cell read as `|`.
 fn rows(document: &str, head: &str) -> Vec<Vec<String>> {
-    let path = format!("{}/../docs/{document}", env!("CARGO_MANIFEST_DIR"));
-    let text = std::fs::read_to_string(path).expect("the document");
+    let text = file(&format!("docs/{document}"));
     let below = text.lines().skip_while(|line| !line.starts_with(head));
     let rows = below.skip(2).take_while(|line| line.starts_with('|'));
     rows.map(|line| line.replace("\\|", "\u{1}"))
@@ -79,4 +87,139 @@ fn every_named_word_has_its_names() {
         let named: Vec<usize> = named.into_iter().map(usize::from).collect();
         assert_eq!(named, numbers(&example[1]), "{example:?}");
     }
+}
+
+/// A word, with the number that says it, if one does.
+type Row = (Option<i32>, String);
+
+/// The tables of docs/LEVELS.md.
+struct Words {
+    numbers: Vec<Row>,
+    counts: Vec<Row>,
+    thousands: Vec<Vec<String>>,
+    others: Vec<Vec<String>>,
+}
+
+impl Words {
+    fn read() -> Self {
+        let table = |head| rows("LEVELS.md", head);
+        let numbered = |head| table(head).into_iter().map(numbered).collect();
+        Words {
+            numbers: numbered("| number | word |"),
+            counts: numbered("| count of thousands | word |"),
+            thousands: table("| after | thousand |"),
+            others: table("| level | word |"),
+        }
+    }
+
+    /// All rows in order. Those of the last two tables have a condition in the place of a number.
+    fn all(&self) -> Vec<Row> {
+        let others = self.thousands.iter().chain(&self.others);
+        let others = others.map(|row| (None, row[1].clone()));
+        let numbered = self.numbers.iter().chain(&self.counts).cloned();
+        numbered.chain(others).collect()
+    }
+
+    /// The words of a level: the sign, the thousands, and then the largest number of the table that
+    /// is not above what is left, as long as something is.
+    fn speak(&self, level: i32) -> String {
+        let [zero, below_zero] = [0, 1].map(|row: usize| &self.others[row][1][..]);
+        let mut words = Vec::new();
+        let mut left = level.abs();
+        if left >= 1_000 {
+            words.extend(self.speak_thousands(left / 1_000));
+            left %= 1_000;
+        }
+        while left > 0 {
+            let fits = |row: &&Row| row.0 <= Some(left);
+            let (number, word) = self.numbers.iter().rfind(fits).expect("a row for 1");
+            words.push(word);
+            left -= number.expect("a number");
+        }
+        match level {
+            0 => zero.to_string(),
+            ..0 => format!("{below_zero} {}", words.join(" ")),
+            1.. => words.join(" "),
+        }
+    }
+
+    fn speak_thousands(&self, count: i32) -> [&str; 2] {
+        let mut rows = self.counts.iter().chain(&self.numbers);
+        let row = rows.find(|row| row.0 == Some(count));
+        let form = match count {
+            1 => 0,
+            2..=4 => 1,
+            _ => 2,
+        };
+        [&row.expect("a row").1, &self.thousands[form][1]]
+    }
+}
+
+fn numbered(row: Vec<String>) -> Row {
+    (row[0].parse().ok(), row[1].clone())
+}
+
+#[test]
+fn every_word_of_the_levels_has_a_row() {
+    let words = Words::read();
+    let ones = (1..=20).chain((30..=90).step_by(10));
+    let numbers: Vec<_> = ones.chain((100..=900).step_by(100)).map(Some).collect();
+    let first = |rows: &[Row]| rows.iter().map(|row| row.0).collect::<Vec<_>>();
+    assert_eq!(first(&words.numbers), numbers);
+    assert_eq!(first(&words.counts), [Some(1), Some(2)]);
+    let conditions = words.thousands.iter().chain(&words.others);
+    let conditions: Vec<&str> = conditions.map(|row| &row[0][..]).collect();
+    let expected = ["1", "2 to 4", "5 to 9", "0", "below 0"];
+    assert_eq!(conditions, expected);
+    assert_eq!(words.all().len(), 43);
+}
+
+#[test]
+fn every_level_is_spoken_by_the_words_of_the_tables() {
+    let words = Words::read();
+    for level in -9_999..=9_999 {
+        let spoken = cp1251(&words.speak(level));
+        assert_eq!(speak_level(level, usize::MAX), Ok(spoken), "{level}");
+    }
+}
+
+/// The words in double quotes of a definition, those with a mark in them, and the numbers before
+/// `says`; without the lines that are comments.
+fn defined(definition: &str) -> Vec<Row> {
+    let is_code = |line: &&str| !line.trim_start().starts_with("--");
+    let code: Vec<&str> = definition.lines().filter(is_code).collect();
+    let code = code.join("\n");
+    let pieces: Vec<&str> = code.split('"').collect();
+    let with_what_is_before = pieces.chunks_exact(2);
+    with_what_is_before
+        .filter(|piece| piece[1].contains('*'))
+        .map(|piece| (number_that_says(piece[0]), piece[1].to_string()))
+        .collect()
+}
+
+/// The number before `says` at the end of a piece of a definition.
+fn number_that_says(piece: &str) -> Option<i32> {
+    let before = piece.trim_end().strip_suffix("says")?.trim_end();
+    let digits = before.rsplit(|c: char| !c.is_ascii_digit()).next()?;
+    digits.parse().ok()
+}
+
+#[test]
+fn the_definition_has_the_words_of_the_tables() {
+    let definition = file("crates/spec/specs/SpokenLevels.antt");
+    assert_eq!(defined(&definition), Words::read().all());
+}
+
+#[test]
+fn words_of_a_definition_are_found() {
+    let definition = "-- 1 says \"не*т\"\nrows = 1 says \"оди*н\" ∷ (20 says \"два*дцать\") ∷\n  \
+                      -- \"не*т\"\nword = \"ты*сяч\"; other = \"нет\"; 3 said \"но*ль\"\n";
+    let expected = [
+        (Some(1), "оди*н"),
+        (Some(20), "два*дцать"),
+        (None, "ты*сяч"),
+        (None, "но*ль"),
+    ];
+    let expected = expected.map(|(number, word)| (number, word.to_string()));
+    assert_eq!(defined(definition), expected);
 }
