@@ -1,6 +1,6 @@
 // Spoken levels (paper 02, slip 5): the words of a level, put into the lent output.
 ghost use mathlib.Core.Path.{_≡_};
-ghost use Prim.Native.Nat.{_≤_, _/_, _%_};
+ghost use Prim.Native.Nat.{_≤_};
 ghost use lib.Dec.{leb};
 ghost use lib.ListN.{length};
 ghost use lib.IntN.{pos, natAbs};
@@ -22,7 +22,7 @@ const FARTHEST: i32 = 9999;
 // No level has words of more bytes.
 pub const LONGEST: usize = 54;
 
-// A number of centimetres in the parts that it is spoken in.
+// The parts that a number of centimetres is spoken in: how many thousands, the hundreds as they are, 0 to 900, and what is left.
 pub struct Parts {
     pub thousands: usize,
     pub hundreds: usize,
@@ -47,7 +47,7 @@ fn magnitude(level: i32) -> i32
     level
 }
 
-// The parts of a number of thousands, hundreds and what is left.
+// The parts of a level, without its sign.
 fn split(level: i32) -> Parts
     requires { ⌜ InRange level ⌝ }
     ensures { λ r. ⌜ Splits (natAbs level) r ⌝ }
@@ -60,7 +60,7 @@ fn split(level: i32) -> Parts
     }
 }
 
-// Puts the words of a number, part by part.
+// Puts the words of the parts, one part after the other.
 fn put_parts(out: &mut [u8], at: usize, p: Parts) -> usize
     requires { ⌜ Room (partWords p) (now out) at ⌝ }
     ensures { λ r. ⌜ Adds (partWords p) (now (out .entry)) (now (out .exit)) at r ⌝ }

@@ -40,7 +40,7 @@ fn put_unit(out: &mut [u8], at: usize, n: usize) -> usize
     }
 }
 
-// The same from 10 to 19,
+// The word of a number from 10 to 19.
 fn put_teen(out: &mut [u8], at: usize, n: usize) -> usize
     requires { ⌜ Room (wordIn teens n) (now out) at ⌝ }
     ensures { λ r. ⌜ Adds (wordIn teens n) (now (out .entry)) (now (out .exit)) at r ⌝ }
@@ -72,7 +72,7 @@ fn put_teen(out: &mut [u8], at: usize, n: usize) -> usize
     }
 }
 
-// of the tens from 20 on,
+// The word of the tens from 20 on.
 fn put_tens(out: &mut [u8], at: usize, n: usize) -> usize
     requires { ⌜ Room (wordIn tens n) (now out) at ⌝ }
     ensures { λ r. ⌜ Adds (wordIn tens n) (now (out .entry)) (now (out .exit)) at r ⌝ }
@@ -90,7 +90,7 @@ fn put_tens(out: &mut [u8], at: usize, n: usize) -> usize
     }
 }
 
-// and of the hundreds.
+// The word of the hundreds.
 pub fn put_hundreds(out: &mut [u8], at: usize, n: usize) -> usize
     requires { ⌜ Room (wordIn hundreds n) (now out) at ⌝ }
     ensures { λ r. ⌜ Adds (wordIn hundreds n) (now (out .entry)) (now (out .exit)) at r ⌝ }
@@ -135,7 +135,7 @@ fn put_thousand(out: &mut [u8], at: usize, n: usize) -> usize
     put_word(out, at, b"\xF2\xFB*\xF1\xFF\xF7") // ты*сяч
 }
 
-// So many thousands.
+// So many thousands: the count and its form.
 pub fn put_thousands(out: &mut [u8], at: usize, n: usize) -> usize
     requires { ⌜ Room (thousands n) (now out) at ⌝ }
     ensures { λ r. ⌜ Adds (thousands n) (now (out .entry)) (now (out .exit)) at r ⌝ }
@@ -147,7 +147,7 @@ pub fn put_thousands(out: &mut [u8], at: usize, n: usize) -> usize
     put_thousand(out, end, n)
 }
 
-// A number below 100.
+// A number below 100: up to 19 one word, from there on tens and units.
 pub fn put_below_hundred(out: &mut [u8], at: usize, n: usize) -> usize
     requires { ⌜ Room (belowHundred n) (now out) at ⌝ }
     ensures { λ r. ⌜ Adds (belowHundred n) (now (out .entry)) (now (out .exit)) at r ⌝ }
