@@ -1,12 +1,11 @@
 -- A number in decimal is read digit by digit, and clipped where it has left the range: what is answered for it is the same.
-use Rattle.laws.proofs.Kit.{ℕ, zero, suc, _+_, _-_, _*_, _<_, _≤_, arith, add-one, _≡_, refl, sym, ap, _∙_, _⊎_, inl, inr, ⊎-elim, Bool, true, false, cond, _&&_, not, and-eq-true-iff, List, [], _∷_, eqb, leb, length, drop, getD, drop-cons, drop-length, drop-of-length-le, leb-true, leb-false, ne-eqb, not-true}
+use Rattle.laws.proofs.Kit.{ℕ, zero, suc, _+_, _-_, _*_, _<_, _≤_, arith, add-one, _≡_, refl, sym, ap, _∙_, _⊎_, inl, inr, ⊎-elim, true, false, cond, _&&_, not, and-eq-true-iff, List, [], _∷_, eqb, leb, length, drop, getD, drop-cons, drop-length, drop-of-length-le, leb-true, leb-false, ne-eqb, not-true}
 use lib.IntN.{pos, negℤ, natAbs, _-ℤ_, +ℤ-idl}
 use mir.Syntax.{w32}
 use mir.Val.{SFits, toZ, ofZ}
 use mir.Facts.{toZ-pos}
 use mir.ValLaws.{toZ-ofZ}
 use Rattle.spec.specs.Printed.{signLength, areDigits, isDecimal, digitsFrom, levelIn}
-use Rattle.laws.proofs.Classes.{below-or}
 use Rattle.gauge.specs.Reading.{Clipped, Like}
 
 -- the digits from a place on: the digit there, and those after it

@@ -1,5 +1,5 @@
 -- With room for the words of any level the operation refuses with 14 alone, so what is answered goes by the level.
-use Rattle.laws.proofs.Kit.{ℕ, _<_, _≤_, arith, _≡_, refl, sym, ap, _∙_, ⊎-elim, List, [], length, lt-leb}
+use Rattle.laws.proofs.Kit.{ℕ, _<_, _≤_, arith, _≡_, sym, ap, ⊎-elim, List, [], length, lt-leb}
 use lib.IntN.{ℤ, natAbs}
 use Rattle.spec.specs.Answers.{numberOf, placeOf, tapeAnswer}
 use Rattle.spec.specs.SpokenLevels.{spoken, levelAnswer, LevelPromise}

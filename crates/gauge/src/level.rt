@@ -43,7 +43,7 @@ fn is_digit(b: u8) -> bool
     (b'0' <= b) & (b <= b'9')
 }
 
-// Are there nothing but digits?
+// Is there nothing but digits?
 fn are_digits(t: &[u8]) -> bool
     ensures { λ r. ⌜ r ≡ areDigits (now (t .entry)) ⌝ }
 {
@@ -88,7 +88,7 @@ fn read_digits(t: &[u8]) -> usize
     n
 }
 
-// The level that the number says, as exactly.
+// The level that the number says, as exactly as its digits are read.
 fn read_level(t: &[u8], sign: usize) -> i32
     requires { ⌜ (sign ≡ signLength (now t)) × (isDecimal (now t) ≡ true) ⌝ }
     ensures { λ r. ⌜ Like r (levelIn (now (t .entry))) ⌝ }

@@ -1,6 +1,6 @@
 -- Spoken levels: all words are of one table, so what holds of each of its rows holds of every word that is spoken; and of the three parts of a number, thousands, hundreds and what is left, each is one computation over the few that there are.
 use Rattle.laws.proofs.Kit.{ℕ, zero, suc, _+_, _*_, _/_, _%_, _<_, _≤_, _≡_, refl, sym, ap, _∙_, _↔_, Bool, true, false, cond, _&&_, _||_, not, and-eq-true-iff, not-true, List, [], _∷_, _++_, append-assoc, append-nil, ⊎-elim, _-_, arith, eqb, leb, length, length-append, eqb-true, leb-true}
-use lib.IntN.{ℤ, pos, negsuc, negℤ, natAbs}
+use lib.IntN.{ℤ, pos, negsuc, negℤ}
 use Rattle.spec.specs.SpokenLevels.{Row, _says_, bytes, units, teens, tens, hundreds, feminine, wordIn, thousand, thousands, belowHundred, numberWords, levelWords, afterGaps, spaced, marksIn, Each, spoken, InRange}
 use Rattle.spec.specs.{Alphabet.gap, Letters.isGap, Letters.isBreak, Refusals.checkOf, Refusals.NoneFits, Answers.checkedNumber, Utf8.same}
 use Rattle.spec.proofs.Computed.{everything}

@@ -1,10 +1,10 @@
 -- Words that were put one after the other were put together: after the first the place is no longer the start, so each further one stands behind a gap.
-use Rattle.laws.proofs.Kit.{ℕ, zero, suc, _+_, _<_, _≤_, _≡_, refl, sym, ap, _∙_, Bool, true, false, true≢false, false≢true, cond, List, [], _∷_, _++_, append-assoc, append-nil, arith, eqb, length, take, drop, length-append, take-length, eqb-true, eqb-false, ne-eqb, le-ltb}
+use Rattle.laws.proofs.Kit.{ℕ, zero, suc, _+_, _<_, _≤_, _≡_, refl, sym, ap, _∙_, Bool, true, false, true≢false, false≢true, cond, List, [], _∷_, _++_, append-assoc, append-nil, arith, eqb, length, take, drop, length-append, take-length, ne-eqb, le-ltb}
 use lib.IntN.{ℤ, pos, negsuc, natAbs}
 use lib.Signed.{ltZ}
 use Rattle.spec.specs.Alphabet.{gap}
 use Rattle.spec.specs.SpokenLevels.{Row, _says_, bytes, units, feminine, wordIn, numberWords, levelWords, afterGaps, spaced, spoken}
-use Rattle.laws.proofs.Classes.{either, cond-same}
+use Rattle.laws.proofs.Classes.{cond-same}
 use Rattle.laws.proofs.SpokenLevels.{gaps-append}
 use Rattle.laws.proofs.Putting.{Put, put-none, put-length, put-behind}
 use Rattle.levels.specs.Placing.{placed, Room, Begun, Adds, Splits, partWords}

@@ -1,8 +1,7 @@
 -- Signed numbers as the machine holds them: a level of the range and its parts fit their type, so what is computed is what is meant.
-use Rattle.laws.proofs.Kit.{ℕ, suc, _+_, _<_, _≤_, _≡_, refl, sym, ap, _∙_, ⊎-elim, true, false, true≢false, false≢true, _||_, arith, leb, le-leb, lt-leb, le-ltb, lt-ltb}
+use Rattle.laws.proofs.Kit.{suc, _≡_, refl, sym, ap, _∙_, ⊎-elim, true, false, true≢false, false≢true, _||_, arith, leb, le-leb, lt-leb, le-ltb, lt-ltb}
 use lib.IntN.{ℤ, pos, negsuc, natAbs, _-ℤ_}
 use lib.Signed.{ltZ}
-use lib.Dec.{ltb}
 use mir.Syntax.{w32}
 use mir.Val.{SFits, toZ, ofZ}
 use mir.ValLaws.{toZ-ofZ}

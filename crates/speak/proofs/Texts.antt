@@ -1,6 +1,6 @@
 -- With buffers as long as the longest text the reader refuses with 13 alone and the editor nothing, so what is answered goes by the text.
-use Rattle.laws.proofs.Kit.{ℕ, _<_, _≤_, arith, _≡_, _≢_, refl, sym, ap, _∙_, Bool, true, false, true≢false, ⊎-elim, List, [], length, take, drop, length-append, take-at, eq-eqb, ne-eqb, le-leb, lt-leb}
-use Rattle.spec.specs.Answers.{numberOf, placeOf, lengthOf, within, tapeAnswer}
+use Rattle.laws.proofs.Kit.{ℕ, _<_, _≤_, arith, _≡_, _≢_, sym, ap, _∙_, Bool, true, false, true≢false, ⊎-elim, List, [], length, take, eq-eqb, ne-eqb, le-leb, lt-leb}
+use Rattle.spec.specs.Answers.{numberOf, placeOf, within, tapeAnswer}
 use Rattle.spec.specs.Editing.{edited, editAnswer, EditPromise}
 use Rattle.spec.specs.Utf8.{decoded, readTo, readAnswer, ReadPromise}
 use Rattle.spec.specs.Printed.{printedAnswer, afterWriting, textAnswer}

@@ -52,7 +52,7 @@ textAnswer t = cond (leb (length t) 65536) (afterWriting (readAnswer t (length t
 unfoldable pub printedText : List ℕ → List ℕ
 printedText t = printedAnswer (textAnswer t) (tape (edited (decoded t))) ++ ascii "\n"
 
--- A level in decimal: the sign that the text begins with is a minus sign or none,
+-- A level in decimal, in ASCII, where 45 is the minus sign and 48 to 57 are the digits: the text begins with a minus sign or with none,
 unfoldable pub signLength : List ℕ → ℕ
 signLength [] = 0
 signLength (b ∷ t) = cond (eqb b 45) 1 0

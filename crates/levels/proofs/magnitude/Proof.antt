@@ -1,6 +1,5 @@
 -- A negation within the range fits.
 use lib.IntN.{pos, natAbs}
-use mir.Syntax.{w32}
 use Rattle.levels.proofs.Signed.{near-fits, near-same, turned, kept}
 use Rattle.levels.proofs.magnitude.Statement.{statement}
 use Rattle.levels.proofs.magnitude.Tie as tie

@@ -1,7 +1,5 @@
 -- Each part is put behind those before it.
-use Rattle.laws.proofs.Kit.{_++_, needs}
-use Rattle.spec.specs.SpokenLevels.{hundreds, wordIn, belowHundred}
-use Rattle.levels.specs.Placing.{Room}
+use Rattle.laws.proofs.Kit.{needs}
 use Rattle.levels.proofs.Placed.{room-first, room-next, adds-both}
 use Rattle.levels.proofs.put_parts.Statement.{statement}
 use Rattle.levels.proofs.put_parts.Tie as tie

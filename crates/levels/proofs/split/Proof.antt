@@ -1,7 +1,6 @@
 -- Of a number that is not negative the signed quotients and remainders are the plain ones, and each fits.
 use Rattle.laws.proofs.Kit.{ℕ, _*_, _/_, _%_, _≤_, _≡_, refl, arith, needs}
 use lib.IntN.{pos, natAbs}
-use lib.Signed.{quotZ, remZ}
 use mir.Syntax.{w32}
 use mir.Val.{toZ, ofZ}
 use Rattle.levels.proofs.Signed.{near-fits, near-same}

@@ -1,6 +1,6 @@
 -- The words by the level's sign: zero has one of its own, below zero minus stands before the number's, above it they stand alone.
 use Rattle.laws.proofs.Kit.{_≡_, refl, ap, [], _∷_, _++_, arith, needs}
-use lib.IntN.{pos, natAbs}
+use lib.IntN.{natAbs}
 use mir.Syntax.{w32}
 use mir.Val.{ofZ}
 use Rattle.spec.specs.SpokenLevels.{bytes, numberWords, levelWords}

@@ -1,5 +1,5 @@
 -- Each turn reads one digit more, until the number is outside the range whatever follows.
-use Rattle.laws.proofs.Kit.{_-_, arith, ⊎-elim, length, needs}
+use Rattle.laws.proofs.Kit.{_-_, arith, ⊎-elim, length}
 use Rattle.gauge.proofs.Numbers.{Reads, reads-none, digit-at, reads-more, reads-past, reads-all}
 use Rattle.gauge.proofs.level.read_digits.Statement.{statement}
 use Rattle.gauge.proofs.level.read_digits.Tie as tie

@@ -1,6 +1,6 @@
 -- A number of five digits fits, and so does its negation.
-use Rattle.laws.proofs.Kit.{_≡_, _<_, arith, sym, _∙_, length, drop, needs}
-use Rattle.spec.specs.Printed.{signLength, areDigits, digitsFrom}
+use Rattle.laws.proofs.Kit.{arith, sym, _∙_, drop, needs}
+use Rattle.spec.specs.Printed.{signLength, digitsFrom}
 use Rattle.laws.proofs.Putting.{rest-part}
 use Rattle.gauge.specs.Reading.{Clipped}
 use Rattle.gauge.proofs.Numbers.{decimal-has, held, negated-fits, negated-held, like-plain, like-minus}

@@ -1,8 +1,8 @@
 -- At the start the word alone is copied; past it a gap is put before it.
-use Rattle.laws.proofs.Kit.{_<_, _≤_, _+_, arith, [], _∷_, _++_, length, length-drop, set, needs}
+use Rattle.laws.proofs.Kit.{_≤_, _+_, arith, length, length-drop, set, needs}
 use lib.ListN.{length-set}
 use Rattle.spec.specs.Alphabet.{gap}
-use Rattle.laws.proofs.Putting.{Put, put-at, put-behind, put-part, put-length, rest-part}
+use Rattle.laws.proofs.Putting.{put-at, put-behind, put-part, put-length, rest-part}
 use Rattle.levels.proofs.Placed.{copied, room-word, room-gap, word-first, word-next}
 use Rattle.levels.proofs.words.put_word.Statement.{statement}
 use Rattle.levels.proofs.words.put_word.Tie as tie
