@@ -102,7 +102,7 @@ govorun_text govorun_read_utf8(const uint8_t *text, size_t len, uint8_t *out, si
 govorun_answer govorun_write_utf8(const uint8_t *msg, size_t len, uint8_t *out, size_t cap);
 
 /*
- * Writes a level in centimetres as Russian words, a message that all calls above accept: thousands, hundreds, tens and units, before them
+ * Writes a level in centimetres as Russian words, a message that govorun_check accepts: thousands, hundreds, tens and units, before them
  * the word for minus where the level is below zero, and for zero its own word alone; one gap between, one stress mark in each word. Two
  * levels have equal words exactly when they are equal. Any number may be asked for: 14 outside -9,999 to 9,999, however small cap is, then
  * 11. At most 54 bytes.

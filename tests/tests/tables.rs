@@ -1,6 +1,7 @@
 //! Holds the tables of examples in docs/CODES.md and docs/SPECIFICATION.md to the unit: each
-//! message has the tape, the names and the live cuts that its row says. So are the words of
-//! docs/LEVELS.md held to the levels that the unit speaks, and to the proved definition.
+//! message has the tape, the names and the live cuts that its row says, and each level its words. So
+//! are the words of docs/LEVELS.md held to the levels that the unit speaks, and to the proved
+//! definition.
 
 use std::fs;
 
@@ -86,6 +87,17 @@ fn every_named_word_has_its_names() {
         let named = names(&cp1251(&example[0]), usize::MAX).expect("an accepted message");
         let named: Vec<usize> = named.into_iter().map(usize::from).collect();
         assert_eq!(named, numbers(&example[1]), "{example:?}");
+    }
+}
+
+#[test]
+fn every_worked_level_has_its_words() {
+    let rows = rows("SPECIFICATION.md", "| level | words |");
+    assert_eq!(rows.len(), 7);
+    for row in rows {
+        let level = row[0].parse().expect("a level");
+        let words = speak_level(level, usize::MAX).expect("a level of the range");
+        assert_eq!(words, cp1251(&row[1]), "{row:?}");
     }
 }
 
