@@ -9,7 +9,7 @@ use Rattle.spec.specs.Printed.{signLength, areDigits, isDecimal, digitsFrom, le
 use Rattle.gauge.specs.Reading.{Clipped, Like}
 
 -- the digits from a place on: the digit there, and those after it
-pub digits-step : (t : List ℕ) (i : ℕ) → i < length t → areDigits (drop i t) ≡ ((leb 48 (getD t i 0) && leb (getD t i 0) 57) && areDigits (drop (i + 1) t))
+digits-step : (t : List ℕ) (i : ℕ) → i < length t → areDigits (drop i t) ≡ ((leb 48 (getD t i 0) && leb (getD t i 0) 57) && areDigits (drop (i + 1) t))
 unfolding areDigits
 digits-step t i h = rw (drop-cons t i 0 h, add-one i)
 

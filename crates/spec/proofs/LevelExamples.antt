@@ -14,6 +14,7 @@ use Rattle.spec.specs.Printed.{lastDigits, decimal, printedCodes, printe
 use Rattle.spec.specs.declared.Answer.{Answer}
 use Rattle.spec.specs.declared.Answer.the-variants.{Written, Refused}
 use Rattle.spec.proofs.Computed.{everything}
+use Rattle.spec.proofs.Utf8Examples as utf8
 
 -- a level, where negsuc n is -(n + 1), and what is spoken
 pub record Example : Type 0 where
@@ -82,13 +83,8 @@ pub answers-right : map (λ (l : Lent). levelAnswer (l .level) (l .room)) answer
 unfolding everything answers
 answers-right = refl
 
--- what is typed, and the text that the program for levels prints
-pub record Typed : Type 0 where
-  pub typed : text.String
-  pub line : text.String
-
--- a minus sign and zeros before the number, the ends, a number that is longer than any machine's; and no numbers
-unfoldable pub lines : List Typed
+-- What is typed, and what the program for levels prints: a minus sign and zeros before the number, the ends, a number that is longer than any machine's; and no numbers.
+unfoldable pub lines : List utf8.Example
 lines =
     (record { typed = "0"; line = "37 2 34\n" }) ∷
     (record { typed = "-0"; line = "37 2 34\n" }) ∷
@@ -105,7 +101,7 @@ lines =
     (record { typed = "1/"; line = "" }) ∷
     (record { typed = "1:"; line = "" }) ∷ []
 
-pub lines-right : map (λ (t : Typed). printedLevel (ascii (t .typed))) lines ≡ map (λ (t : Typed). ascii (t .line)) lines
+pub lines-right : map (λ (e : utf8.Example). printedLevel (ascii (e .typed))) lines ≡ map (λ (e : utf8.Example). ascii (e .line)) lines
 unfolding everything lines lastDigits decimal printedCodes printedAnswer afterWriting signLength areDigits isDecimal digitsFrom levelIn spokenAnswer printedLevel
 lines-right = refl
 
