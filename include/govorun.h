@@ -4,16 +4,19 @@
  * Link with target/staticlib/libcapi.a, which `rt staticlib capi` writes.
  *
  * Every function here is proved to do what it promises, but for the stack, for all bytes, lengths and outputs whatever:
- *   - it reads only msg[0 .. len) (of editor and reader text[0 .. len)) and cuts[0 .. n), and writes only out[0 .. cap);
+ *   - it reads only msg[0 .. len) (of editor and reader text[0 .. len)), cuts[0 .. n) and book[0 .. size), and writes only out[0 .. cap)
+ *     or, to add a phrase, book[0 .. size);
  *   - it always returns; it allocates nothing, keeps nothing between calls and calls nothing outside;
  *   - it uses at most 4,096 bytes of stack, its return address with them (measured by the tests on the worst messages, not proved);
- *   - a refusal leaves every byte of out as it was; on acceptance out begins with the answer and its other bytes are kept.
- * The caller sees to what a call in C can't show: each pointer points to that many bytes (or places), and out overlaps neither
- * msg, text nor cuts. Where a length is 0 the pointer may be anything but NULL. Calls from several threads don't disturb one another.
+ *   - a refusal leaves every byte of out or book as it was; on acceptance out begins with the answer, book with the longer book, and
+ *     its other bytes are kept.
+ * The caller sees to what a call in C can't show: each pointer points to that many bytes (or places), and neither out nor book, where
+ * it is written, overlaps msg, text or cuts. Where a length is 0 the pointer may be anything but NULL. Calls from several threads don't disturb one another.
  *
  * A message is Windows-1251: words with one gap (0x20) or pause ('#') between neighbours, a stress mark ('*') right after a
  * stressed vowel, at most 4,096 bytes. A text in UTF-8 is read first, by govorun_read_utf8, and one with commas and stops is then
  * edited, by govorun_edit. govorun_write_utf8 turns a message back. The words of a level are a message that govorun_speak_level writes.
+ * Phrases that are heard daily are kept taped in a book: govorun_book_add adds one, govorun_book_find finds it.
  */
 #ifndef GOVORUN_H
 #define GOVORUN_H
@@ -108,6 +111,42 @@ govorun_answer govorun_write_utf8(const uint8_t *msg, size_t len, uint8_t *out, 
  * 11. At most 54 bytes.
  */
 govorun_answer govorun_speak_level(int32_t level, uint8_t *out, size_t cap);
+
+/*
+ * A phrase book. A record is the mark 0x52 0x9E, the phrase's number and the length of its tape, two bytes each, low byte first, and then
+ * the tape. The book is book[0 .. used), record after record, with numbers that rise strictly; a used count above size is read as size.
+ * An empty book has used 0, and its first number may be 0. Both calls below check the whole book, and refuse with
+ *   15  the mark is missing, or the record is cut short     the record's start
+ *   16  the number is not above the one before              the record's start; of a phrase to be added, the book's end
+ * by the smallest place, 15 before 16 at one place.
+ */
+
+/* number 0: added, place 0, and used is the new used count, for the next call. Any other number: refused, used 0. */
+typedef struct {
+    uint32_t number;
+    size_t place, used;
+} govorun_added;
+
+/*
+ * Adds the tape of a message at the end of the book, under a number above the last. 1 to 10 of the message first, then 15 and 16 of the
+ * book, then 16 for the number, then 11: size is too small, and the place is the bytes of the book with the addition. At most 6 + 2 * len
+ * bytes are added.
+ */
+govorun_added govorun_book_add(uint8_t *book, size_t size, size_t used, uint16_t phrase, const uint8_t *msg, size_t len);
+
+/*
+ * number 0, found 1: the tape is book[start .. start + length). number 0, found 0: there is none under this number; place, start and
+ * length are 0. Any other number: refused, 15 or 16 at its place; found, start and length are 0.
+ */
+typedef struct {
+    uint32_t number;
+    size_t place;
+    uint32_t found;
+    size_t start, length;
+} govorun_found;
+
+/* Finds the tape under a number. What stands after the used count makes no difference. */
+govorun_found govorun_book_find(const uint8_t *book, size_t size, size_t used, uint16_t phrase);
 
 #ifdef __cplusplus
 }

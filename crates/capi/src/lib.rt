@@ -1,16 +1,20 @@
-// The C interface: include/govorun.h says what each function promises. Each carries its operation's promise on, in four numbers, or in three for a text of any length.
+// The C interface: include/govorun.h says what each function promises. Each carries its operation's promise on in numbers: four, three for a text of any length or an addition to a book, five for a lookup.
 ghost use Rattle.spec.specs.Answers.{CheckPromise, NamePromise, TranscribePromise, JoinPromise, Carried};
 ghost use Rattle.spec.specs.Editing.{EditPromise};
 ghost use Rattle.spec.specs.Utf8.{ReadPromise, WritePromise};
 ghost use Rattle.spec.specs.SpokenLevels.{LevelPromise};
+ghost use Rattle.spec.specs.Book.{AddPromise, LocatePromise};
 ghost use Rattle.laws.proofs.Bounds.{Small, SmallCheck};
-ghost use Rattle.capi.specs.Said.{Said, Counted, Told};
+ghost use Rattle.capi.specs.Said.{Said, Counted, Told, SaidAdded, SaidFound};
+use book::adding::add;
+use book::lookup::locate;
 use editor::edit;
 use joiner::join::join;
 use levels::speak_level;
 use message::check::check;
 use spec::Answer;
 use spec::Checked;
+use spec::Located;
 use transcriber::naming::name;
 use transcriber::tape::transcribe;
 use utf8::reader::read_utf8;
@@ -36,6 +40,22 @@ pub struct GovorunCounts {
 pub struct GovorunText {
     pub number: u32,
     pub place: usize,
+    pub length: usize,
+}
+
+#[repr(C)]
+pub struct GovorunAdded {
+    pub number: u32,
+    pub place: usize,
+    pub used: usize,
+}
+
+#[repr(C)]
+pub struct GovorunFound {
+    pub number: u32,
+    pub place: usize,
+    pub found: u32,
+    pub start: usize,
     pub length: usize,
 }
 
@@ -153,4 +173,64 @@ pub extern "C" fn govorun_read_utf8(text: &[u8], out: &mut [u8]) -> GovorunText
     ensures { λ r. ⌜ Carried (ReadPromise (now (text .entry)) (now (out .entry)) (now (out .exit))) Told r ⌝ }
 {
     tell(read_utf8(text, out))
+}
+
+// An addition's answer, where the length is the new used count.
+fn tell_added(a: Answer) -> GovorunAdded
+    ensures { λ r. ⌜ SaidAdded a r ⌝ }
+{
+    let t = tell(a);
+    GovorunAdded {
+        number: t.number,
+        place: t.place,
+        used: t.length,
+    }
+}
+
+#[no_mangle]
+pub extern "C" fn govorun_book_add(
+    book: &mut [u8],
+    used: usize,
+    phrase: u16,
+    m: &[u8],
+) -> GovorunAdded
+    ensures { λ r. ⌜ Carried (AddPromise (now (book .entry)) used phrase (now (m .entry)) (now (book .exit))) SaidAdded r ⌝ }
+{
+    tell_added(add(book, used, phrase, m))
+}
+
+// A lookup's answer: found is 1 where there is a tape.
+fn tell_found(a: Located) -> GovorunFound
+    ensures { λ r. ⌜ SaidFound a r ⌝ }
+{
+    match a {
+        Located::At { start, length } => GovorunFound {
+            number: 0,
+            place: 0,
+            found: 1,
+            start,
+            length,
+        },
+        Located::Missing => GovorunFound {
+            number: 0,
+            place: 0,
+            found: 0,
+            start: 0,
+            length: 0,
+        },
+        Located::Refused(refusal) => GovorunFound {
+            number: refusal.number as u32,
+            place: refusal.place,
+            found: 0,
+            start: 0,
+            length: 0,
+        },
+    }
+}
+
+#[no_mangle]
+pub extern "C" fn govorun_book_find(book: &[u8], used: usize, phrase: u16) -> GovorunFound
+    ensures { λ r. ⌜ Carried (LocatePromise (now (book .entry)) used phrase) SaidFound r ⌝ }
+{
+    tell_found(locate(book, used, phrase))
 }

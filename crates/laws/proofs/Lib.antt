@@ -10,10 +10,13 @@ pub mod PartsAccepted
 pub mod Marks
 pub mod Sizes
 pub mod Phrases
+pub mod Book
 pub mod Bounds
 pub mod Promises
 pub mod Demands
+pub mod Additions
 pub mod Beside
+pub mod Lookup
 pub mod MarkIndex
 pub mod Heard
 pub mod Edited

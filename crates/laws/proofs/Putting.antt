@@ -82,3 +82,11 @@ put-part {codes} {out} {part} {at} {r} p =
       place = omega (arith, p .place);
       bytes = rw (e, drop-of-length-le (drop at out) h, append-nil, drop-drop r at out) refl;
     }
+
+-- two bytes stored one behind the other
+pub put-two : (out : List ℕ) (at a b : ℕ) → at + 1 < length out → Put (a ∷ b ∷ []) out (set (set out at a) (at + 1) b) (at + 2) at
+put-two out at a b h =
+    let first = put-at out at a (omega (arith, h)) in
+    let l = put-length (a ∷ []) out (set out at a) (at + 1) at (omega (arith, h)) first in
+    let e : at + 1 + 1 ≡ at + 2 = omega arith in
+    put-behind (omega (arith, h)) first (rw e at (put-at (set out at a) (at + 1) b (omega (arith, h, l))))

@@ -1,3 +1,4 @@
+pub mod BookExamples
 pub mod Computed
 pub mod EditingExamples
 pub mod LevelExamples

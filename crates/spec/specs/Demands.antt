@@ -1,24 +1,30 @@
 -- The operator's three demands (paper 00) as statements over what the operations promise. Each operation's contract is its promise, and `demand1`, `demand2` and `demand3` of crate laws prove these of it.
--- A dispatcher's text is covered by them through its edited form (paper 02, slip 1): `edited-demands`; one in UTF-8 (slip 2) through the bytes that are read: `read-demands`; a level (slip 5) through its words: `level-demands`.
+-- A dispatcher's text is covered by them through its edited form (paper 02, slip 1): `edited-demands`; one in UTF-8 (slip 2) through the bytes that are read: `read-demands`; a level (slip 5) through its words: `level-demands`;
+-- what holds of a phrase book (slip 6) is `book-demands`, and `additions-kept` over lists of additions.
 -- That no step goes outside the lent memory and that every step ends is no statement over values: it is proved of each function by the language.
 -- Assumes nothing: these are definitions.
-use Prim.Native.Nat.{ℕ, _*_, _<_, _≤_}
+use Prim.Native.Nat.{ℕ, suc, _*_, _<_, _≤_}
 use mathlib.Core.Path.{_≡_}
 use mathlib.Core.Bool.{true, false}
 use mathlib.Core.Logic.{_⊎_, _↔_}
-use mathlib.Core.List.{List, [], _++_}
+use mathlib.Core.List.{List, [], _∷_, _++_}
 use lib.ListN.{length, take, drop, getD}
 use lib.IntN.{ℤ, natAbs}
 use Rattle.spec.specs.Letters.{isBreak}
 use Rattle.spec.specs.Tape.{tape, names}
-use Rattle.spec.specs.Refusals.{fits, NoneFits, Given}
+use Rattle.spec.specs.Refusals.{refusal, fits, NoneFits, Given}
 use Rattle.spec.specs.Joints.{Rising, CutOf, breaks, joined, EachPart, markIndex, SplitAt, DiffersAt, isLive, NoneLive, liveCount, FirstBad}
 use Rattle.spec.specs.Answers.{numberOf, placeOf, lengthOf, liveOf, checkedNumber, checkedPlace, checkedCodes, checkedNames, CheckPromise, NamePromise, TranscribePromise, JoinPromise}
 use Rattle.spec.specs.Editing.{OnlyBreaks, edited, EditPromise}
 use Rattle.spec.specs.Utf8.{WellFormed, encoded, decoded, RunOf, Readable, StopsAt, ReadPromise, WritePromise}
 use Rattle.spec.specs.SpokenLevels.{levelWords, Each, marksIn, spoken, InRange, LevelPromise}
+use Rattle.spec.specs.Book.{Phrase, recordOf, records, bookIn, search, startOf, told, handed, placed, leastAfter, phraseOf, withAddition, Fits, RisingFrom, Sound, FindPromise, LocatePromise, AddPromise}
 use Rattle.spec.specs.declared.Checked.{Checked}
 use Rattle.spec.specs.declared.Answer.{Answer}
+use Rattle.spec.specs.declared.Answer.the-variants.{Written, Refused}
+use Rattle.spec.specs.declared.Found.{Found}
+use Rattle.spec.specs.declared.Found.the-variants as found
+use Rattle.spec.specs.declared.Located.{Located}
 
 -- The number and the place that the table has for a message, a list of cuts and an output of this room, where the full answer has this size; its whole order is
 -- 1 and 2, then 3 to 10, then 12 at the first bad cut, then 11. The naming operation and the transcriber have no cuts.
@@ -212,3 +218,112 @@ pub record LevelDemands (level : ℤ) : Type 0 where
   -- so the transcriber, lent an output long enough, gives its tape
   pub transcriber : InRange level → (out out′ : List ℕ) (r : Answer) → TranscribePromise (spoken level) out out′ r → length (tape (spoken level)) ≤ length out
       → CarriedOut (tape (spoken level)) 0 out out′ r
+
+-- What stands in a book up to a place: the records of these phrases, whose numbers rise, and then these bytes.
+pub record UpTo (book : List ℕ) (fs : List Phrase) (rest : List ℕ) : Type 0 where
+  pub bytes : book ≡ records fs ++ rest
+  pub rising : RisingFrom 0 fs
+
+-- The numbers of a book: 15 where after sound records more bytes stand that no record begins, and 16 where one does whose number is not above the last.
+pub data BookDue (book : List ℕ) : ℕ → ℕ → Type 0 where
+  noRecord : (fs : List Phrase) (b : ℕ) (rest : List ℕ) → UpTo book fs (b ∷ rest)
+      → ((f : Phrase) (after : List ℕ) → Fits f → b ∷ rest ≡ recordOf f ++ after → ⊥) → BookDue book 15 (length (records fs))
+  notAbove : (fs : List Phrase) (f : Phrase) (rest : List ℕ) → Fits f → UpTo book fs (recordOf f ++ rest) → f .number < leastAfter 0 fs → BookDue book 16 (length (records fs))
+
+-- a phrase is one of these
+abbrev pub Listed : Phrase → List Phrase → Type 0
+Listed f [] = ⊥
+Listed f (g ∷ gs) = (f ≡ g) ⊎ Listed f gs
+
+-- a sound book has this tape under this number; it has none
+pub record Has (book : List ℕ) (n : ℕ) (t : List ℕ) : Type 0 where
+  pub phrases : List Phrase
+  pub sound : Sound book phrases
+  pub has : Listed (record { number = n; codes = t }) phrases
+
+pub record HasNone (book : List ℕ) (n : ℕ) : Type 0 where
+  pub phrases : List Phrase
+  pub sound : Sound book phrases
+  pub none : (t : List ℕ) → Listed (record { number = n; codes = t }) phrases → ⊥
+
+-- A lookup of number n hands back the tape exactly where the book has it, tells exactly where it has none, and gives each number exactly where it is due.
+pub record LooksUp (book : List ℕ) (n : ℕ) (old new : List ℕ) (r : Found) : Type 0 where
+  pub gives : (t : List ℕ) → ((r ≡ found.Tape) × (new ≡ t)) ↔ Has book n t
+  pub misses : ((r ≡ found.Missing) × (new ≡ old)) ↔ HasNone book n
+  pub refuses : (k p : ℕ) → ((r ≡ found.Refused (refusal k p)) × (new ≡ old)) ↔ BookDue book k p
+
+-- a message may be added under a number
+pub record MayAdd (book : List ℕ) (n : ℕ) (m : List ℕ) : Type 0 where
+  pub message : NoneFits m
+  pub phrases : List Phrase
+  pub sound : Sound book phrases
+  pub above : leastAfter 0 phrases ≤ n
+
+-- The numbers of an addition: the message's, then the book's, then 16 at its end, and then 11.
+pub data AddDue (book : List ℕ) (n : ℕ) (m : List ℕ) (room : ℕ) : ℕ → ℕ → Type 0 where
+  ofMessage : (k p : ℕ) → Given m k p → AddDue book n m room k p
+  ofBook : (k p : ℕ) → NoneFits m → BookDue book k p → AddDue book n m room k p
+  notAboveLast : (fs : List Phrase) → NoneFits m → Sound book fs → n < leastAfter 0 fs → AddDue book n m room 16 (length book)
+  noRoomBehind : MayAdd book n m → room < length (withAddition book n m) → AddDue book n m room 11 (length (withAddition book n m))
+
+-- What holds for any buffer of bytes and any used count.
+pub record BookDemands (buffer : List ℕ) (used : ℕ) : Type 0 where
+  -- a lookup is exact
+  pub find : (n : ℕ) (old new : List ℕ) (r : Found) → FindPromise buffer used n old new r → LooksUp (bookIn buffer used) n old new r
+  -- and does not depend on what stands after the used count
+  pub rest : (buffer₂ : List ℕ) (used₂ : ℕ) → bookIn buffer₂ used₂ ≡ bookIn buffer used → (n : ℕ) (old new new₂ : List ℕ) (r r₂ : Found)
+      → FindPromise buffer used n old new r → FindPromise buffer₂ used₂ n old new₂ r₂ → (r₂ ≡ r) × (new₂ ≡ new)
+  -- an addition is carried out, or refused with every byte left
+  pub settled : (n : ℕ) (m buffer′ : List ℕ) (r : Answer) → AddPromise buffer used n m buffer′ r
+      → Settled 16 (AddDue (bookIn buffer used) n m (length buffer)) (withAddition (bookIn buffer used) n m) 0 buffer buffer′ r
+  -- and exact
+  pub exact : (n : ℕ) (m buffer′ : List ℕ) (r : Answer) → AddPromise buffer used n m buffer′ r
+      → Exactly (MayAdd (bookIn buffer used) n m) (AddDue (bookIn buffer used) n m (length buffer)) (withAddition (bookIn buffer used) n m) 0 buffer buffer′ r
+  -- it leaves the records before it
+  pub leaves : (n : ℕ) (m buffer′ : List ℕ) (r : Answer) → AddPromise buffer used n m buffer′ r → take (length (bookIn buffer used)) buffer′ ≡ bookIn buffer used
+
+-- One addition of a list: what was asked for, what was answered, and what the buffer held afterwards.
+pub record Addition : Type 0 where
+  pub number : ℕ
+  pub message : List ℕ
+  pub answer : Answer
+  pub after : List ℕ
+
+-- the used count after it, which the next addition gets, and the phrases that it and the later ones added
+unfoldable pub usedAfter : Answer → ℕ → ℕ
+usedAfter (Written n live) used = n
+usedAfter (Refused r) used = used
+
+unfoldable pub addedBy : Answer → Phrase → List Phrase → List Phrase
+addedBy (Written n live) f fs = f ∷ fs
+addedBy (Refused r) f fs = fs
+
+-- Additions one after the other, from this buffer and used count on: each has a number of two bytes and keeps its promise.
+abbrev pub OneByOne : List ℕ → ℕ → List Addition → Type 0
+OneByOne buffer used [] = Unit {0}
+OneByOne buffer used (a ∷ more) =
+    (a .number < 65536) × AddPromise buffer used (a .number) (a .message) (a .after) (a .answer) × OneByOne (a .after) (usedAfter (a .answer) used) more
+
+-- the buffer and the used count after the last, and the phrases of those that were accepted, in order
+abbrev pub lastBuffer : List ℕ → List Addition → List ℕ
+lastBuffer buffer [] = buffer
+lastBuffer buffer (a ∷ more) = lastBuffer (a .after) more
+
+abbrev pub lastUsed : ℕ → List Addition → ℕ
+lastUsed used [] = used
+lastUsed used (a ∷ more) = lastUsed (usedAfter (a .answer) used) more
+
+abbrev pub accepted : List Addition → List Phrase
+accepted [] = []
+accepted (a ∷ more) = addedBy (a .answer) (phraseOf (a .number) (a .message)) (accepted more)
+
+-- The book holds just these phrases in order, and each lookup gives the tape that one of them has, or none.
+pub record HoldsJust (buffer : List ℕ) (used : ℕ) (fs : List Phrase) : Type 0 where
+  pub sound : Sound (bookIn buffer used) fs
+  pub size : used ≡ length (records fs)
+  pub find : (n : ℕ) (old new : List ℕ) (r : Found) → FindPromise buffer used n old new r → (r ≡ told (search fs n)) × (new ≡ handed (search fs n) old)
+  pub locate : (n : ℕ) (r : Located) → LocatePromise buffer used n r → r ≡ placed (startOf fs n) (search fs n)
+
+-- After every list of additions to an empty book, whatever stood in the buffer, it holds just the tapes of those that were accepted, under their numbers, in order.
+abbrev pub AdditionsKept : List ℕ → List Addition → Type 0
+AdditionsKept buffer additions = OneByOne buffer 0 additions → HoldsJust (lastBuffer buffer additions) (lastUsed 0 additions) (accepted additions)

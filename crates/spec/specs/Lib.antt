@@ -15,5 +15,6 @@ pub mod Editing
 pub mod Utf8
 pub mod LevelSteps
 pub mod SpokenLevels
+pub mod Book
 pub mod Demands
 pub mod Printed

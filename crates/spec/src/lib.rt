@@ -41,3 +41,17 @@ pub enum Answer {
     Written { length: usize, live: usize },
     Refused(Refusal),
 }
+
+// What a lookup in the phrase book tells: the tape was handed back, or there is none under the number.
+pub enum Found {
+    Tape,
+    Missing,
+    Refused(Refusal),
+}
+
+// The same with the tape's place in the lent buffer, for callers in C.
+pub enum Located {
+    At { start: usize, length: usize },
+    Missing,
+    Refused(Refusal),
+}

@@ -1,0 +1,2 @@
+pub mod Promised
+pub mod Walks

@@ -1,0 +1,160 @@
+-- The walk over a book, place by place: what is read at a place of the bytes is what stands at the start of the bytes from there on.
+use Rattle.laws.proofs.Kit.{ℕ, zero, suc, _+_, _-_, _*_, _<_, _≤_, _≡_, refl, sym, ap, _∙_, Bool, true, false, cond, _&&_, and-true, and-false, ⊎-elim, List, [], _∷_, add-one, arith, eqb, leb, length, take, drop, getD, getD-drop, length-drop, length-take-le, take-all, drop-of-length-le, drop-drop, le-leb, lt-leb, eqb-true, eqb-false, ne-eqb, eq-eqb}
+use Rattle.spec.specs.Book.{Phrase, recordOf, headSize, recordMark, pairAt, numberIn, lengthIn, spanIn, phraseIn, hasRecordMark, isWhole, isRecord, row15, row16, bookIn, Reading, holds, unsound, _then_, readFrom, readBook, Search, none, entry, search, startOf, placed, locateAnswer, leastAfter, afterBook, RisingFrom}
+use Rattle.spec.specs.{Utf8.same, Refusals.refusal, declared.Refusal.Refusal, declared.Located.Located, declared.Located.the-variants.At, declared.Located.the-variants.Missing, declared.Answer.Answer, declared.Answer.the-variants.Refused}
+use Rattle.spec.specs.declared.Located.the-variants as located
+use Rattle.laws.proofs.{Classes.either, Classes.refuted, Book.Stands, Book.record-stands, Book.stands-15, Book.read-15, Book.read-16, Book.read-record, Book.Bytes, Book.Judged, Book.isSound, Book.isRefused, Book.judge, Book.record-size}
+use Rattle.book.specs.Walking.{EndOf, walkedOf, noted, toldBy}
+use Rattle.book.specs.{declared.Contents.Contents, declared.Seen.Seen, declared.Walked.Walked, declared.Walked.the-variants.Sound, declared.Walked.the-variants.Unsound}
+
+-- the two bytes of the mark
+mark-bytes : (x : List ℕ) → hasRecordMark x ≡ (eqb (getD x 0 0) 82 && eqb (getD x 1 0) 158)
+unfolding hasRecordMark recordMark same
+mark-bytes [] = refl
+mark-bytes (a ∷ []) = refl
+mark-bytes (a ∷ b ∷ x) = ap (eqb a 82 &&_) (and-true (eqb b 158))
+
+-- as a number
+mark-number : (a b : ℕ) → a < 256 → eqb (a + b * 256) 40530 ≡ (eqb a 82 && eqb b 158)
+mark-number a b h = either (eqb a 82)
+    (λ p. either (eqb b 158) (λ q. rw (p, q) (eq-eqb (a + b * 256) 40530 (omega (arith, eqb-true a 82 p, eqb-true b 158 q))))
+    (λ q. rw (p, q) (ne-eqb (a + b * 256) 40530 (λ e. eqb-false b 158 q (omega (arith, e, h))))))
+    (λ p. rw p (ne-eqb (a + b * 256) 40530 (λ e. eqb-false a 82 p (omega (arith, e, h)))))
+
+pub mark-at : (x : List ℕ) (i : ℕ) → Bytes x → eqb (pairAt i x) 40530 ≡ hasRecordMark (drop i x)
+unfolding pairAt
+mark-at x i b =
+    let z : i + 0 ≡ i = omega arith in
+    rw (mark-bytes (drop i x), getD-drop i x 0 0, getD-drop i x 1 0, z, add-one i) (mark-number (getD x i 0) (getD x (suc i) 0) (b i))
+
+-- and of a number
+pub pair-behind : (x : List ℕ) (i k : ℕ) → pairAt (i + k) x ≡ pairAt k (drop i x)
+unfolding pairAt
+pair-behind x i k = let e : i + suc k ≡ suc (i + k) = omega arith in rw (getD-drop i x k 0, getD-drop i x (suc k) 0, e) refl
+
+-- no record stands where its head or its tape is cut short
+pub no-record : (x : List ℕ) → (Stands x → ⊥) → isRecord x ≡ false
+no-record x h = refuted (isRecord x) (λ q. h (record-stands x q))
+
+-- and behind a head with its mark the length tells
+pub record-by-length : (x : List ℕ) (k : ℕ) → hasRecordMark x ≡ true → headSize ≤ length x → k ≡ length x → leb (spanIn x) k ≡ isRecord x
+unfolding isRecord isWhole
+record-by-length x k m h e = rw (e, m, le-leb headSize (length x) h) refl
+
+-- the end of a book: the used count, or the buffer's end before it
+pub end-at : (buffer : List ℕ) (used : ℕ) → used ≤ length buffer → EndOf buffer used used
+unfolding bookIn
+end-at buffer used h = record { inside = h; book = refl }
+
+pub end-all : (buffer : List ℕ) (used r : ℕ) → length buffer ≤ r → r ≤ length buffer → length buffer ≤ used → EndOf buffer used r
+unfolding bookIn
+end-all buffer used r l m h = record { inside = m; book = take-all r buffer l ∙ sym (take-all used buffer h) }
+
+-- what is seen with the phrases from place i on, after what was seen before them, and what the walk comes to with them
+abbrev notedAll : Seen → ℕ → ℕ → List Phrase → Seen
+notedAll s n i [] = s
+notedAll s n i (f ∷ fs) = let k = i + headSize in notedAll (noted s n (f .number) k (length (f .codes))) n (k + length (f .codes)) fs
+
+abbrev pub resumed : Seen → ℕ → ℕ → Reading → Walked
+resumed s n i (holds fs) = Sound (toldBy (notedAll s n i fs))
+resumed s n i (unsound r) = Unsound r
+
+resumed-then : (s : Seen) (n i : ℕ) (f : Phrase) (r : Reading)
+    → resumed s n i (f then r) ≡ (let k = i + headSize in resumed (noted s n (f .number) k (length (f .codes))) n (k + length (f .codes)) r)
+unfolding _then_
+resumed-then s n i f (holds fs) = refl
+resumed-then s n i f (unsound r) = refl
+
+-- Numbers rise, so above the number wanted nothing is found any more,
+noted-above : (n k i : ℕ) (s : Seen) (fs : List Phrase) → RisingFrom k fs → n < k → notedAll s n i fs ≡ record { least = leastAfter (s .least) fs; start = s .start; length = s .length }
+unfolding leastAfter
+noted-above n k i s [] r h = refl
+noted-above n k i s (f ∷ fs) r h =
+    let e = ne-eqb (f .number) n (omega (arith, h, r .1)) in
+    rw (e, add-one (f .number)) (noted-above n (suc (f .number)) (i + headSize + length (f .codes)) (record { least = suc (f .number); start = s .start; length = s .length }) fs (r .2) (omega (arith, h, r .1)))
+
+-- and the walk finds what a search in the phrases does.
+noted-found : (n k i : ℕ) (s : Seen) (fs : List Phrase) → RisingFrom k fs → s .start ≡ 0
+    → toldBy (notedAll s n i fs) ≡ record { least = leastAfter (s .least) fs; found = placed (i + startOf fs n) (search fs n) }
+unfolding leastAfter startOf search placed
+noted-found n k i s [] r h = rw h refl
+noted-found n k i s (f ∷ fs) r h =
+    let j = i + headSize + length (f .codes) in
+    let a : i + (length (recordOf f) + startOf fs n) ≡ j + startOf fs n = omega (arith, record-size f) in
+    let here : Seen = record { least = suc (f .number); start = i + headSize; length = length (f .codes) } in
+    let as-before : Seen = record { least = suc (f .number); start = s .start; length = s .length } in
+    either (eqb (f .number) n)
+    (λ q.
+    let e : notedAll s n i (f ∷ fs) ≡ notedAll here n j fs = rw (q, add-one (f .number)) refl in
+    ap toldBy (e ∙ noted-above n (suc (f .number)) j here fs (r .2) (omega (arith, eqb-true (f .number) n q))) ∙ rw (q, ne-eqb (i + headSize) 0 (omega arith)) refl)
+    (λ q.
+    let e : notedAll s n i (f ∷ fs) ≡ notedAll as-before n j fs = rw (q, add-one (f .number)) refl in
+    ap toldBy e ∙ noted-found n (suc (f .number)) j as-before fs (r .2) h ∙ rw (q, a) refl)
+
+-- Where the walk stands: at place i of the book, with s seen; what is left to read makes of it what is due.
+pub record Going (book : List ℕ) (n i : ℕ) (s : Seen) : Type 0 where
+  pub inside : i ≤ length book
+  pub bytes : Bytes book
+  pub rest : walkedOf (readBook book) n ≡ resumed s n i (readFrom 0 i (s .least) (drop i book))
+
+abbrev none-seen : Seen
+none-seen = record { least = 0; start = 0; length = 0 }
+
+pub going-start : (book : List ℕ) (n : ℕ) → Bytes book → Going book n 0 none-seen
+unfolding walkedOf readBook
+going-start book n b = record { inside = omega arith; bytes = b; rest = of (judge book b) } where
+  of : Judged book → walkedOf (readBook book) n ≡ resumed none-seen n 0 (readBook book)
+  of (isSound fs s e) = rw e (ap Sound (let z : 0 + startOf fs n ≡ startOf fs n = omega arith in sym (rw z at (noted-found n 0 0 none-seen fs (s .rising) refl))))
+  of (isRefused k p range d e) = rw e refl
+
+pub going-all : {book : List ℕ} {n i : ℕ} {s : Seen} {c : Contents} → Going book n i s → length book ≤ i → c ≡ toldBy s → Sound c ≡ walkedOf (readBook book) n
+unfolding readFrom
+going-all {book} {n} {i} {s} {c} g h e = ap Sound e ∙ sym (rw (drop-of-length-le book h) at (g .rest))
+
+-- At a place with more bytes the walk stops with 15 or 16, or goes on behind a record.
+module _ {book : List ℕ} {n i : ℕ} {s : Seen} (g : Going book n i s) where
+  abbrev x : List ℕ
+  x = drop i book
+
+  pub going-15 : i < length book → isRecord x ≡ false → Unsound (refusal 15 i) ≡ walkedOf (readBook book) n
+  unfolding row15
+  going-15 more h = sym (rw (read-15 i (s .least) x (omega (arith, length-drop i book, more)) (rw h refl)) at (g .rest))
+
+  module _ (there : Stands x) {number : ℕ} (e : number ≡ numberIn x) where
+    left : 0 < length x
+    left = omega (arith, there .head)
+
+    pub going-16 : number < s .least → Unsound (refusal 16 i) ≡ walkedOf (readBook book) n
+    unfolding row16
+    going-16 l =
+        let k : row16 (s .least) x ≡ true = rw (← e, lt-leb (s .least) number l) refl in
+        sym (rw (read-16 i (s .least) x left (stands-15 there) k) at (g .rest))
+
+    pub going-more : {size : ℕ} {q : Seen} → size ≡ lengthIn x → s .least ≤ number → q ≡ noted s n number (i + headSize) size → Going book n (i + headSize + size) q
+    unfolding row16 phraseIn
+    going-more {size} {q} b l t =
+        let k : row16 (s .least) x ≡ false = rw (← e, le-leb (s .least) number l) refl in
+        let w = there .whole in
+        let z : length (phraseIn x .codes) ≡ lengthIn x = length-take-le (lengthIn x) (drop headSize x) (omega (arith, w, length-drop headSize x)) in
+        let j : i + spanIn x ≡ i + headSize + lengthIn x = omega arith in
+        record {
+          inside = omega (arith, w, b, length-drop i book);
+          bytes = g .bytes;
+          rest = g .rest ∙ ap (resumed s n i) (read-record i (s .least) x left (stands-15 there) k) ∙ resumed-then s n i (phraseIn x) _ ∙ rw (t, e, b, z, add-one (numberIn x), drop-drop (spanIn x) i book, j) refl;
+        }
+
+-- What the walk tells, for lookups and additions.
+module _ (r : Reading) (n : ℕ) where
+  pub walked-sound : {c : Contents} (bookEnd : ℕ) (a : Answer) → walkedOf r n ≡ Sound c → (locateAnswer r n ≡ c .found) × (afterBook r n bookEnd a ≡ cond (leb (c .least) n) a (Refused (refusal 16 bookEnd)))
+  unfolding walkedOf locateAnswer afterBook
+  walked-sound {c} bookEnd a = of r where
+    of : (r : Reading) → walkedOf r n ≡ Sound c → (locateAnswer r n ≡ c .found) × (afterBook r n bookEnd a ≡ cond (leb (c .least) n) a (Refused (refusal 16 bookEnd)))
+    of (holds fs) h = let e : c ≡ record { least = leastAfter 0 fs; found = placed (startOf fs n) (search fs n) } = (cc) in rw e (refl, refl)
+    of (unsound x) h = absurd (let z : _≡_ {A = ℕ} 0 1 = cc in omega (arith, z))
+
+  pub walked-unsound : {x : Refusal} (bookEnd : ℕ) (a : Answer) → walkedOf r n ≡ Unsound x → (locateAnswer r n ≡ located.Refused x) × (afterBook r n bookEnd a ≡ Refused x)
+  unfolding walkedOf locateAnswer afterBook
+  walked-unsound {x} bookEnd a = of r where
+    of : (r : Reading) → walkedOf r n ≡ Unsound x → (locateAnswer r n ≡ located.Refused x) × (afterBook r n bookEnd a ≡ Refused x)
+    of (holds fs) h = absurd (let z : _≡_ {A = ℕ} 0 1 = cc in omega (arith, z))
+    of (unsound y) h = let e : y ≡ x = (cc) in rw e (refl, refl)

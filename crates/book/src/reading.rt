@@ -1,0 +1,95 @@
+// One walk over a whole book, for lookups and additions.
+ghost use mathlib.Core.Path.{_≡_};
+ghost use Prim.Native.Nat.{_<_};
+ghost use Rattle.spec.specs.Book.{readBook};
+ghost use Rattle.book.specs.Walking.{noted, toldBy, walkedOf, EndOf};
+use crate::Contents;
+use crate::Seen;
+use crate::Walked;
+use crate::records;
+use crate::records::is_record;
+use crate::records::pair_at;
+use spec::Located;
+use spec::Refusal;
+
+// Where the book ends in a buffer: at the used count, or at the buffer's end where the count is above that.
+pub fn book_end(buffer: &[u8], used: usize) -> usize
+    ensures { λ r. ⌜ EndOf (now (buffer .entry)) used r ⌝ }
+{
+    if buffer.len() < used {
+        return buffer.len();
+    }
+    used
+}
+
+// What is seen with one more record: it has this number, and its tape begins at this place and is so long.
+fn note(s: Seen, wanted: usize, number: usize, start: usize, length: usize) -> Seen
+    requires { ⌜ number < 65536 ⌝ }
+    ensures { λ r. ⌜ r ≡ noted s wanted number start length ⌝ }
+{
+    let least = number + 1;
+    if number == wanted {
+        return Seen {
+            least,
+            start,
+            length,
+        };
+    }
+    Seen {
+        least,
+        start: s.start,
+        length: s.length,
+    }
+}
+
+// What was seen of a whole book as what it tells.
+fn tell(s: Seen) -> Contents
+    ensures { λ r. ⌜ r ≡ toldBy s ⌝ }
+{
+    let least = s.least;
+    if s.start == 0 {
+        return Contents {
+            least,
+            found: Located::Missing,
+        };
+    }
+    Contents {
+        least,
+        found: Located::At {
+            start: s.start,
+            length: s.length,
+        },
+    }
+}
+
+// Goes through the book record by record to its end, also where the number wanted is found before.
+pub fn walk(book: &[u8], wanted: usize) -> Walked
+    ensures { λ r. ⌜ r ≡ walkedOf (readBook (now (book .entry))) wanted ⌝ }
+{
+    let mut i = 0;
+    let mut s = Seen {
+        least: 0,
+        start: 0,
+        length: 0,
+    };
+    while is_record(book, i) {
+        let number = pair_at(book, i + records::NUMBER);
+        if number < s.least {
+            return Walked::Unsound(Refusal {
+                number: 16,
+                place: i,
+            });
+        }
+        let start = i + records::HEAD_SIZE;
+        let length = pair_at(book, i + records::LENGTH);
+        s = note(s, wanted, number, start, length);
+        i = start + length;
+    }
+    if i < book.len() {
+        return Walked::Unsound(Refusal {
+            number: 15,
+            place: i,
+        });
+    }
+    Walked::Sound(tell(s))
+}

@@ -1,0 +1,76 @@
+// The record of a phrase (paper 02, request 6): a head of mark, number and length, and then the tape.
+ghost use mathlib.Core.Path.{_≡_};
+ghost use Prim.Native.Nat.{_+_, _<_, _≤_};
+ghost use lib.ListN.{length, drop};
+ghost use Rattle.spec.specs.Book.{headSize, pairAt, spanIn, hasRecordMark, isRecord, twoBytes, headOf};
+ghost use Rattle.laws.proofs.Putting.{Put};
+ghost use Rattle.book.specs.Walking.{HeadDue};
+
+pub const HEAD_SIZE: usize = 6;
+
+// Where in the head the number and the tape's length stand.
+pub const NUMBER: usize = 2;
+
+pub const LENGTH: usize = 4;
+
+// The mark's bytes are 52 and 9E, so this is its number, low byte first.
+const MARK: usize = 0x9E52;
+
+// The two bytes from place i on as a number, low byte first.
+pub fn pair_at(x: &[u8], i: usize) -> usize
+    requires { ⌜ i + 1 < length (now x) ⌝ }
+    ensures { λ r. ⌜ (r ≡ pairAt i (now (x .entry))) × (r < 65536) ⌝ }
+{
+    x[i] as usize + x[i + 1] as usize * 256
+}
+
+// Does the mark of a record stand at place i?
+fn is_marked(x: &[u8], i: usize) -> bool
+    requires { ⌜ i + 1 < length (now x) ⌝ }
+    ensures { λ r. ⌜ r ≡ hasRecordMark (drop i (now (x .entry))) ⌝ }
+{
+    pair_at(x, i) == MARK
+}
+
+// How many bytes the record at place i has by its head, with the head.
+fn span_at(x: &[u8], i: usize) -> usize
+    requires { ⌜ i + headSize ≤ length (now x) ⌝ }
+    ensures { λ r. ⌜ (r ≡ spanIn (drop i (now (x .entry)))) × (r < 65542) ⌝ }
+{
+    HEAD_SIZE + pair_at(x, i + LENGTH)
+}
+
+// Does a record stand at place i, with its mark, its head and its whole tape?
+pub fn is_record(x: &[u8], i: usize) -> bool
+    requires { ⌜ i ≤ length (now x) ⌝ }
+    ensures { λ r. ⌜ r ≡ isRecord (drop i (now (x .entry))) ⌝ }
+{
+    let left = x.len() - i;
+    if left < HEAD_SIZE {
+        return false;
+    }
+    if is_marked(x, i) {
+        return span_at(x, i) <= left;
+    }
+    false
+}
+
+// Puts a number in two bytes from place i on, low byte first.
+fn put_pair(out: &mut [u8], i: usize, n: usize) -> usize
+    requires { ⌜ (n < 65536) × (i + 1 < length (now out)) ⌝ }
+    ensures { λ r. ⌜ Put (twoBytes n) (now (out .entry)) (now (out .exit)) r i ⌝ }
+{
+    out[i] = (n % 256) as u8;
+    out[i + 1] = (n / 256) as u8;
+    i + 2
+}
+
+// Puts the head of a record from place i on: for a number, and a tape of n codes.
+pub fn put_head(out: &mut [u8], i: usize, number: usize, n: usize) -> usize
+    requires { ⌜ HeadDue (now out) i number n ⌝ }
+    ensures { λ r. ⌜ Put (headOf number n) (now (out .entry)) (now (out .exit)) r i ⌝ }
+{
+    let number_place = put_pair(out, i, MARK);
+    let length_place = put_pair(out, number_place, number);
+    put_pair(out, length_place, n)
+}
