@@ -7,6 +7,9 @@
  * writer of UTF-8, but for the check. The reader of UTF-8 always makes two passes, since any sequence may be refused. The words of a level
  * come from two tables, by two digits each.
  *
+ * A book is gone through once, record by record. An addition is the check, that walk and the second pass above, which writes to where the
+ * tape stays.
+ *
  * The classes T, P, Q, V1 and V2, the sets D and U and the numbers of the refusals are those of document 01.
  */
 #include "baseline.h"
@@ -365,8 +368,14 @@ static bool hard_boundary(const uint8_t *p)
     return tables.symbols[p[-1]].before == AFTER_T || tables.symbols[p[-1]].before == AFTER_P;
 }
 
+/*
+ * By itself gcc puts in line only what is small or has one caller. The second pass has two, the joiner and the addition to a book, and left
+ * to gcc every tape would take more instructions than before there were books. The walk over a book has two callers as well.
+ */
+#define IN_LINE __attribute__((always_inline)) static inline
+
 /* Whether the gap at p changes the first sound of the word after it: и, and э without a mark, sound ы at a hard boundary. */
-static bool changes_opening(const uint8_t *p, const uint8_t *end)
+IN_LINE bool changes_opening(const uint8_t *p, const uint8_t *end)
 {
     uint32_t first = small(p[1]);
     if (first != I && (first != E || (end - p > 2 && p[2] == MARK)))
@@ -411,7 +420,7 @@ struct joints {
  * Takes the break at p. The tape of what is after it begins at w and asks for this voice; gives what the break asks for. Here, where it
  * is known whether a cut stands between, a hard boundary changes the first sound.
  */
-static uint32_t take_break(struct joints *joints, const uint8_t *p, uint32_t voice, uint8_t *w)
+IN_LINE uint32_t take_break(struct joints *joints, const uint8_t *p, uint32_t voice, uint8_t *w)
 {
     const struct symbol *symbol = &tables.symbols[*p];
     bool opening = *p == GAP && changes_opening(p, joints->end);
@@ -434,7 +443,7 @@ static uint32_t take_break(struct joints *joints, const uint8_t *p, uint32_t voi
 }
 
 /* Writes the tape of an accepted message cut at these places so that it ends at w, and counts the live cuts. */
-static uint32_t write_tape(const uint8_t *msg, const uint8_t *end, const size_t *cuts, size_t n, uint8_t *w)
+IN_LINE uint32_t write_tape(const uint8_t *msg, const uint8_t *end, const size_t *cuts, size_t n, uint8_t *w)
 {
     struct joints joints = {msg, end, cuts, n, end, VOICELESS, VOICELESS, 0};
     size_t voice = VOICELESS, level = NOT_KNOWN;
@@ -841,4 +850,87 @@ baseline_answer baseline_speak_level(int32_t level, uint8_t *out, size_t cap)
         out += words[i]->length;
     }
     return (baseline_answer){.length = (uint32_t)length};
+}
+
+/* A record of a book: a mark, a number and its tape's length, each of two bytes with the low one first, and the tape. */
+enum { RECORD_MARK = 0x9E52, NUMBER_AT = 2, LENGTH_AT = 4, HEAD_BYTES = 6, NO_PHRASE = 0x10000 };
+
+static uint32_t two_bytes(const uint8_t *p)
+{
+    return p[0] | (uint32_t)p[1] << 8;
+}
+
+static uint8_t *write_two_bytes(uint32_t number, uint8_t *w)
+{
+    w[0] = (uint8_t)number;
+    w[1] = (uint8_t)(number >> 8);
+    return w + 2;
+}
+
+struct passage {
+    uint32_t number;       /* of the refusal, or 0 */
+    const uint8_t *stop;   /* the record that is refused */
+    const uint8_t *record; /* that of the phrase, or NULL */
+    uint32_t least;        /* the smallest number that may come next */
+};
+
+/* Goes through a whole book, which has so many bytes, and looks for a phrase; NO_PHRASE is above them all. */
+IN_LINE struct passage pass_records(const uint8_t *p, size_t left, uint32_t phrase)
+{
+    const uint8_t *record = NULL;
+    uint32_t least = 0;
+
+    while (left >= HEAD_BYTES) {
+        size_t bytes = HEAD_BYTES + two_bytes(p + LENGTH_AT);
+        uint32_t number = two_bytes(p + NUMBER_AT);
+        if (two_bytes(p) != RECORD_MARK || bytes > left)
+            break;
+        if (number < least)
+            return (struct passage){.number = 16, .stop = p};
+        if (number == phrase)
+            record = p;
+        least = number + 1;
+        p += bytes;
+        left -= bytes;
+    }
+    if (left != 0)
+        return (struct passage){.number = 15, .stop = p};
+    return (struct passage){.record = record, .least = least};
+}
+
+baseline_found baseline_book_find(const uint8_t *book, size_t size, size_t used, uint16_t phrase)
+{
+    struct passage passage = pass_records(book, used < size ? used : size, phrase);
+    if (passage.number)
+        return (baseline_found){.number = passage.number, .place = (size_t)(passage.stop - book)};
+    if (!passage.record)
+        return (baseline_found){.found = 0};
+    const uint8_t *tape = passage.record + HEAD_BYTES;
+    return (baseline_found){.found = 1, .start = (size_t)(tape - book), .length = two_bytes(passage.record + LENGTH_AT)};
+}
+
+static baseline_added not_added(uint32_t number, size_t place)
+{
+    return (baseline_added){.number = number, .place = place};
+}
+
+/* The tape is written where it is to stay, behind the head, once nothing can be refused any more. */
+baseline_added baseline_book_add(uint8_t *book, size_t size, size_t used, uint16_t phrase, const uint8_t *msg, size_t len)
+{
+    baseline_counts counts = baseline_check(msg, len);
+    if (counts.number)
+        return not_added(counts.number, counts.place);
+    size_t end = used < size ? used : size, longer = end + HEAD_BYTES + counts.codes;
+    struct passage passage = pass_records(book, end, NO_PHRASE);
+    if (passage.number)
+        return not_added(passage.number, (size_t)(passage.stop - book));
+    if (phrase < passage.least)
+        return not_added(16, end);
+    if (longer > size)
+        return not_added(11, longer);
+    uint8_t *w = write_two_bytes(RECORD_MARK, book + end);
+    w = write_two_bytes(phrase, w);
+    w = write_two_bytes(counts.codes, w);
+    write_tape(msg, msg + len, NULL, 0, w + counts.codes);
+    return (baseline_added){.used = longer};
 }

@@ -21,6 +21,18 @@ typedef struct {
     size_t place, length;
 } baseline_text;
 
+typedef struct {
+    uint32_t number;
+    size_t place, used;
+} baseline_added;
+
+typedef struct {
+    uint32_t number;
+    size_t place;
+    uint32_t found;
+    size_t start, length;
+} baseline_found;
+
 baseline_counts baseline_check(const uint8_t *msg, size_t len);
 baseline_answer baseline_name(const uint8_t *msg, size_t len, uint8_t *out, size_t cap);
 baseline_answer baseline_transcribe(const uint8_t *msg, size_t len, uint8_t *out, size_t cap);
@@ -29,5 +41,7 @@ baseline_text baseline_edit(const uint8_t *text, size_t len, uint8_t *out, size_
 baseline_text baseline_read_utf8(const uint8_t *text, size_t len, uint8_t *out, size_t cap);
 baseline_answer baseline_write_utf8(const uint8_t *msg, size_t len, uint8_t *out, size_t cap);
 baseline_answer baseline_speak_level(int32_t level, uint8_t *out, size_t cap);
+baseline_added baseline_book_add(uint8_t *book, size_t size, size_t used, uint16_t phrase, const uint8_t *msg, size_t len);
+baseline_found baseline_book_find(const uint8_t *book, size_t size, size_t used, uint16_t phrase);
 
 #endif

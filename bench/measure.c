@@ -1,5 +1,6 @@
 /*
- * Measures the proved library beside the baseline on the same messages, on texts for the editor and for the reader, and on levels.
+ * Measures the proved library beside the baseline on the same messages, on texts for the editor and for the reader, on levels and on
+ * phrase books.
  *
  *   measure time    compares all answers and outputs of the two, then prints the nanoseconds a byte of each
  *   measure count   makes each call once between requests to callgrind, which then holds the instructions of each
@@ -20,6 +21,9 @@
 
 enum { MAX_BYTES = 65536, MAX_CUTS = 4096 / 2, OUT_BYTES = 2 * MAX_BYTES, FILLER = 0xAA };
 enum { MAX_LEVEL = 9999, MAX_LEVELS = 2 * MAX_LEVEL + 1, LEVEL_ROOM = 64, LEVEL_BYTES = 2 * LEVEL_ROOM };
+/* A phrase has its least bytes and more by chance, and then the rest of a word: at most 60. Its tape has at most twice as many. */
+enum { PHRASE_LEAST = 20, PHRASE_MORE = 24, PHRASE_BYTES = 60, RECORD_HEAD = 6, RECORD_BYTES = RECORD_HEAD + 2 * PHRASE_BYTES };
+enum { MAX_RECORDS = 5000, NUMBER_STEP = 13, BOOK_BYTES = (MAX_RECORDS + 1) * RECORD_BYTES };
 enum { ROUNDS = 40, ROUND_NS = 200000 };
 
 /* Words of dispatchers' messages, a mark after each stressed vowel. */
@@ -99,9 +103,22 @@ static uint8_t next_byte(const char **text)
     return (uint8_t)(point - 0x410 + 0xC0);
 }
 
+enum operation {
+    NOTHING, CHECK, NAME, TRANSCRIBE, JOIN_NO_CUT, JOIN_ALL_CUTS, EDIT, EDIT_JUST_ROOM, EDIT_NO_ROOM,
+    READ, READ_JUST_ROOM, READ_NO_ROOM, READ_REFUSED, WRITE, WRITE_JUST_ROOM, WRITE_NO_ROOM,
+    SPEAK, SPEAK_JUST_ROOM, SPEAK_REFUSED,
+    FIND_FIRST, FIND_MIDDLE, FIND_LAST, FIND_NONE, FIND_DAMAGED, ADD, ADD_TOO_SHORT, ADD_NOT_ABOVE, OPERATIONS
+};
+
 struct spoken {
     int32_t level;
     size_t length; /* of its words; 0 where the level is refused */
+};
+
+/* What a call is given beside the book's bytes, and beside the message that it may add. */
+struct book_call {
+    size_t size, used;
+    uint16_t phrase;
 };
 
 struct message {
@@ -114,8 +131,11 @@ struct message {
     size_t utf8_len;                  /* without that byte */
     struct spoken levels[MAX_LEVELS]; /* where it is no message but levels */
     size_t level_count;
+    size_t records;                   /* of the book, where there is one; the message is then what is added to it */
+    struct book_call calls[OPERATIONS];
     const char *name;
-    size_t units; /* what costs are divided by: its bytes; the bytes of all words of its levels; or how many these are, if refused */
+    /* What costs are divided by: its bytes; the bytes of all words of its levels; how many these are, if refused; or its records. */
+    size_t units;
     int uses;
 };
 
@@ -126,11 +146,13 @@ struct list {
 
 /*
  * What operations a case is for. A text with punctuation is for the editor or the reader alone: all else would refuse it. Levels are
- * apart from all of these: spoken with room for any, with just room, or outside the range.
+ * apart from all of these: spoken with room for any, with just room, or outside the range. So are books, for which costs are divided by
+ * their records in a lookup and by the message's bytes in an addition.
  */
 enum {
     FOR_MESSAGES = 1, FOR_EDITOR = 2, FOR_READER = 4, FOR_WRITER = 8,
-    FOR_SPEAKER = 16, FOR_SHORT_OUTPUT = 32, FOR_REFUSAL = 64, FOR_LEVELS = FOR_SPEAKER | FOR_SHORT_OUTPUT | FOR_REFUSAL, FOR_ALL = 127
+    FOR_SPEAKER = 16, FOR_SHORT_OUTPUT = 32, FOR_REFUSAL = 64, FOR_LEVELS = FOR_SPEAKER | FOR_SHORT_OUTPUT | FOR_REFUSAL,
+    FOR_LOOKUP = 128, FOR_ADDITION = 256, FOR_BOOKS = FOR_LOOKUP | FOR_ADDITION, FOR_ALL = 511
 };
 
 struct test_case {
@@ -147,6 +169,12 @@ struct level_case {
     const char *name;
     int32_t first, last;
     size_t least;
+    int uses;
+};
+
+struct book_case {
+    const char *name;
+    size_t records;
     int uses;
 };
 
@@ -256,13 +284,18 @@ static const struct level_case level_cases[] = {
     {"levels outside", MAX_LEVEL + 1, MAX_LEVEL + 1000, 0, FOR_REFUSAL},
 };
 
-enum operation {
-    NOTHING, CHECK, NAME, TRANSCRIBE, JOIN_NO_CUT, JOIN_ALL_CUTS, EDIT, EDIT_JUST_ROOM, EDIT_NO_ROOM,
-    READ, READ_JUST_ROOM, READ_NO_ROOM, READ_REFUSED, WRITE, WRITE_JUST_ROOM, WRITE_NO_ROOM,
-    SPEAK, SPEAK_JUST_ROOM, SPEAK_REFUSED, OPERATIONS
+static const struct book_case book_cases[] = {
+    {"book 30", 30, FOR_LOOKUP},
+    {"book 5000", MAX_RECORDS, FOR_LOOKUP},
+    {"empty book", 0, FOR_ADDITION},
+    {"book 30", 30, FOR_ADDITION},
+    {"book 5000", MAX_RECORDS, FOR_ADDITION},
 };
 
-/* A refusal for want of room is compared but not measured: just enough room takes no less. Levels are compared apart. */
+/*
+ * A refusal for want of room is compared but not measured, since just enough room takes no less; an addition to a book takes less, so there
+ * it is measured. Levels and books are compared apart.
+ */
 static const struct {
     const char *name;
     int uses, measured;
@@ -287,12 +320,22 @@ static const struct {
     [SPEAK] = {"speak", FOR_SPEAKER, 1, 0},
     [SPEAK_JUST_ROOM] = {"speak, just room", FOR_SHORT_OUTPUT, 1, 0},
     [SPEAK_REFUSED] = {"speak, refused", FOR_REFUSAL, 1, 14},
+    [FIND_FIRST] = {"find first", FOR_LOOKUP, 1, 0},
+    [FIND_MIDDLE] = {"find middle", FOR_LOOKUP, 1, 0},
+    [FIND_LAST] = {"find last", FOR_LOOKUP, 1, 0},
+    [FIND_NONE] = {"find none", FOR_LOOKUP, 1, 0},
+    [FIND_DAMAGED] = {"find damaged", FOR_LOOKUP, 1, 15},
+    [ADD] = {"add", FOR_ADDITION, 1, 0},
+    [ADD_TOO_SHORT] = {"add too short", FOR_ADDITION, 1, 11},
+    [ADD_NOT_ABOVE] = {"add not above", FOR_ADDITION, 1, 16},
 };
 
-/* No output is too short for an edit of breaks alone. */
+/* No output is too short for an edit of breaks alone, and every number is above those of an empty book. */
 static int suits(const struct message *m, enum operation operation)
 {
-    return (m->uses & operations[operation].uses) && !(operation == EDIT_NO_ROOM && m->edited == 0);
+    if ((operation == EDIT_NO_ROOM && m->edited == 0) || (operation == ADD_NOT_ABOVE && m->records == 0))
+        return 0;
+    return m->uses & operations[operation].uses;
 }
 
 /* The four numbers of either library's answers. Editor's and reader's place and length are wider: the fourth has what is above 32 bits. */
@@ -300,8 +343,15 @@ struct result {
     uint32_t number, place, first, second;
 };
 
+/* All that either library answers about a book. */
+struct book_result {
+    uint32_t number, found;
+    size_t place, start, length, used;
+};
+
 typedef struct result run_function(enum operation operation, const struct message *m, uint8_t *out);
 typedef struct result speak_function(int32_t level, uint8_t *out, size_t cap);
+typedef struct book_result book_function(enum operation operation, const struct book_call *c, const struct message *m, uint8_t *book);
 
 /*
  * How long an output is given to an edit, a reading or a writing: to the plain operation as much as any answer may take, to the next as
@@ -316,7 +366,8 @@ static size_t room(enum operation operation, enum operation plain, size_t most, 
 
 /*
  * Edits and readings are in functions apart: their answers are too wide for two registers, and in line made the other calls longer. The
- * levels of a case are spoken in one loop, and to do nothing is there the same loop with calls of a function that is empty.
+ * levels of a case are spoken in one loop, and to do nothing is there the same loop with calls of a function that is empty. For a book,
+ * too, that is a call of such a function.
  */
 #define DEFINE_RUN(library)                                                                                     \
     static struct result library##_answer_of(library##_answer a)                                                \
@@ -361,6 +412,46 @@ static size_t room(enum operation operation, enum operation plain, size_t most, 
     {                                                                                                           \
         return library##_answer_of(library##_speak_level(level, out, cap));                                     \
     }                                                                                                           \
+    __attribute__((noipa))                                                                                      \
+    static library##_found library##_find_nothing(const uint8_t *book, size_t size, size_t used,                \
+                                                  uint16_t phrase)                                              \
+    {                                                                                                           \
+        (void)book, (void)size, (void)used, (void)phrase;                                                       \
+        return (library##_found){0, 0, 0, 0, 0};                                                                \
+    }                                                                                                           \
+    static struct result library##_run_find(enum operation operation, const struct message *m, uint8_t *book)   \
+    {                                                                                                           \
+        library##_found (*find)(const uint8_t *, size_t, size_t, uint16_t) =                                    \
+            operation == NOTHING ? library##_find_nothing : library##_book_find;                                \
+        const struct book_call *c = &m->calls[operation];                                                       \
+        library##_found f = find(book, c->size, c->used, c->phrase);                                            \
+        return (struct result){f.number, (uint32_t)f.place, (uint32_t)f.start, (uint32_t)f.length};             \
+    }                                                                                                           \
+    __attribute__((noipa))                                                                                      \
+    static library##_added library##_add_nothing(uint8_t *book, size_t size, size_t used, uint16_t phrase,      \
+                                                 const uint8_t *msg, size_t len)                                \
+    {                                                                                                           \
+        (void)book, (void)size, (void)used, (void)phrase, (void)msg, (void)len;                                 \
+        return (library##_added){0, 0, 0};                                                                      \
+    }                                                                                                           \
+    static struct result library##_run_add(enum operation operation, const struct message *m, uint8_t *book)    \
+    {                                                                                                           \
+        library##_added (*add)(uint8_t *, size_t, size_t, uint16_t, const uint8_t *, size_t) =                  \
+            operation == NOTHING ? library##_add_nothing : library##_book_add;                                  \
+        const struct book_call *c = &m->calls[operation];                                                       \
+        library##_added a = add(book, c->size, c->used, c->phrase, m->bytes, m->len);                           \
+        return (struct result){a.number, (uint32_t)a.place, (uint32_t)a.used, 0};                               \
+    }                                                                                                           \
+    static struct book_result library##_book(enum operation operation, const struct book_call *c,               \
+                                             const struct message *m, uint8_t *book)                            \
+    {                                                                                                           \
+        if (operation >= ADD) {                                                                                 \
+            library##_added a = library##_book_add(book, c->size, c->used, c->phrase, m->bytes, m->len);        \
+            return (struct book_result){a.number, 0, a.place, 0, 0, a.used};                                    \
+        }                                                                                                       \
+        library##_found f = library##_book_find(book, c->size, c->used, c->phrase);                             \
+        return (struct book_result){f.number, f.found, f.place, f.start, f.length, 0};                          \
+    }                                                                                                           \
     static struct result library##_run(enum operation operation, const struct message *m, uint8_t *out)         \
     {                                                                                                           \
         library##_counts c;                                                                                     \
@@ -402,9 +493,15 @@ DEFINE_RUN(govorun)
 static run_function *const libraries[] = {baseline_run, govorun_run};
 static run_function *const level_libraries[] = {baseline_run_levels, govorun_run_levels};
 static speak_function *const speakers[] = {baseline_speak, govorun_speak};
+static run_function *const find_libraries[] = {baseline_run_find, govorun_run_find};
+static run_function *const add_libraries[] = {baseline_run_add, govorun_run_add};
+static book_function *const book_libraries[] = {baseline_book, govorun_book};
 static const char *const library_names[] = {"baseline", "proved"};
 
 static uint8_t outputs[2][OUT_BYTES];
+
+/* A book for each library, and as it was before the calls that are compared. */
+static uint8_t books[2][BOOK_BYTES], book_before[BOOK_BYTES];
 
 static void make(struct message *message, const struct test_case *c)
 {
@@ -449,6 +546,59 @@ static void make_levels(struct message *message, const struct level_case *c)
         message->units += length == 0 ? 1 : length;
     }
     shuffle(message->levels, message->level_count);
+}
+
+/* Puts words by chance into a message, up to a phrase's usual length. */
+static void fill_phrase(struct message *message, uint32_t *seed)
+{
+    static const struct list spoken = LIST(words), breaks = LIST(gaps_and_pauses);
+    size_t least = PHRASE_LEAST + next_random(seed) % PHRASE_MORE;
+    message->len = 0;
+    while (message->len < least) {
+        if (message->len != 0)
+            append(message, PHRASE_BYTES, breaks.items[next_random(seed) % breaks.count]);
+        append(message, PHRASE_BYTES, spoken.items[next_random(seed) % spoken.count]);
+    }
+}
+
+static uint16_t number_of(size_t record)
+{
+    return (uint16_t)(NUMBER_STEP * record);
+}
+
+/* The calls for a book with so many bytes used, in a buffer with room for more. A book is damaged where its last byte is missing. */
+static void plan_calls(struct message *message, size_t used)
+{
+    struct book_call *calls = message->calls;
+    size_t records = message->records;
+    for (int operation = NOTHING; operation < OPERATIONS; operation++)
+        calls[operation] = (struct book_call){BOOK_BYTES, used, number_of(records)};
+    calls[FIND_FIRST].phrase = calls[FIND_DAMAGED].phrase = number_of(0);
+    calls[FIND_MIDDLE].phrase = number_of(records / 2);
+    calls[FIND_NONE].phrase = number_of(records / 2) + 1;
+    calls[FIND_LAST].phrase = calls[ADD_NOT_ABOVE].phrase = number_of(records - 1);
+    calls[FIND_DAMAGED].used = used - 1;
+    calls[ADD_TOO_SHORT].size = used + RECORD_HEAD + baseline_check(message->bytes, message->len).codes - 1;
+}
+
+/* Each record is made as the first one of a book that begins behind the others: to add it to them would go through them all. */
+static void make_book(struct message *message, const struct book_case *c)
+{
+    uint32_t seed = 1, seed_of_added = 24;
+    size_t used = 0;
+    memset(book_before, FILLER, BOOK_BYTES);
+    for (size_t i = 0; i < c->records; i++) {
+        fill_phrase(message, &seed);
+        used += baseline_book_add(book_before + used, BOOK_BYTES - used, 0, number_of(i), message->bytes, message->len).used;
+    }
+    memcpy(books[0], book_before, BOOK_BYTES);
+    memcpy(books[1], book_before, BOOK_BYTES);
+    fill_phrase(message, &seed_of_added);
+    message->name = c->name;
+    message->records = c->records;
+    message->uses = c->uses;
+    message->units = c->uses & FOR_LOOKUP ? c->records : message->len;
+    plan_calls(message, used);
 }
 
 /* Whether the bytes of an output from this place on are those that it had before the call. */
@@ -522,6 +672,93 @@ static void compare_levels(void)
         compare_outputs((int32_t)number);
 }
 
+/*
+ * The answer of both libraries on the book as it was before. Ends the program unless they give the same one and leave the same bytes, of
+ * which the first ones are looked at: nothing but a record that was added may have come to them.
+ */
+static struct book_result compare_call(const struct message *message, enum operation operation, const struct book_call *c, size_t bytes)
+{
+    struct book_result results[2];
+    for (int i = 0; i < 2; i++) {
+        memcpy(books[i], book_before, bytes);
+        results[i] = book_libraries[i](operation, c, message, books[i]);
+    }
+    size_t end = results[0].used, book = c->used < c->size ? c->used : c->size, start = end == 0 ? 0 : book;
+    if (memcmp(&results[0], &results[1], sizeof results[0]) != 0 || memcmp(books[0], books[1], bytes) != 0 ||
+        memcmp(books[0], book_before, start) != 0 || memcmp(books[0] + end, book_before + end, bytes - end) != 0) {
+        fprintf(stderr, "the two differ, or change what they must keep: %s, phrase %d, in %zu bytes with %zu used\n",
+                operations[operation].name, c->phrase, c->size, c->used);
+        exit(1);
+    }
+    return results[0];
+}
+
+/* The same for a call that is measured: its answer must have the operation's number, and the phrase that is there must be found. */
+static void compare_book(const struct message *message, enum operation operation)
+{
+    struct book_result result = compare_call(message, operation, &message->calls[operation], BOOK_BYTES);
+    uint32_t found = operation >= FIND_FIRST && operation <= FIND_LAST;
+    if (result.number != operations[operation].number || result.found != found) {
+        fprintf(stderr, "both fail %s on '%s': %u at %zu\n", operations[operation].name, message->name, result.number, result.place);
+        exit(1);
+    }
+}
+
+/* Fills a library's book, from an empty one on, by its own additions alone. */
+static void add_phrases(int library, struct message *message, size_t records)
+{
+    struct book_call c = {BOOK_BYTES, 0, 0};
+    uint32_t seed = 1;
+    memset(books[library], FILLER, BOOK_BYTES);
+    for (size_t i = 0; i < records; i++) {
+        fill_phrase(message, &seed);
+        c.phrase = number_of(i);
+        c.used = book_libraries[library](ADD, &c, message, books[library]).used;
+    }
+}
+
+/* Ends the program unless each library makes the case's book so. */
+static void compare_additions(struct message *message, const struct book_case *c)
+{
+    make_book(message, c);
+    for (int i = 0; i < 2; i++) {
+        add_phrases(i, message, c->records);
+        if (memcmp(books[i], book_before, BOOK_BYTES) != 0) {
+            fprintf(stderr, "%s makes another book of %zu phrases\n", library_names[i], c->records);
+            exit(1);
+        }
+    }
+}
+
+/* All calls, with this buffer and used count instead of their own. */
+static void compare_calls(const struct message *message, size_t size, size_t used, size_t bytes)
+{
+    for (int operation = FIND_FIRST; operation <= ADD_NOT_ABOVE; operation++) {
+        struct book_call c = {size, used, message->calls[operation].phrase};
+        compare_call(message, (enum operation)operation, &c, bytes);
+    }
+}
+
+/* A small book with each used count, in each buffer, with a used count above each, and with each byte damaged, also to equal numbers. */
+static void compare_books(struct message *message)
+{
+    static const struct book_case small = {"book 30", 30, FOR_BOOKS};
+    static const int damages[] = {1, -1, NUMBER_STEP, -NUMBER_STEP};
+    make_book(message, &small);
+    size_t used = message->calls[ADD].used, bytes = used + RECORD_BYTES;
+    for (size_t n = 0; n < bytes; n++) {
+        uint8_t whole = book_before[n];
+        compare_calls(message, bytes, n, bytes);
+        compare_calls(message, n, used, bytes);
+        compare_calls(message, n, bytes, bytes);
+        for (int i = 0; i < 4; i++) {
+            book_before[n] = (uint8_t)(whole + damages[i]);
+            compare_calls(message, bytes, used, bytes);
+        }
+        book_before[n] = whole;
+    }
+}
+
 static double now_ns(void)
 {
     struct timespec t;
@@ -531,15 +768,25 @@ static double now_ns(void)
 
 static run_function *run_of(int library, const struct message *message)
 {
+    if (message->uses & FOR_LOOKUP)
+        return find_libraries[library];
+    if (message->uses & FOR_ADDITION)
+        return add_libraries[library];
     return message->uses & FOR_LEVELS ? level_libraries[library] : libraries[library];
+}
+
+static uint8_t *output_of(int library, const struct message *message)
+{
+    return message->uses & FOR_BOOKS ? books[library] : outputs[library];
 }
 
 static double time_calls(int library, enum operation operation, const struct message *message, long calls)
 {
     run_function *run = run_of(library, message);
+    uint8_t *out = output_of(library, message);
     double start = now_ns();
     for (long i = 0; i < calls; i++)
-        run(operation, message, outputs[library]);
+        run(operation, message, out);
     return (now_ns() - start) / (double)calls;
 }
 
@@ -571,9 +818,10 @@ static void count_case(const struct message *message, enum operation operation)
     char label[128];
     for (int i = 0; i < 2; i++) {
         run_function *run = run_of(i, message);
-        run(operation, message, outputs[i]);
+        uint8_t *out = output_of(i, message);
+        run(operation, message, out);
         CALLGRIND_TOGGLE_COLLECT;
-        run(operation, message, outputs[i]);
+        run(operation, message, out);
         CALLGRIND_TOGGLE_COLLECT;
         snprintf(label, sizeof label, "%s\t%zu\t%s\t%s", message->name, message->units, operations[operation].name, library_names[i]);
         CALLGRIND_DUMP_STATS_AT(label);
@@ -582,7 +830,9 @@ static void count_case(const struct message *message, enum operation operation)
 
 static void measure(const struct message *message, enum operation operation, int timing)
 {
-    if (timing && !(message->uses & FOR_LEVELS))
+    if (timing && message->uses & FOR_BOOKS)
+        compare_book(message, operation);
+    else if (timing && !(message->uses & FOR_LEVELS))
         compare(message, operation);
     if (!operations[operation].measured)
         return;
@@ -617,6 +867,14 @@ int main(int argc, char **argv)
         compare_levels();
     for (size_t i = 0; i < sizeof level_cases / sizeof level_cases[0]; i++) {
         make_levels(&message, &level_cases[i]);
+        measure_all(&message, timing);
+    }
+    if (timing)
+        compare_books(&message);
+    for (size_t i = 0; i < sizeof book_cases / sizeof book_cases[0]; i++) {
+        if (timing)
+            compare_additions(&message, &book_cases[i]);
+        make_book(&message, &book_cases[i]);
         measure_all(&message, timing);
     }
     return 0;

@@ -6,6 +6,7 @@ use std::thread;
 use std::time::Duration;
 
 use crate::answers::{Answer, Whole};
+use crate::book_trial::Lent;
 use crate::demand3::Pair;
 use crate::program::{Program, GAUGE, GOVORUN, SPEAK};
 use crate::refusals::Refusal;
@@ -56,6 +57,29 @@ pub fn join(msg: &[u8], cuts: &[usize], cap: usize) -> Result<Joined, Refusal> {
 /// The speaker of levels with an output of `cap` bytes.
 pub fn speak_level(level: i32, cap: usize) -> Result<Vec<u8>, Refusal> {
     with_output(Operation::SpeakLevel(level), &[], cap).map(|(words, _)| words)
+}
+
+/// The lookup in a book: the tape of a phrase, if there is one.
+pub fn book_find(buffer: &[u8], used: usize, phrase: u16) -> Result<Option<Vec<u8>>, Refusal> {
+    let tried = Lent::new(buffer, used).lookup(phrase).in_place(buffer);
+    let found = tried.unwrap_or_else(|difference| panic!("{difference}"));
+    let tape = || buffer[found.start..][..found.length].to_vec();
+    match Refusal::given(found.number, found.place) {
+        Some(refusal) => Err(refusal),
+        None => Ok((found.found == 1).then(tape)),
+    }
+}
+
+/// The addition to a book: the new used count.
+pub fn book_add(buffer: &mut [u8], used: usize, phrase: u16, msg: &[u8]) -> Result<usize, Refusal> {
+    let before = buffer.to_vec();
+    let lent = Lent::new(&before, used);
+    let tried = lent.addition(phrase, msg).in_place(msg, buffer);
+    let added = tried.unwrap_or_else(|difference| panic!("{difference}"));
+    match Refusal::given(added.number, added.place) {
+        Some(refusal) => Err(refusal),
+        None => Ok(added.used),
+    }
 }
 
 /// Transcriber and joiner with room enough, for the questions of demand 3.

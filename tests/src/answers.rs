@@ -35,9 +35,7 @@ impl Answer {
 
     /// The refusal, unless the message was accepted.
     pub fn refusal(self) -> Option<Refusal> {
-        let number = u8::try_from(self.number).expect("no number is above 14");
-        let place = self.place;
-        (number != 0).then_some(Refusal { number, place })
+        Refusal::given(self.number, self.place)
     }
 }
 

@@ -1,5 +1,7 @@
 //! What a fuzzer's bytes stand for: a list of cuts and a message, or a text in its place; the first
-//! bytes of that are levels, too. `fuzz/` has the target.
+//! bytes of that are levels, too, and all of them books. `fuzz/` of the project has the target.
+
+pub mod book;
 
 use crate::editing::edited;
 use crate::gen::Rng;
@@ -7,6 +9,7 @@ use crate::message::breaks;
 use crate::text::hex;
 use crate::trial::{self, Operation, Trial};
 use crate::{read_utf8, write_utf8};
+use book::Asked;
 
 /// How many bytes a cut that is written out takes.
 const WRITTEN: usize = 3;
@@ -53,7 +56,8 @@ impl<'a> Input<'a> {
 
     /// Tries all operations, reader and writer too, and says what is wrong with the library's answer.
     /// If the editor changes the message, or if it is a text in UTF-8, what it becomes is tried as
-    /// well, cut at every break; and if it is written, that is read back. Both levels are spoken.
+    /// well, cut at every break; and if it is written, that is read back. Both levels are spoken, and
+    /// both books asked.
     pub fn compare(&self, rng: &mut Rng) -> Result<(), String> {
         compare(rng, self.msg, &self.cuts)?;
         self.compare_made(rng, &edited(self.msg))?;
@@ -64,7 +68,9 @@ impl<'a> Input<'a> {
             compare_read(rng, &written, self.msg)?;
         }
         let mut levels = self.levels().map(Operation::SpeakLevel).into_iter();
-        levels.try_for_each(|level| trial::with_any_output(rng, level, &[]))
+        levels.try_for_each(|level| trial::with_any_output(rng, level, &[]))?;
+        let books = [Asked::as_it_comes(self.msg), Asked::made(self.msg)];
+        books.iter().try_for_each(|asked| asked.compare(rng))
     }
 
     /// Tries what the message becomes, if that is another.

@@ -1,6 +1,7 @@
-//! Random messages, texts, lists of cuts and numbers, the same ones for the same seed.
+//! Random messages, texts, lists of cuts, numbers and books, the same ones for the same seed.
 
 pub mod accepted;
+pub mod books;
 pub mod cuts;
 pub mod damaged;
 pub mod extreme;

@@ -1,18 +1,21 @@
-//! A second implementation of document 01 and of requests 1, 2, 4 and 5 of document 02, written
+//! A second implementation of document 01 and of requests 1, 2, 4, 5 and 6 of document 02, written
 //! from the papers for comparison. It says what each operation must answer; it is plain rather
 //! than fast.
 //!
 //! The modules follow the papers: letters, refusals, the five passes, codes, joints; then editing,
-//! UTF-8 and spoken levels. Beside them stand `gen` with the messages to try, `unit` and `program`
-//! with the library and the programs under test, and what holds them to each other: `trial`, and
-//! `agreed` for the tests.
+//! UTF-8, spoken levels and the book. Beside them stand `gen` with the messages to try, `unit`,
+//! `program` and `example` with the library and the programs under test, and what holds them to
+//! each other: `trial` and `book_trial`, and `agreed` for the tests.
 
 pub mod agreed;
 pub mod answers;
+pub mod book;
+pub mod book_trial;
 pub mod codes;
 pub mod demand3;
 pub mod editing;
 pub mod elision;
+pub mod example;
 pub mod fence;
 pub mod fuzz;
 pub mod gen;
@@ -21,6 +24,7 @@ pub mod joints;
 pub mod letters;
 pub mod message;
 pub mod palatalization;
+pub mod placed;
 pub mod program;
 pub mod refusals;
 pub mod spoken_levels;

@@ -17,6 +17,12 @@ impl Refusal {
     pub fn new(number: u8, place: usize) -> Self {
         Refusal { number, place }
     }
+
+    /// The refusal in an answer of the library's, unless its number is 0.
+    pub fn given(number: u32, place: usize) -> Option<Self> {
+        let number = u8::try_from(number).expect("no number is above 16");
+        (number != 0).then_some(Refusal { number, place })
+    }
 }
 
 /// The refusal that comes first in the paper's order, if any of rows 1 to 10 fits.

@@ -6,13 +6,11 @@ use crate::answers::{
     whole_write_utf8, Answer, Whole,
 };
 use crate::fence::{Fenced, Side};
-use crate::gen::{noise, Rng};
+use crate::gen::Rng;
+use crate::placed::Placed;
 use crate::spoken_levels::LONGEST;
 use crate::text::{hex, show};
 use crate::unit;
-
-/// How many bytes are watched on each side of the lent ones.
-const GUARD: usize = 64;
 
 /// Answers up to this length are tried with outputs of every length.
 const SHORT: usize = 12;
@@ -71,48 +69,6 @@ impl Operation<'_> {
             Operation::ReadUtf8 => told(msg, &String::from_utf8_lossy(msg)),
             _ => told(msg, &show(msg)),
         }
-    }
-}
-
-/// Bytes at any address, odd ones too, with random bytes on both sides.
-struct Placed {
-    memory: Vec<u8>,
-    start: usize,
-    length: usize,
-}
-
-impl Placed {
-    /// Room for so many bytes; they hold a random pattern.
-    fn room(rng: &mut Rng, length: usize) -> Self {
-        let start = GUARD + rng.below(16);
-        Placed {
-            memory: noise::bytes(rng, start + length + GUARD),
-            start,
-            length,
-        }
-    }
-
-    fn copy(rng: &mut Rng, content: &[u8]) -> Self {
-        let mut placed = Placed::room(rng, content.len());
-        placed.bytes_mut().copy_from_slice(content);
-        placed
-    }
-
-    fn bytes(&self) -> &[u8] {
-        &self.memory[self.start..][..self.length]
-    }
-
-    fn bytes_mut(&mut self) -> &mut [u8] {
-        &mut self.memory[self.start..][..self.length]
-    }
-
-    /// The memory, guards too, as it must be once the bytes are these.
-    fn memory_with(&self, content: &[u8]) -> Vec<u8> {
-        let (before, after) = (
-            &self.memory[..self.start],
-            &self.memory[self.start + self.length..],
-        );
-        [before, content, after].concat()
     }
 }
 
@@ -188,10 +144,7 @@ impl<'a> Trial<'a> {
         let (_, after) = lent(&self.whole, out.bytes());
         let memory = out.memory_with(&after);
         self.in_place(placed.bytes(), out.bytes_mut())?;
-        if out.memory != memory {
-            return Err(self.told(&told_memory(&out, &memory)));
-        }
-        Ok(())
+        out.is(&memory).map_err(|change| self.told(&change))
     }
 
     /// Tries the operation on this copy of the message and this output, and gives its answer.
@@ -221,13 +174,6 @@ impl<'a> Trial<'a> {
 /// A message or a text for a report.
 fn told(msg: &[u8], shown: &str) -> String {
     format!("{} bytes: {}\n{shown}", msg.len(), hex(msg))
-}
-
-fn told_memory(out: &Placed, expected: &[u8]) -> String {
-    let differs = |&index: &usize| out.memory[index] != expected[index];
-    let first = (0..expected.len()).find(differs).unwrap_or(0);
-    let index = first as isize - out.start as isize;
-    format!("changes the byte at {index} of an output of {}", out.length)
 }
 
 /// The operations on a message that write to an output.

@@ -1,6 +1,8 @@
 //! The library under test: the C interface of `include/govorun.h`, with slices in the place of
 //! pointers and lengths.
 
+use std::ops::Range;
+
 use crate::refusals::Refusal;
 
 /// The archive that is linked; `build.rs` finds it.
@@ -35,9 +37,29 @@ pub struct Text {
     pub length: usize,
 }
 
+/// `govorun_added` of the header.
+#[repr(C)]
+#[derive(Clone, Copy, Debug, PartialEq, Eq)]
+pub struct Added {
+    pub number: u32,
+    pub place: usize,
+    pub used: usize,
+}
+
+/// `govorun_found` of the header.
+#[repr(C)]
+#[derive(Clone, Copy, Debug, PartialEq, Eq)]
+pub struct Found {
+    pub number: u32,
+    pub place: usize,
+    pub found: u32,
+    pub start: usize,
+    pub length: usize,
+}
+
 /// The functions as the header declares them.
 pub mod raw {
-    use super::{Answer, Counts, Text};
+    use super::{Added, Answer, Counts, Found, Text};
 
     #[link(name = "capi", kind = "static")]
     extern "C" {
@@ -56,6 +78,15 @@ pub mod raw {
             cap: usize,
         ) -> Answer;
         pub fn govorun_speak_level(level: i32, out: *mut u8, cap: usize) -> Answer;
+        pub fn govorun_book_add(
+            book: *mut u8,
+            size: usize,
+            used: usize,
+            phrase: u16,
+            msg: *const u8,
+            len: usize,
+        ) -> Added;
+        pub fn govorun_book_find(book: *const u8, size: usize, used: usize, phrase: u16) -> Found;
     }
 }
 
@@ -102,6 +133,17 @@ pub fn speak_level(level: i32, out: &mut [u8]) -> Answer {
     unsafe { raw::govorun_speak_level(level, out.as_mut_ptr(), out.len()) }
 }
 
+pub fn book_add(book: &mut [u8], used: usize, phrase: u16, msg: &[u8]) -> Added {
+    let (start, size) = (book.as_mut_ptr(), book.len());
+    // SAFETY: as above.
+    unsafe { raw::govorun_book_add(start, size, used, phrase, msg.as_ptr(), msg.len()) }
+}
+
+pub fn book_find(book: &[u8], used: usize, phrase: u16) -> Found {
+    // SAFETY: as above.
+    unsafe { raw::govorun_book_find(book.as_ptr(), book.len(), used, phrase) }
+}
+
 /// An answer of the library, to be held beside the expected one.
 impl From<Answer> for crate::Answer {
     fn from(given: Answer) -> Self {
@@ -142,6 +184,42 @@ impl From<Result<crate::Counts, Refusal>> for Counts {
                 codes: 0,
                 names: 0,
             },
+        }
+    }
+}
+
+/// The expected answer of an addition in the header's types.
+impl From<Result<usize, Refusal>> for Added {
+    fn from(expected: Result<usize, Refusal>) -> Self {
+        match expected {
+            Ok(used) => Added {
+                number: 0,
+                place: 0,
+                used,
+            },
+            Err(refusal) => Added {
+                number: refusal.number.into(),
+                place: refusal.place,
+                used: 0,
+            },
+        }
+    }
+}
+
+/// The expected answer of a lookup in the header's types.
+impl From<Result<Option<Range<usize>>, Refusal>> for Found {
+    fn from(expected: Result<Option<Range<usize>>, Refusal>) -> Self {
+        let (number, place) = match expected {
+            Ok(_) => (0, 0),
+            Err(refusal) => (refusal.number.into(), refusal.place),
+        };
+        let tape = expected.ok().flatten();
+        Found {
+            number,
+            place,
+            found: tape.is_some().into(),
+            start: tape.as_ref().map_or(0, |tape| tape.start),
+            length: tape.as_ref().map_or(0, |tape| tape.len()),
         }
     }
 }

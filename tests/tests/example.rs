@@ -9,6 +9,7 @@ use std::sync::OnceLock;
 
 use govorun_tests::answers::print_of;
 use govorun_tests::editing::edited;
+use govorun_tests::example::{build, under_valgrind, SET_UP};
 use govorun_tests::gen::damaged::{Spot, SPOTS};
 use govorun_tests::gen::noise::{bytes, string};
 use govorun_tests::gen::numbers::{level, outside, NO_NUMBERS};
@@ -17,30 +18,13 @@ use govorun_tests::gen::utf8::{taken, untaken};
 use govorun_tests::gen::{damaged, message, message_of_any_length, punctuated, Rng};
 use govorun_tests::input::{directory, impatient};
 use govorun_tests::spoken_levels::spoken_number;
-use govorun_tests::unit::ARCHIVE;
 use govorun_tests::utf8::{read, written};
 use govorun_tests::{tape, write_utf8, Refusal};
-
-/// What to do about a missing tool.
-const SET_UP: &str = "tests/setup installs what is missing";
 
 /// The daemon, built once for all tests here.
 fn daemon() -> &'static Path {
     static DAEMON: OnceLock<PathBuf> = OnceLock::new();
-    DAEMON.get_or_init(build)
-}
-
-fn build() -> PathBuf {
-    let root = Path::new(env!("CARGO_MANIFEST_DIR")).join("..");
-    let daemon = Path::new(env!("CARGO_TARGET_TMPDIR")).join("daemon");
-    let built = Command::new("gcc")
-        .args(["-std=c11", "-Wall", "-Wextra", "-Werror", "-O2", "-g", "-I"])
-        .args([root.join("include"), root.join("examples/daemon.c")])
-        .args([Path::new(ARCHIVE), Path::new("-o"), &daemon])
-        .status()
-        .unwrap_or_else(|error| panic!("gcc: {error}; {SET_UP}"));
-    assert!(built.success(), "the daemon builds");
-    daemon
+    DAEMON.get_or_init(|| build("daemon", env!("CARGO_TARGET_TMPDIR")))
 }
 
 /// What a command prints for its input, and that it ends well.
@@ -261,10 +245,5 @@ fn daemon_without_memory() {
 
 #[test]
 fn daemon_under_valgrind() {
-    let mut command = Command::new("valgrind");
-    command
-        .args(["--tool=memcheck", "--quiet", "--error-exitcode=9"])
-        .args(["--leak-check=full", "--errors-for-leak-kinds=all"])
-        .arg(daemon());
-    answers_as_expected(&mut command, &lines());
+    answers_as_expected(&mut under_valgrind(daemon()), &lines());
 }

@@ -1,10 +1,13 @@
 //! A short run of the fuzzer's search for a difference between the library and the paper, and what
 //! its inputs stand for. The environment variable GOVORUN_FUZZ_SECONDS makes the run longer.
 
+use std::collections::BTreeSet;
 use std::env;
 use std::process::Command;
 
+use govorun_tests::book::record;
 use govorun_tests::cp1251;
+use govorun_tests::fuzz::book::Asked;
 use govorun_tests::fuzz::Input;
 
 #[test]
@@ -50,6 +53,56 @@ fn levels_by_the_first_bytes() {
     assert_eq!(levels(b""), [0; 2]);
     assert_eq!(levels(&i32::MIN.to_le_bytes()), [i32::MIN, -1_448]);
     assert_eq!(levels(&20_205_i32.to_le_bytes()), [20_205, 5]);
+}
+
+fn asked(buffer: Vec<u8>, used: usize, phrase: u16, msg: &[u8]) -> Asked {
+    Asked {
+        buffer,
+        used,
+        phrase,
+        msg: msg.to_vec(),
+    }
+}
+
+#[test]
+fn books_as_they_come() {
+    let given = Asked::as_it_comes;
+    let five = |used| asked(b"\x52\x9E\x05\x00\x00".to_vec(), used, 0x0305, b"msg");
+    let buffer_and_message = b"\x05\x00\x52\x9E\x05\x00\x00msg";
+    let with_used = |used: &[u8; 3]| given(&[b"\x05\x03", &used[..], buffer_and_message].concat());
+    assert_eq!(with_used(&[6, 0, 0]), five(6));
+    assert_eq!(with_used(&[0xFF, 0xFF, 0]), five(usize::MAX));
+    assert_eq!(with_used(&[3, 0, 32]), five((1 << 32) + 3));
+    let longer = given(b"\x00\x00\x02\x00\x00\xFF\xFFabc");
+    assert_eq!(longer, asked(b"abc".to_vec(), 2, 0, b""));
+    assert_eq!(given(b"short"), asked(Vec::new(), 0, 0, b""));
+}
+
+#[test]
+fn books_of_phrases() {
+    let two = [record(5, &[7]), record(6, &[])].concat();
+    let free = |count| vec![0x52; count];
+    let given = Asked::made(b"\x03\x02\x05\x01\x07\x01\x00\xFF\x00msg");
+    assert_eq!(given, asked([&two[..], &free(2)].concat(), 13, 9, b"msg"));
+    let given = Asked::made(b"\xFF\x00\x05\x01\x07\x01\x00\x01");
+    assert_eq!(given, asked(two, 13, 261, b"\x01"));
+    let last = Asked::made(b"\x01\x00\xEF\x00\xEF\x00\xEF\x00");
+    assert_eq!(last.buffer[14..16], [0xFF; 2]);
+    assert_eq!(last.phrase, 0);
+    let roomy = Asked::made(b"\x00\xFF");
+    assert_eq!(roomy, asked(free(10_240), 0, 0, b""));
+    assert_eq!(Asked::made(b"\x01"), asked(Vec::new(), 0, 0, b""));
+}
+
+/// Each kind of wrong phrase makes another book.
+#[test]
+fn books_with_a_wrong_phrase() {
+    let made = |how| Asked::made(&[0, 0, how, 2, 7, 8]).buffer;
+    let sound = record(1, &[7, 8]);
+    assert_eq!(made(1), sound);
+    let wrong: BTreeSet<Vec<u8>> = (0xF0..=0xFB).map(made).collect();
+    assert_eq!(wrong.len(), 12);
+    assert!(!wrong.contains(&sound));
 }
 
 #[test]

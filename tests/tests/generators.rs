@@ -1,8 +1,10 @@
 //! The generators do what they promise: their accepted messages are accepted, their damaged ones
-//! refused as made, their lists of cuts good or bad as asked, their texts in UTF-8 read or refused.
-//! This tries the check and the reader from both sides.
+//! refused as made, their lists of cuts good or bad as asked, their texts in UTF-8 read or refused,
+//! their books sound or refused as damaged. This tries the check, the reader and the book from both
+//! sides.
 
-use govorun_tests::agreed::{check, join, read_utf8, tape};
+use govorun_tests::agreed::{book_add, book_find, check, join, read_utf8, tape};
+use govorun_tests::gen::books::{self, laid, phrases, DAMAGES};
 use govorun_tests::gen::cuts::BAD_CUTS;
 use govorun_tests::gen::damaged::{Spot, SPOTS};
 use govorun_tests::gen::lexicon;
@@ -167,5 +169,41 @@ fn wrong_sequences_are_refused_at_their_first_byte() {
     for sequence in sequences {
         let refused = read_utf8(&sequence, usize::MAX);
         assert_eq!(refused, Err(Refusal::new(13, 0)), "{}", hex(&sequence));
+    }
+}
+
+#[test]
+fn books_of_phrases_are_sound() {
+    let mut rng = Rng::for_test(15);
+    for _ in 0..3000 {
+        let most = rng.between(1, 9);
+        let phrases = phrases(&mut rng, most);
+        let book = laid(&phrases);
+        for (number, tape) in phrases {
+            assert_eq!(book_find(&book, book.len(), number), Ok(Some(tape)));
+        }
+    }
+}
+
+#[test]
+fn damaged_books_are_refused_as_made() {
+    let mut rng = Rng::for_test(16);
+    let msg = cp1251("а");
+    for damage in DAMAGES {
+        let mut count = 0;
+        for _ in 0..3000 {
+            let most = rng.between(1, 6);
+            let phrases = phrases(&mut rng, most);
+            let Some((mut book, refusal)) = books::damaged(&mut rng, &phrases, damage) else {
+                continue;
+            };
+            let used = book.len();
+            for (number, _) in phrases {
+                assert_eq!(book_find(&book, used, number), Err(refusal), "{damage:?}");
+            }
+            assert_eq!(book_add(&mut book, used, u16::MAX, &msg), Err(refusal));
+            count += 1;
+        }
+        assert!(count >= 1000, "{damage:?} {count}");
     }
 }

@@ -283,12 +283,15 @@ fn lengths_above_32_bits() {
     ] {
         assert_eq!((answer.number, answer.place, out), (2, 0, [9; 8]));
     }
+    let added = unit::book_add(&mut out, 0, 0, long);
+    assert_eq!((added.number, added.place, out), (2, 0, [9; 8]));
     let lent = memory.last(HUGE);
     assert_eq!(unit::name(&msg, lent).length, 2);
     assert_eq!(unit::transcribe(&msg, lent).length, 3);
     assert_eq!(unit::join(&msg, &[1], lent).length, 3);
     assert_eq!(unit::write_utf8(&msg, lent).length, 5);
     assert_eq!(unit::speak_level(-4_989, lent).length, 54);
+    assert_eq!(unit::book_add(lent, 0, 0, &msg).used, 9);
     let mut zeros = Fenced::new(HUGE * size_of::<usize>());
     let answer = unit::join(&msg, as_places(zeros.whole()), &mut out);
     assert_eq!((answer.number, answer.place, out), (12, 0, [9; 8]));
@@ -303,10 +306,24 @@ fn declared(source: &str, beginning: &str) -> BTreeSet<String> {
     names.map(str::to_string).collect()
 }
 
+/// The functions that the header declares.
+fn calls() -> BTreeSet<String> {
+    declared(include_str!("../../include/govorun.h"), "govorun_")
+}
+
 #[test]
 fn every_function_of_the_header_is_called() {
-    let header = declared(include_str!("../../include/govorun.h"), "govorun_");
     let called = declared(include_str!("../src/unit.rs"), "pub fn govorun_");
-    assert_eq!(header, called);
-    assert!(header.contains("govorun_speak_level"));
+    assert_eq!(calls(), called);
+    assert!(called.contains("govorun_book_find"));
+}
+
+#[test]
+fn every_function_of_the_header_is_named_in_the_readme() {
+    let readme = include_str!("../../README.md");
+    assert_eq!(calls().len(), 10);
+    assert!(readme.contains("`include/govorun.h` has ten calls"));
+    for call in calls() {
+        assert!(readme.contains(&format!("`{call}`")), "{call}");
+    }
 }

@@ -1,7 +1,7 @@
 //! Parts of the paper derived once more, in another manner, and held to the library and the second
 //! implementation over all short strings of small alphabets and over random ones.
 
-use govorun_tests::agreed::{check, edit, names, read_utf8, tape};
+use govorun_tests::agreed::{book_find, check, edit, names, read_utf8, tape};
 use govorun_tests::gen::noise::{bytes, every_string, string};
 use govorun_tests::gen::utf8::{taken, TAKEN};
 use govorun_tests::gen::{message_of_any_length, Rng};
@@ -201,6 +201,23 @@ fn read_by_taking_off(text: &[u8]) -> Result<Vec<u8>, Refusal> {
     }
 }
 
+/// What a book is refused with, by taking a record off its start as long as there is one; before it
+/// stood so many bytes and, unless it is the first, a record with this number.
+fn refusal_by_taking_off(book: &[u8], place: usize, before: Option<u16>) -> Option<Refusal> {
+    match *book {
+        [] => None,
+        [0x52, 0x9E, low, high, length, 0, ref rest @ ..] if rest.len() >= length.into() => {
+            let number = 256 * u16::from(high) + u16::from(low);
+            if before >= Some(number) {
+                return Some(Refusal::new(16, place));
+            }
+            let length = usize::from(length);
+            refusal_by_taking_off(&rest[length..], place + 6 + length, Some(number))
+        }
+        _ => Some(Refusal::new(15, place)),
+    }
+}
+
 #[test]
 fn refusals_agree_with_the_automaton() {
     every_string(&cp1251("аябйъь* 7"), 6, &mut agrees_with_automaton);
@@ -293,5 +310,30 @@ fn reading_agrees_with_taking_off() {
         let broken = bytes(&mut rng, broken);
         let at = rng.below(text.len() + 1);
         agrees(&[&text[..at], &broken, &text[at..]].concat());
+    }
+}
+
+/// Short books, in which no tape is so long that its length needs the second byte; alone, and
+/// behind a record.
+#[test]
+fn books_agree_with_taking_off() {
+    let records = [
+        &b""[..],
+        b"\x52\x9E\x00\x00\x00\x00",
+        b"\x52\x9E\x01\x00\x01\x00\x52",
+    ];
+    for before in records {
+        for alphabet in [&b"\x52\x9E\x00\x01"[..], b"\x52\x9E\x00"] {
+            every_string(alphabet, 8, &mut |rest| {
+                let book = [before, rest].concat();
+                let refused = book_find(&book, book.len(), 1).err();
+                assert_eq!(
+                    refused,
+                    refusal_by_taking_off(&book, 0, None),
+                    "{}",
+                    hex(&book)
+                );
+            });
+        }
     }
 }

@@ -3,15 +3,17 @@
 
 use std::arch::asm;
 
+use govorun_tests::book_trial::Lent;
 use govorun_tests::fence::Fenced;
+use govorun_tests::gen::books::{laid, muddle, phrases};
 use govorun_tests::gen::damaged::SPOTS;
 use govorun_tests::gen::utf8::{taken, untaken};
 use govorun_tests::gen::{damaged, extreme_messages, noise, punctuated, Rng};
 use govorun_tests::message::breaks;
 use govorun_tests::spoken_levels::LONGEST;
-use govorun_tests::unit::{raw, Text};
+use govorun_tests::unit::{raw, Added, Found, Text};
 use govorun_tests::utf8::written;
-use govorun_tests::{check, speak_level};
+use govorun_tests::{book, check, speak_level, Refusal};
 
 /// The most that a call may take, in bytes, its return address with it, as the header says it.
 fn bound() -> usize {
@@ -21,6 +23,9 @@ fn bound() -> usize {
     let (number, _) = said.expect("the header names a bound");
     number.replace(',', "").parse().expect("a number of bytes")
 }
+
+/// How many bytes a caller puts on the stack: an argument, and what keeps the stack aligned.
+const ABOVE: usize = 16;
 
 /// A painted stack.
 struct Stack {
@@ -38,29 +43,30 @@ impl Stack {
     /// Calls a function of the C interface with these arguments and gives the number of its answer
     /// and how many bytes of stack it touched.
     fn call(&mut self, function: *const (), arguments: &[usize]) -> (u32, usize) {
-        self.memory.whole().copy_from_slice(&self.paint);
-        let top = self.memory.whole().as_mut_ptr_range().end;
-        let mut six = [0; 6];
-        six[..arguments.len()].copy_from_slice(arguments);
+        let mut seven = [0; 7];
+        seven[..arguments.len()].copy_from_slice(arguments);
+        let [six @ .., seventh] = seven;
+        let whole = self.memory.whole();
+        whole.copy_from_slice(&self.paint);
+        let (stack, above) = whole.split_at_mut(whole.len() - ABOVE);
+        above[..size_of::<usize>()].copy_from_slice(&seventh.to_ne_bytes());
+        let top = stack.as_mut_ptr_range().end;
         // SAFETY: the stack is ours, and the caller hands the arguments that the function takes.
         let number = unsafe { call_on(top, function, six) };
         (number, self.touched())
     }
 
     fn touched(&mut self) -> usize {
-        let paint = &self.paint;
-        let changed = self
-            .memory
-            .whole()
-            .iter()
-            .zip(paint)
-            .position(|(a, b)| a != b);
-        paint.len() - changed.unwrap_or(paint.len())
+        let whole = self.memory.whole();
+        let stack = &whole[..whole.len() - ABOVE];
+        let changed = stack.iter().zip(&self.paint).position(|(a, b)| a != b);
+        stack.len() - changed.unwrap_or(stack.len())
     }
 }
 
-/// Calls a function of up to six whole numbers on another stack. All answers of the interface but
-/// editor's and reader's come back in two registers, the number in the lower half of the first.
+/// Calls a function of up to seven whole numbers on another stack, above which the seventh stands.
+/// All answers of the interface but editor's, reader's and the book's come back in two registers,
+/// the number in the lower half of the first.
 ///
 /// # Safety
 /// The function takes these arguments, and `top` is the end of a long enough stack.
@@ -98,6 +104,8 @@ struct Deepest {
     transcribe: usize,
     join: usize,
     speak_level: usize,
+    book_add: usize,
+    book_find: usize,
 }
 
 impl Deepest {
@@ -158,12 +166,38 @@ impl Deepest {
         }
     }
 
+    /// Calls lookup and addition. The place for an answer is the first argument, as for a text; the
+    /// number of the phrase takes the lower half of its register, and nothing is said of the upper.
+    fn measure_book(&mut self, stack: &mut Stack, lent: Lent, phrase: u16, msg: &[u8]) {
+        let mut buffer = lent.buffer.to_vec();
+        let no_answer = Refusal::new(u8::MAX, usize::MAX);
+        let (mut found, mut added) = (Found::from(Err(no_answer)), Added::from(Err(no_answer)));
+        let register = usize::from(phrase) | 0x5A5A_5A5A << 32;
+        let book = [
+            buffer.as_mut_ptr() as usize,
+            buffer.len(),
+            lent.used,
+            register,
+        ];
+        let message = [msg.as_ptr() as usize, msg.len()];
+        let arguments = [&[&raw mut found as usize][..], &book].concat();
+        let (_, touched) = stack.call(raw::govorun_book_find as _, &arguments);
+        self.book_find = touched.max(self.book_find);
+        let arguments = [&[&raw mut added as usize][..], &book, &message].concat();
+        let (_, touched) = stack.call(raw::govorun_book_add as _, &arguments);
+        self.book_add = touched.max(self.book_add);
+        let mut after = lent.buffer.to_vec();
+        assert_eq!(found, book::find(lent.buffer, lent.used, phrase).into());
+        assert_eq!(added, book::add(&mut after, lent.used, phrase, msg).into());
+        assert_eq!(buffer, after);
+    }
+
     fn at_most(&self, bound: usize) {
         println!("bytes of stack: {self:?}");
         let messages = [self.check, self.name, self.transcribe, self.join];
         let texts = [self.edit, self.read_utf8, self.write_utf8];
-        let all = messages.into_iter().chain(texts).chain([self.speak_level]);
-        for used in all {
+        let others = [self.speak_level, self.book_add, self.book_find];
+        for used in messages.into_iter().chain(texts).chain(others) {
             assert!(used <= bound, "{used} bytes of stack, over {bound}");
         }
     }
@@ -262,6 +296,47 @@ fn levels() {
             deepest.measure_level(&mut stack, level, upper, LONGEST);
             deepest.measure_level(&mut stack, level, upper, 0);
         }
+    }
+    deepest.at_most(bound());
+}
+
+/// The longest messages and refused ones, added to an empty book and to others, sound and damaged,
+/// with room and without.
+#[test]
+fn books() {
+    let mut rng = Rng::for_test(75);
+    let mut stack = Stack::new(&mut rng);
+    let mut deepest = Deepest::default();
+    let mut messages = extreme_messages(&mut rng, 20);
+    messages.extend((1..=10).map(|number| damaged(&mut rng, number, SPOTS[1]).0));
+    for msg in messages {
+        let mut muddled = laid(&phrases(&mut rng, 50));
+        muddle(&mut rng, &mut muddled);
+        for book in [Vec::new(), laid(&phrases(&mut rng, 50)), muddled] {
+            for free in [2 * 4096 + 6, 0] {
+                let buffer = [&book[..], &vec![0; free]].concat();
+                let lent = Lent::new(&buffer, book.len());
+                for phrase in [u16::MAX, 300] {
+                    deepest.measure_book(&mut stack, lent, phrase, &msg);
+                }
+            }
+        }
+    }
+    deepest.at_most(bound());
+}
+
+/// As many records as there are numbers take no more stack than a few.
+#[test]
+fn a_book_of_all_numbers() {
+    let mut rng = Rng::for_test(76);
+    let mut stack = Stack::new(&mut rng);
+    let mut deepest = Deepest::default();
+    let all: Vec<_> = (0..u16::MAX).map(|number| (number, vec![7])).collect();
+    let book = laid(&all);
+    let buffer = [&book[..], &[0; 7]].concat();
+    for phrase in [0, 65_534, 65_535] {
+        let lent = Lent::new(&buffer, book.len());
+        deepest.measure_book(&mut stack, lent, phrase, b"\xE0");
     }
     deepest.at_most(bound());
 }

@@ -1,11 +1,12 @@
 //! Holds the tables of examples in docs/CODES.md and docs/SPECIFICATION.md to the unit: each
-//! message has the tape, the names and the live cuts that its row says, and each level its words. So
-//! are the words of docs/LEVELS.md held to the levels that the unit speaks, and to the proved
-//! definition.
+//! message has the tape, the names, the live cuts and the record that its row says, and each level
+//! its words. So are the words of docs/LEVELS.md held to the levels that the unit speaks, and to the proved
+//! definition. README.md and the header must have a row for each refusal.
 
+use std::collections::BTreeSet;
 use std::fs;
 
-use govorun_tests::agreed::{join, names, speak_level, tape};
+use govorun_tests::agreed::{book_add, join, names, speak_level, tape};
 use govorun_tests::codes::NAMES;
 use govorun_tests::{cp1251, spell};
 
@@ -99,6 +100,42 @@ fn every_worked_level_has_its_words() {
         let words = speak_level(level, usize::MAX).expect("a level of the range");
         assert_eq!(words, cp1251(&row[1]), "{row:?}");
     }
+}
+
+#[test]
+fn every_worked_record_is_what_is_added() {
+    let rows = rows(
+        "SPECIFICATION.md",
+        "| message | number | record, hexadecimal |",
+    );
+    assert_eq!(rows.len(), 2);
+    for row in rows {
+        let bytes = row[2].split(' ').map(|byte| u8::from_str_radix(byte, 16));
+        let record: Vec<u8> = bytes.map(|byte| byte.expect("two digits")).collect();
+        let mut buffer = vec![0xAA; record.len()];
+        let phrase = row[1].parse().expect("a number");
+        let added = book_add(&mut buffer, 0, phrase, &cp1251(&row[0]));
+        assert_eq!(added, Ok(record.len()), "{row:?}");
+        assert_eq!(buffer, record, "{row:?}");
+    }
+}
+
+/// The numbers that begin the rows of a list in a comment in C, two gaps behind them.
+fn numbers_of_rows(comments: &str) -> BTreeSet<usize> {
+    let rows = comments.lines().filter_map(|line| {
+        let row = line.trim_start().strip_prefix('*')?.trim_start();
+        row.split_once("  ")?.0.parse().ok()
+    });
+    rows.collect()
+}
+
+#[test]
+fn every_refusal_has_a_row() {
+    let rows = rows("../README.md", "| No. | what | place |");
+    let listed: Vec<usize> = rows.iter().flat_map(|row| numbers(&row[0])).collect();
+    assert_eq!(listed, (1..=16).collect::<Vec<_>>());
+    let header = numbers_of_rows(&file("include/govorun.h"));
+    assert_eq!(header, (1..=16).collect());
 }
 
 /// A word, with the number that says it, if one does.

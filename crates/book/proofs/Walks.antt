@@ -1,7 +1,7 @@
 -- The walk over a book, place by place: what is read at a place of the bytes is what stands at the start of the bytes from there on.
-use Rattle.laws.proofs.Kit.{ℕ, zero, suc, _+_, _-_, _*_, _<_, _≤_, _≡_, refl, sym, ap, _∙_, Bool, true, false, cond, _&&_, and-true, and-false, ⊎-elim, List, [], _∷_, add-one, arith, eqb, leb, length, take, drop, getD, getD-drop, length-drop, length-take-le, take-all, drop-of-length-le, drop-drop, le-leb, lt-leb, eqb-true, eqb-false, ne-eqb, eq-eqb}
-use Rattle.spec.specs.Book.{Phrase, recordOf, headSize, recordMark, pairAt, numberIn, lengthIn, spanIn, phraseIn, hasRecordMark, isWhole, isRecord, row15, row16, bookIn, Reading, holds, unsound, _then_, readFrom, readBook, Search, none, entry, search, startOf, placed, locateAnswer, leastAfter, afterBook, RisingFrom}
-use Rattle.spec.specs.{Utf8.same, Refusals.refusal, declared.Refusal.Refusal, declared.Located.Located, declared.Located.the-variants.At, declared.Located.the-variants.Missing, declared.Answer.Answer, declared.Answer.the-variants.Refused}
+use Rattle.laws.proofs.Kit.{ℕ, suc, _+_, _-_, _*_, _<_, _≤_, _≡_, refl, sym, ap, _∙_, true, false, cond, _&&_, and-true, List, [], _∷_, add-one, arith, eqb, leb, length, drop, getD, getD-drop, length-drop, length-take-le, take-all, drop-of-length-le, drop-drop, le-leb, lt-leb, eqb-true, eqb-false, ne-eqb, eq-eqb}
+use Rattle.spec.specs.Book.{Phrase, recordOf, headSize, recordMark, pairAt, numberIn, lengthIn, spanIn, phraseIn, hasRecordMark, isWhole, isRecord, row15, row16, bookIn, Reading, holds, unsound, _then_, readFrom, readBook, search, startOf, placed, locateAnswer, leastAfter, afterBook, RisingFrom}
+use Rattle.spec.specs.{Utf8.same, Refusals.refusal, declared.Refusal.Refusal, declared.Answer.Answer, declared.Answer.the-variants.Refused}
 use Rattle.spec.specs.declared.Located.the-variants as located
 use Rattle.laws.proofs.{Classes.either, Classes.refuted, Book.Stands, Book.record-stands, Book.stands-15, Book.read-15, Book.read-16, Book.read-record, Book.Bytes, Book.Judged, Book.isSound, Book.isRefused, Book.judge, Book.record-size}
 use Rattle.book.specs.Walking.{EndOf, walkedOf, noted, toldBy}

@@ -1,15 +1,14 @@
 -- What the walk over a book knows at a place. These are not the paper's words: `proofs/` shows that they agree with them.
 -- Assumes nothing: these are definitions.
-use Prim.Native.Nat.{ℕ, suc, _+_, _-_, _<_, _≤_}
+use Prim.Native.Nat.{ℕ, _+_, _<_, _≤_}
 use mathlib.Core.Path.{_≡_}
 use mathlib.Core.Bool.{cond}
 use mathlib.Core.List.{List}
 use lib.Dec.{eqb}
 use lib.ListN.{length, take}
-use Rattle.spec.specs.Book.{Phrase, headSize, Reading, holds, unsound, bookIn, search, startOf, placed, leastAfter}
+use Rattle.spec.specs.Book.{headSize, Reading, holds, unsound, bookIn, search, startOf, placed, leastAfter}
 use Rattle.spec.specs.Tape.{tape}
 use Rattle.message.specs.Places.{Steady}
-use Rattle.spec.specs.declared.Located.{Located}
 use Rattle.spec.specs.declared.Located.the-variants.{At, Missing}
 use Rattle.book.specs.declared.Contents.{Contents}
 use Rattle.book.specs.declared.Seen.{Seen}
@@ -47,9 +46,3 @@ pub record RecordDue (m out : List ℕ) (i n size : ℕ) : Type 0 where
   pub few : size < 65536
   pub number : n < 65536
   pub room : i + headSize + size ≤ length out
-
--- a part of some bytes in memory: in the same block, and within their bounds
-pub record PartOf {Block : Type 0} (part : Block × ℕ) (size : ℕ) (whole : Block × ℕ) (room : ℕ) : Type 0 where
-  pub block : part .0 ≡ whole .0
-  pub first : whole .1 ≤ part .1
-  pub last : part .1 + size ≤ whole .1 + room

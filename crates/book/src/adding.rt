@@ -41,8 +41,7 @@ fn write_record(m: &[u8], out: &mut [u8], i: usize, number: usize, n: usize) -> 
     requires { ⌜ RecordDue (now m) (now out) i number n ⌝ }
     ensures { λ r. ⌜ Put (recordOf (phraseOf number (now (m .entry)))) (now (out .entry)) (now (out .exit)) r i ⌝ }
 {
-    let end = i + records::HEAD_SIZE + n;
-    put_head(out, i, number, n);
+    let end = put_head(out, i, number, n) + n;
     let t = class_table();
     let s = sound_table();
     write_tape(m, out, end, &t, &s);

@@ -1,8 +1,6 @@
 // Lookups (paper 02, request 6).
 ghost use mathlib.Core.Path.{_≡_};
-ghost use lib.ListN.{length};
-ghost use Rattle.spec.specs.Book.{FindPromise, LocatePromise};
-ghost use Rattle.book.specs.Walking.{PartOf};
+ghost use Rattle.spec.specs.Book.{readBook, bookIn, locateAnswer, standsAfter, FindPromise, LocatePromise};
 use crate::Walked;
 use crate::reading::book_end;
 use crate::reading::walk;
@@ -23,7 +21,7 @@ pub fn locate(buffer: &[u8], used: usize, wanted: u16) -> Located
 // Hands back the tape's own bytes, a part of the buffer, in the place that is lent for it; where there is none to hand back the place keeps what it had.
 pub fn find<'a>(buffer: &'a [u8], used: usize, wanted: u16, tape: &mut &'a [u8]) -> Found
     ensures { λ r. ⌜ FindPromise (now (buffer .entry)) used wanted (now (now (tape .entry))) (now (now (tape .exit))) r ⌝ }
-    ensures { λ r. ⌜ (r ≡ Found.Tape → PartOf (now (tape .exit) .ptr) (length (now (now (tape .exit)))) (buffer .entry .ptr) (length (now (buffer .entry)))) ⌝ }
+    ensures { λ _. ⌜ now (tape .exit) .ptr ≡ standsAfter (locateAnswer (readBook (bookIn (now (buffer .entry)) used)) wanted) (buffer .entry .ptr) (now (tape .entry) .ptr) ⌝ }
 {
     match locate(buffer, used, wanted) {
         Located::At { start, length } => {

@@ -1,13 +1,13 @@
 -- Additions to a phrase book: each ends in one of the ways that its numbers tell, and one after the other, from an empty book on, they leave just the records of those that were accepted.
-use Rattle.laws.proofs.Kit.{ℕ, suc, _+_, _<_, _≤_, _≡_, refl, sym, ap, _∙_, Bool, true, false, cond, _⊎_, inl, inr, ⊎-elim, List, [], _∷_, _++_, append-assoc, append-nil, arith, leb, length, take, drop, getD, length-append, length-take, length-drop, take-append-drop, take-at, take-all, take-length, le-leb, lt-leb, leb-true, leb-false}
-use Rattle.spec.specs.Book.{Phrase, recordOf, records, Reading, holds, unsound, readBook, bookIn, search, startOf, told, handed, placed, findAnswer, tapeAfter, locateAnswer, leastAfter, afterBook, phraseOf, withAddition, addAnswer, Fits, RisingFrom, Sound, FindPromise, AddPromise}
-use Rattle.spec.specs.Demands.{BookDue, BookDemands, MayAdd, AddDue, ofMessage, ofBook, notAboveLast, noRoomBehind, Addition, usedAfter, addedBy, OneByOne, lastBuffer, lastUsed, accepted, HoldsJust, AdditionsKept}
-use Rattle.spec.specs.Answers.{within, afterCheck, outputAfter, Promise}
-use Rattle.spec.specs.{Tape.tape, Refusals.refusal, Refusals.checkOf, Refusals.NoneFits, declared.Answer.Answer, declared.Answer.the-variants.Written, declared.Answer.the-variants.Refused, declared.Refusal.Refusal}
-use Rattle.laws.proofs.Accepted.{check-finds, passes-none, none-passes, none-accepted, given-refused, given-range}
+use Rattle.laws.proofs.Kit.{ℕ, suc, _+_, _<_, _≤_, _≡_, refl, sym, ap, _∙_, _⊎_, inl, inr, ⊎-elim, List, [], _∷_, _++_, append-assoc, append-nil, arith, length, take, drop, take-append-drop, take-at, le-leb, lt-leb}
+use Rattle.spec.specs.Book.{Phrase, recordOf, records, bookIn, findAnswer, tapeAfter, locateAnswer, leastAfter, afterBook, phraseOf, withAddition, addAnswer, Fits, RisingFrom, Sound, AddPromise}
+use Rattle.spec.specs.Demands.{BookDemands, MayAdd, AddDue, ofMessage, ofBook, notAboveLast, noRoomBehind, Addition, usedAfter, addedBy, OneByOne, lastBuffer, lastUsed, accepted, HoldsJust, AdditionsKept}
+use Rattle.spec.specs.Answers.{within, afterCheck, outputAfter}
+use Rattle.spec.specs.{Tape.tape, Refusals.refusal, Refusals.NoneFits, declared.Answer.Answer, declared.Answer.the-variants.Written, declared.Answer.the-variants.Refused, declared.Refusal.Refusal}
+use Rattle.laws.proofs.Accepted.{check-finds, passes-none, none-accepted, given-refused, given-range}
 use Rattle.laws.proofs.Demands.{Ways, settled, exactly}
 use Rattle.laws.proofs.Book.{Bytes, Judged, isSound, isRefused, judge, sound-read, due-read, bytes-in}
-use Rattle.laws.proofs.{Classes.either, Classes.below-or, Sizes.tape-size, Lookup.looks-up}
+use Rattle.laws.proofs.{Classes.below-or, Sizes.tape-size, Lookup.looks-up}
 
 -- an addition ends in these ways
 add-ways : (book : List ℕ) (n : ℕ) (m buffer : List ℕ) → Bytes book

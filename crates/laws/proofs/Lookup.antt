@@ -1,5 +1,5 @@
 -- Lookups in a phrase book: numbers rise, so what is found under a number is the one tape that the book has there, and it stands where the records before it end.
-use Rattle.laws.proofs.Kit.{ℕ, suc, _+_, _<_, _≤_, _≡_, refl, sym, ap, _∙_, Bool, cond, _⊎_, inl, inr, ⊎-elim, _↔_, List, [], _∷_, _++_, append-assoc, arith, eqb, length, take, drop, length-append, length-take, take-append-drop, take-at, drop-append-add, eqb-true, eqb-false, eq-eqb, ne-eqb}
+use Rattle.laws.proofs.Kit.{ℕ, suc, _+_, _≤_, _≡_, refl, sym, ap, _∙_, _⊎_, inl, inr, ⊎-elim, List, [], _∷_, _++_, append-assoc, arith, eqb, length, take, drop, length-append, length-take, take-append-drop, take-at, drop-append-add, eqb-true, eq-eqb, ne-eqb}
 use Rattle.spec.specs.Book.{Phrase, recordMark, twoBytes, headOf, recordOf, records, headSize, Reading, holds, unsound, readBook, bookIn, Search, none, entry, search, startOf, told, handed, findAnswer, tapeAfter, placed, locateAnswer, partAt, endOf, RisingFrom, FindPromise, LocatePromise}
 use Rattle.spec.specs.Demands.{Listed, Has, HasNone, LooksUp, BookDue}
 use Rattle.spec.specs.{Refusals.refusal, declared.Found.Found, declared.Located.Located}
@@ -86,7 +86,7 @@ pub data Ended (book : List ℕ) (n : ℕ) (old new : List ℕ) (r : Found) : Ty
   refusedBy : (k p : ℕ) → BookDue book k p → r ≡ Refused (refusal k p) → new ≡ old → Ended book n old new r
 
 -- what is told, in numbers
-abbrev pub wayOf : Found → ℕ
+abbrev wayOf : Found → ℕ
 wayOf Tape = 0
 wayOf Missing = 1
 wayOf (Refused r) = 2

@@ -178,6 +178,12 @@ pub record LocatePromise (buffer : List ℕ) (used n : ℕ) (r : Located) : Type
   pub tape : partAt r buffer ≡ tapeAfter (readBook (bookIn buffer used)) n []
   pub inside : endOf r ≤ length buffer
 
+-- What the lookup hands back are the tape's own bytes: in memory they stand in the buffer, from that start on. Where there is none to hand back the lent place refers to what it did before.
+unfoldable pub standsAfter : Located → ℕ × ℕ → ℕ × ℕ → ℕ × ℕ
+standsAfter (located.At start n) buffer old = (buffer .0, start + buffer .1)
+standsAfter located.Missing buffer old = old
+standsAfter (located.Refused r) buffer old = old
+
 -- Slip 6, the writer. The least number that is above the last one's
 unfoldable pub leastAfter : ℕ → List Phrase → ℕ
 leastAfter least [] = least

@@ -3,7 +3,7 @@
 -- what holds of a phrase book (slip 6) is `book-demands`, and `additions-kept` over lists of additions.
 -- That no step goes outside the lent memory and that every step ends is no statement over values: it is proved of each function by the language.
 -- Assumes nothing: these are definitions.
-use Prim.Native.Nat.{ℕ, suc, _*_, _<_, _≤_}
+use Prim.Native.Nat.{ℕ, _*_, _<_, _≤_}
 use mathlib.Core.Path.{_≡_}
 use mathlib.Core.Bool.{true, false}
 use mathlib.Core.Logic.{_⊎_, _↔_}

@@ -10,8 +10,8 @@ unfolding recordMark twoBytes headOf recordOf
 write-record-spec =
     tie.close
     (tie.spec
-    (λ c. search needs) (λ c. search needs)
     (λ c κs. let s = c .before .before .before in record { room = omega (arith, s .pre .room); number = s .pre .number; codes = s .pre .few })
+    (λ c. let h = c .before .before in let s = h .before .before .before .before in omega (arith, h .put-head .ensures .place, s .pre .room))
     (λ c κs. search needs) (λ c κs. search needs)
     (λ c κs.
     let t = c .before .before .before in
@@ -21,8 +21,8 @@ write-record-spec =
     record {
       lent = record { byte = t .before .class-table .ensures; sound = t .sound-table .ensures };
       steady = s .pre .steady;
-      room = omega (arith, s .pre .codes);
-      place = omega (arith, s .pre .room, put-length _ _ _ _ _ (omega (arith, p .place, s .pre .room)) p);
+      room = omega (arith, p .place, s .pre .codes);
+      place = omega (arith, p .place, s .pre .room, put-length _ _ _ _ _ (omega (arith, p .place, s .pre .room)) p);
     })
     (λ c. search needs)
     (λ c.
@@ -32,4 +32,4 @@ write-record-spec =
     let p = h .put-head .ensures in
     let q = w .write-tape .ensures in
     let e : w .write-tape .result ≡ h .put-head .result = omega (arith, p .place, q .place, s .pre .codes) in
-    rw (← s .pre .codes) (put-behind (omega (arith, s .pre .room)) p (rw e at q))))
+    rw (← s .pre .codes) (put-behind (omega (arith, p .place, s .pre .room)) p (rw e at q))))

@@ -1,8 +1,8 @@
 -- The tape stands where it was located, and its bytes there are handed back.
-use Rattle.laws.proofs.Kit.{_+_, _-_, _≡_, refl, ap, arith, drop, length-take, needs}
-use Rattle.spec.specs.Book.{LocatePromise, partAt, endOf}
+use Rattle.laws.proofs.Kit.{_+_, _-_, _≡_, refl, arith, needs}
+use Rattle.spec.specs.Book.{LocatePromise, partAt, endOf, standsAfter}
 use Rattle.spec.specs.declared.Located.the-variants.{At}
-use Rattle.laws.proofs.Lookup.{wayOf, find-promised}
+use Rattle.laws.proofs.Lookup.{find-promised}
 use Rattle.book.proofs.lookup.find.Statement.{statement}
 use Rattle.book.proofs.lookup.find.Tie as tie
 
@@ -11,7 +11,7 @@ promised : (c : tie.After-start) → let s = c .before .before .before .before i
 promised c = rw (c .start .given .1) at (c .before .before .locate .ensures)
 
 pub find-spec : {M : Type 1} → statement M
-unfolding partAt endOf
+unfolding partAt endOf standsAfter
 find-spec =
     tie.close
     (tie.spec
@@ -22,9 +22,8 @@ find-spec =
     (λ c. search needs) (λ c. search needs)
     (λ c.
     let d = c .before .before in
-    let s = d .before .before .before .before in
     let p = promised d in
     let e : d .start .given .0 .0 + d .start .given .0 .1 .0 - d .start .given .0 .0 ≡ d .start .given .0 .1 .0 = omega arith in
-    (rw e (find-promised _ p), λ _. record { block = refl; first = omega arith; last = rw e (omega (arith, p .inside, length-take (d .start .given .0 .1 .0) (drop (d .start .given .0 .0) (s .args .buffer .now)))) }))
-    (λ c. (find-promised _ (rw (c .enum-told .given .1) at (c .before .before .locate .ensures)), λ e. absurd (omega (arith, ap wayOf e))))
-    (λ c. (find-promised _ (rw (c .before .r .given .1) at (c .before .before .before .locate .ensures)), λ e. absurd (omega (arith, ap wayOf e)))))
+    (rw e (find-promised _ p), rw (← p .answer) refl))
+    (λ c. let p = rw (c .enum-told .given .1) at (c .before .before .locate .ensures) in (find-promised _ p, rw (← p .answer) refl))
+    (λ c. let p = rw (c .before .r .given .1) at (c .before .before .before .locate .ensures) in (find-promised _ p, rw (← p .answer) refl)))

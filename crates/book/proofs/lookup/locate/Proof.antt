@@ -1,5 +1,5 @@
 -- The walk over the book tells where the tape stands.
-use Rattle.laws.proofs.Kit.{_≡_, sym, ap, _∙_, arith, length-take-le, needs}
+use Rattle.laws.proofs.Kit.{_≡_, sym, _∙_, arith, length-take-le, needs}
 use Rattle.spec.specs.{Book.readBook, Book.bookIn, declared.Answer.the-variants.Written}
 use Rattle.laws.proofs.Lookup.{locate-promised}
 use Rattle.book.specs.{Walking.walkedOf}

@@ -1,5 +1,5 @@
 -- A start of 0 tells that there is none.
-use Rattle.laws.proofs.Kit.{refl, eq-eqb, ne-eqb, needs}
+use Rattle.laws.proofs.Kit.{refl, eq-eqb, ne-eqb}
 use Rattle.book.proofs.reading.tell.Statement.{statement}
 use Rattle.book.proofs.reading.tell.Tie as tie
 

@@ -1,0 +1,131 @@
+//! What a fuzzer's bytes stand for as a lent book, and what is then asked of it: the buffer's bytes
+//! as they come, or phrases, of which a book is made that is sound unless one of them says
+//! otherwise.
+
+use super::written_cut;
+use crate::book::{book, record, records, MARK};
+use crate::book_trial::Lent;
+use crate::gen::Rng;
+
+/// The longest tape of a phrase, in codes.
+const LONGEST: usize = 15;
+
+/// From this on, the first byte of a phrase says what is wrong with it.
+const WRONG: u8 = 0xF0;
+
+/// A message that is good, so that the book is looked at.
+const GOOD: &[u8] = b"\xE0";
+
+/// A lent buffer with its used count, the number of a phrase, and a message to be added under it.
+#[derive(Debug, PartialEq, Eq)]
+pub struct Asked {
+    pub buffer: Vec<u8>,
+    pub used: usize,
+    pub phrase: u16,
+    pub msg: Vec<u8>,
+}
+
+impl Asked {
+    /// Two bytes for the number, three for the used count and two for the length of the buffer;
+    /// then come the buffer and the message.
+    pub fn as_it_comes(data: &[u8]) -> Self {
+        let (head, rest) = data.split_first_chunk().unwrap_or((&[0; 7], &[]));
+        let &[number_low, number_high, ref used @ .., size_low, size_high] = head;
+        let size = usize::from(u16::from_le_bytes([size_low, size_high]));
+        let (buffer, msg) = rest.split_at(size.min(rest.len()));
+        Asked {
+            buffer: buffer.to_vec(),
+            used: written_cut(used),
+            phrase: u16::from_le_bytes([number_low, number_high]),
+            msg: msg.to_vec(),
+        }
+    }
+
+    /// A byte for how far the number asked for is above the last one, and one for how much of the
+    /// buffer is behind the book. Then phrases: a byte for how far the number is above the one
+    /// before, or for what is wrong; the tape's length; the tape. The message is what is left after
+    /// the phrase that is said to end the book.
+    pub fn made(data: &[u8]) -> Self {
+        let (&[above, free], mut rest) = data.split_first_chunk().unwrap_or((&[0, 0], &[]));
+        let (mut buffer, mut last) = (Vec::new(), 0_u16);
+        while let Some((&[how, length], behind)) = rest.split_first_chunk() {
+            rest = behind;
+            if how == u8::MAX {
+                break;
+            }
+            let (tape, behind) = rest.split_at(usize::from(length).min(LONGEST).min(rest.len()));
+            rest = behind;
+            last = last.saturating_add(match how {
+                0..0x80 => how.into(),
+                // So large that a few phrases reach the last number.
+                0x80..WRONG => u16::from(how) << 7,
+                WRONG.. => 1,
+            });
+            buffer.extend(damaged(record(last, tape), how));
+        }
+        let used = buffer.len();
+        buffer.resize(used + free_bytes(free), MARK[0]);
+        Asked {
+            buffer,
+            used,
+            phrase: last.wrapping_add(above.into()),
+            msg: rest.to_vec(),
+        }
+    }
+
+    /// Looks up the phrase, those beside it and one that the book has; adds the message, and one
+    /// that is good; and says what is wrong with the library's answers.
+    pub fn compare(&self, rng: &mut Rng) -> Result<(), String> {
+        let lent = Lent::new(&self.buffer, self.used);
+        let phrase = self.phrase;
+        let beside = [phrase.wrapping_sub(1), phrase.wrapping_add(1)];
+        for phrase in [phrase, beside[0], beside[1], self.known(rng)] {
+            lent.lookup(phrase).among_others(rng)?;
+        }
+        for msg in [&self.msg[..], GOOD] {
+            let (added, buffer) = lent.addition(phrase, msg).among_others(rng)?;
+            if added.number == 0 {
+                let after = Lent::new(&buffer, added.used);
+                after.lookup(phrase).among_others(rng)?;
+            }
+        }
+        Ok(())
+    }
+
+    /// The number of one of the phrases, or 0.
+    fn known(&self, rng: &mut Rng) -> u16 {
+        match records(book(&self.buffer, self.used)) {
+            Ok(records) if !records.is_empty() => records[rng.below(records.len())].number,
+            _ => 0,
+        }
+    }
+}
+
+/// How many bytes of the buffer are behind the book: each count up to the half, then so many that
+/// the longest tape has room.
+fn free_bytes(free: u8) -> usize {
+    match free {
+        0..0x80 => free.into(),
+        0x80.. => 80 * usize::from(free - 0x7F),
+    }
+}
+
+/// A record with what this byte says is wrong.
+fn damaged(mut record: Vec<u8>, how: u8) -> Vec<u8> {
+    match how {
+        0xF0 => record[1] = 0x9F,
+        0xF1 => record[0] = 0,
+        0xF2 => record[2] = record[2].wrapping_sub(1),
+        0xF3 => record[2] = record[2].wrapping_sub(2),
+        0xF4 => record[3] = record[3].wrapping_sub(1),
+        0xF5 => record[4] = record[4].wrapping_add(1),
+        0xF6 => record[4] = record[4].wrapping_sub(1),
+        0xF7 => record[5] = 1,
+        0xF8 => record.swap(4, 5),
+        0xF9 => drop(record.pop()),
+        0xFA => record.truncate(5),
+        0xFB => record.truncate(1),
+        _ => {}
+    }
+    record
+}
