@@ -7,7 +7,7 @@ use Rattle.spec.specs.{Tape.tape, Refusals.refusal, Refusals.NoneFits, declared
 use Rattle.laws.proofs.Accepted.{check-finds, passes-none, none-accepted, given-refused, given-range}
 use Rattle.laws.proofs.Demands.{Ways, settled, exactly}
 use Rattle.laws.proofs.Book.{Bytes, Judged, isSound, isRefused, judge, sound-read, due-read, bytes-in}
-use Rattle.laws.proofs.{Classes.below-or, Sizes.tape-size, Lookup.looks-up}
+use Rattle.laws.proofs.{Classes.below-or, Sizes.tape-size, Lookup.looks-up, Lookup.locate-looks-up}
 
 -- an addition ends in these ways
 add-ways : (book : List ℕ) (n : ℕ) (m buffer : List ℕ) → Bytes book
@@ -50,6 +50,7 @@ book-demands buffer used b =
     let inside = bytes-in buffer used b in
     record {
       find = λ n old new r k. looks-up (bookIn buffer used) inside n old new r (k .answer) (k .tape);
+      locate = λ n r k. locate-looks-up buffer used n b r k;
       rest = λ buffer₂ used₂ e n old new new₂ r r₂ k k₂. (k₂ .answer ∙ rw e (sym (k .answer)), k₂ .tape ∙ rw e (sym (k .tape)));
       settled = λ n m buffer′ r k. settled (add-ways (bookIn buffer used) n m buffer inside) k;
       exact = λ n m buffer′ r k. exactly (add-ways (bookIn buffer used) n m buffer inside) k;

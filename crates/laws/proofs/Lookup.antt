@@ -1,6 +1,6 @@
 -- Lookups in a phrase book: numbers rise, so what is found under a number is the one tape that the book has there, and it stands where the records before it end.
 use Rattle.laws.proofs.Kit.{ℕ, suc, _+_, _≤_, _≡_, refl, sym, ap, _∙_, _⊎_, inl, inr, ⊎-elim, List, [], _∷_, _++_, append-assoc, arith, eqb, length, take, drop, length-append, length-take, take-append-drop, take-at, drop-append-add, eqb-true, eq-eqb, ne-eqb}
-use Rattle.spec.specs.Book.{Phrase, recordMark, twoBytes, headOf, recordOf, records, headSize, Reading, holds, unsound, readBook, bookIn, Search, none, entry, search, startOf, told, handed, findAnswer, tapeAfter, placed, locateAnswer, partAt, endOf, RisingFrom, FindPromise, LocatePromise}
+use Rattle.spec.specs.Book.{Phrase, recordMark, twoBytes, headOf, recordOf, records, headSize, Reading, holds, unsound, readBook, bookIn, Search, none, entry, search, startOf, told, handed, findAnswer, tapeAfter, placed, locateAnswer, toldOf, partAt, endOf, RisingFrom, FindPromise, LocatePromise}
 use Rattle.spec.specs.Demands.{Listed, Has, HasNone, LooksUp, BookDue}
 use Rattle.spec.specs.{Refusals.refusal, declared.Found.Found, declared.Located.Located}
 use Rattle.spec.specs.declared.Found.the-variants.{Tape, Missing, Refused}
@@ -171,18 +171,13 @@ module _ (buffer : List ℕ) (used n : ℕ) (b : Bytes buffer) where
   locate-promised e = let w = judged-located (judge book (bytes-in buffer used b)) in record { answer = e; tape = rw e (w .0); inside = rw e (w .1) }
 
 -- What is told by the tape itself is told by its place.
-abbrev pub toldOf : Located → Found
-toldOf (located.At start k) = Tape
-toldOf located.Missing = Missing
-toldOf (located.Refused r) = Refused r
-
 abbrev pub keptBy : Located → List ℕ → List ℕ → List ℕ
 keptBy (located.At start k) t old = t
 keptBy located.Missing t old = old
 keptBy (located.Refused r) t old = old
 
 told-same : (r : Reading) (n : ℕ) (old : List ℕ) → (findAnswer r n ≡ toldOf (locateAnswer r n)) × (tapeAfter r n old ≡ keptBy (locateAnswer r n) (tapeAfter r n []) old)
-unfolding findAnswer locateAnswer tapeAfter placed told handed
+unfolding findAnswer locateAnswer tapeAfter placed told handed toldOf
 told-same (holds fs) n old = which (search fs n) where
   which : (q : Search) → (told q ≡ toldOf (placed (startOf fs n) q)) × (handed q old ≡ keptBy (placed (startOf fs n) q) (handed q []) old)
   which none = (refl, refl)
@@ -193,3 +188,15 @@ pub find-promised : {buffer : List ℕ} {used n : ℕ} {r : Located} (old : List
 find-promised {buffer} {used} {n} old k =
     let w = told-same (readBook (bookIn buffer used)) n old in
     record { answer = ap toldOf (k .answer) ∙ sym (w .0); tape = rw (k .tape) (rw (k .answer) (sym (w .1))) }
+
+-- so what holds of the one holds of the other
+kept-part : (r : Located) (buffer : List ℕ) → keptBy r (partAt r buffer) [] ≡ partAt r buffer
+unfolding partAt
+kept-part (located.At start k) buffer = refl
+kept-part located.Missing buffer = refl
+kept-part (located.Refused r) buffer = refl
+
+pub locate-looks-up : (buffer : List ℕ) (used n : ℕ) → Bytes buffer → (r : Located) → LocatePromise buffer used n r → LooksUp (bookIn buffer used) n [] (partAt r buffer) (toldOf r)
+locate-looks-up buffer used n b r k =
+    let f = find-promised [] k in
+    looks-up (bookIn buffer used) (bytes-in buffer used b) n [] (partAt r buffer) (toldOf r) (f .answer) (sym (kept-part r buffer) ∙ f .tape)

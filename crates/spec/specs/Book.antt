@@ -162,6 +162,12 @@ unfoldable pub locateAnswer : Reading → ℕ → Located
 locateAnswer (holds fs) n = placed (startOf fs n) (search fs n)
 locateAnswer (unsound r) n = located.Refused r
 
+-- what that tells without the place
+unfoldable pub toldOf : Located → Found
+toldOf (located.At start n) = found.Tape
+toldOf located.Missing = found.Missing
+toldOf (located.Refused r) = found.Refused r
+
 -- the bytes of the buffer that it tells of, and where they end
 unfoldable pub partAt : Located → List ℕ → List ℕ
 partAt (located.At start n) buffer = take n (drop start buffer)

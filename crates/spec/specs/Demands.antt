@@ -18,7 +18,7 @@ use Rattle.spec.specs.Answers.{numberOf, placeOf, lengthOf, liveOf, chec
 use Rattle.spec.specs.Editing.{OnlyBreaks, edited, EditPromise}
 use Rattle.spec.specs.Utf8.{WellFormed, encoded, decoded, RunOf, Readable, StopsAt, ReadPromise, WritePromise}
 use Rattle.spec.specs.SpokenLevels.{levelWords, Each, marksIn, spoken, InRange, LevelPromise}
-use Rattle.spec.specs.Book.{Phrase, recordOf, records, bookIn, search, startOf, told, handed, placed, leastAfter, phraseOf, withAddition, Fits, RisingFrom, Sound, FindPromise, LocatePromise, AddPromise}
+use Rattle.spec.specs.Book.{Phrase, recordOf, records, bookIn, search, startOf, told, handed, placed, toldOf, partAt, leastAfter, phraseOf, withAddition, Fits, RisingFrom, Sound, FindPromise, LocatePromise, AddPromise}
 use Rattle.spec.specs.declared.Checked.{Checked}
 use Rattle.spec.specs.declared.Answer.{Answer}
 use Rattle.spec.specs.declared.Answer.the-variants.{Written, Refused}
@@ -270,7 +270,9 @@ pub data AddDue (book : List ℕ) (n : ℕ) (m : List ℕ) (room : ℕ) : ℕ �
 pub record BookDemands (buffer : List ℕ) (used : ℕ) : Type 0 where
   -- a lookup is exact
   pub find : (n : ℕ) (old new : List ℕ) (r : Found) → FindPromise buffer used n old new r → LooksUp (bookIn buffer used) n old new r
-  -- and does not depend on what stands after the used count
+  -- so is one that tells the place: the bytes there are the tape
+  pub locate : (n : ℕ) (r : Located) → LocatePromise buffer used n r → LooksUp (bookIn buffer used) n [] (partAt r buffer) (toldOf r)
+  -- and it does not depend on what stands after the used count
   pub rest : (buffer₂ : List ℕ) (used₂ : ℕ) → bookIn buffer₂ used₂ ≡ bookIn buffer used → (n : ℕ) (old new new₂ : List ℕ) (r r₂ : Found)
       → FindPromise buffer used n old new r → FindPromise buffer₂ used₂ n old new₂ r₂ → (r₂ ≡ r) × (new₂ ≡ new)
   -- an addition is carried out, or refused with every byte left

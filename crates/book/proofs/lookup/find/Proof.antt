@@ -1,6 +1,6 @@
 -- The tape stands where it was located, and its bytes there are handed back.
 use Rattle.laws.proofs.Kit.{_+_, _-_, _≡_, refl, arith, needs}
-use Rattle.spec.specs.Book.{LocatePromise, partAt, endOf, standsAfter}
+use Rattle.spec.specs.Book.{LocatePromise, toldOf, partAt, endOf, standsAfter}
 use Rattle.spec.specs.declared.Located.the-variants.{At}
 use Rattle.laws.proofs.Lookup.{find-promised}
 use Rattle.book.proofs.lookup.find.Statement.{statement}
@@ -11,7 +11,7 @@ promised : (c : tie.After-start) → let s = c .before .before .before .before i
 promised c = rw (c .start .given .1) at (c .before .before .locate .ensures)
 
 pub find-spec : {M : Type 1} → statement M
-unfolding partAt endOf standsAfter
+unfolding toldOf partAt endOf standsAfter
 find-spec =
     tie.close
     (tie.spec
