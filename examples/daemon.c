@@ -8,56 +8,13 @@
  *
  *     cc -I include examples/daemon.c target/staticlib/libcapi.a -o daemon
  */
-#include <stdio.h>
-#include <stdlib.h>
+#define PROGRAM "daemon"
 
 #include "govorun.h"
+#include "lines.h"
 
 /* The largest level that is spoken, and room for the words of any. */
 enum { MAX_LEVEL = 9999, LEVEL_BYTES = 54 };
-
-/* A line, and as much room for what is read of it and for that edited, which are never longer. */
-struct line {
-    uint8_t *text, *read, *edited;
-    size_t len, room;
-};
-
-/* Memory for so many bytes, which must not be 0, in the place of the old or of NULL. Ends the daemon if there is none. */
-static uint8_t *memory(uint8_t *old, size_t bytes)
-{
-    uint8_t *made = realloc(old, bytes);
-
-    if (made == NULL) {
-        fputs("daemon: there is no memory left\n", stderr);
-        exit(EXIT_FAILURE);
-    }
-    return made;
-}
-
-static void make_room(struct line *line, size_t room)
-{
-    line->text = memory(line->text, room);
-    line->read = memory(line->read, room);
-    line->edited = memory(line->edited, room);
-    line->room = room;
-}
-
-/* Reads a line. Gives 0 when there is none to speak: the input has ended, or could not be read, and what came of the line is no text. */
-static int read_line(struct line *line)
-{
-    int byte = getchar();
-    int ended = byte == EOF;
-
-    line->len = 0;
-    while (byte != EOF && byte != '\n') {
-        /* Twice the room is no overflow: text and edited together have so many bytes already. */
-        if (line->len == line->room)
-            make_room(line, 2 * line->room);
-        line->text[line->len++] = (uint8_t)byte;
-        byte = getchar();
-    }
-    return !ended && !ferror(stdin);
-}
 
 static void print_refusal(uint32_t number, size_t place)
 {
@@ -68,8 +25,7 @@ static void print_spoken(const uint8_t *text, size_t length, const uint8_t *tape
 {
     fwrite(text, 1, length, stdout);
     fputs(": ", stdout);
-    for (size_t i = 0; i < codes; i++)
-        printf("%s%d", i == 0 ? "" : " ", tape[i]);
+    print_codes(tape, codes);
     putchar('\n');
 }
 
@@ -150,11 +106,9 @@ static void speak_level(int32_t level)
 
 int main(void)
 {
-    struct line line = { NULL, NULL, NULL, 0, 0 };
+    struct line line = first_line();
 
-    /* Room from the start: the unit is handed no NULL, even for an empty line. */
-    make_room(&line, 4096);
-    while (read_line(&line)) {
+    while (read_line(stdin, &line)) {
         if (is_number(&line))
             speak_level(read_number(&line));
         else
@@ -162,10 +116,8 @@ int main(void)
         /* Whoever polls waits for this line. */
         fflush(stdout);
     }
-    free(line.text);
-    free(line.read);
-    free(line.edited);
+    free_line(&line);
     if (ferror(stdin))
-        fputs("daemon: standard input could not be read\n", stderr);
+        fputs(PROGRAM ": standard input could not be read\n", stderr);
     return ferror(stdin) || ferror(stdout) ? EXIT_FAILURE : EXIT_SUCCESS;
 }

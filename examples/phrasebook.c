@@ -10,65 +10,23 @@
  * 0 exactly if every line is in the book and the phrase was found and printed. Where the file can't be read or there is no memory left,
  * nothing is printed.
  */
-#include <stdio.h>
-#include <stdlib.h>
+#define PROGRAM "phrasebook"
+
 #include <string.h>
 
 #include "govorun.h"
+#include "lines.h"
 
-/* The room that lines and book have to begin with; a book of some thirty phrases takes no more. */
+/* The room that the book has to begin with; one of some thirty phrases takes no more. */
 enum { FIRST_ROOM = 4096 };
 
 enum { MAX_PHRASE = 65535, NO_NUMBER = -1, BOOK_TOO_SHORT = 11 };
-
-/* A line, and as much room for what is read of its phrase and for that edited, which are never longer. */
-struct line {
-    uint8_t *text, *read, *edited;
-    size_t len, room;
-};
 
 /* The book is the first part of its bytes, as long as the last addition has said. */
 struct book {
     uint8_t *bytes;
     size_t used, room;
 };
-
-/* Memory for so many bytes, which must not be 0, in the place of the old or of NULL. Ends the program if there is none. */
-static uint8_t *memory(uint8_t *old, size_t bytes)
-{
-    uint8_t *made = realloc(old, bytes);
-
-    if (made == NULL) {
-        fputs("phrasebook: there is no memory left\n", stderr);
-        exit(EXIT_FAILURE);
-    }
-    return made;
-}
-
-static void make_room(struct line *line, size_t room)
-{
-    line->text = memory(line->text, room);
-    line->read = memory(line->read, room);
-    line->edited = memory(line->edited, room);
-    line->room = room;
-}
-
-/* Reads a line. Gives 0 when there is none to tape: the file has ended, or could not be read, and what came of the line is no line. */
-static int read_line(FILE *file, struct line *line)
-{
-    int byte = getc(file);
-    int ended = byte == EOF;
-
-    line->len = 0;
-    while (byte != EOF && byte != '\n') {
-        /* Twice the room is no overflow: text and edited together have so many bytes already. */
-        if (line->len == line->room)
-            make_room(line, 2 * line->room);
-        line->text[line->len++] = (uint8_t)byte;
-        byte = getc(file);
-    }
-    return !ended && !ferror(file);
-}
 
 /* The phrase number that the text is, or NO_NUMBER: it must be digits alone, and not too large. */
 static int32_t read_number(const uint8_t *text, size_t len)
@@ -104,7 +62,7 @@ static govorun_added add(struct book *book, uint16_t phrase, const uint8_t *msg,
 static int accepted(size_t line_number, uint32_t number, size_t place)
 {
     if (number != 0)
-        fprintf(stderr, "phrasebook: line %zu: refused %lu at %zu\n", line_number, (unsigned long)number, place);
+        fprintf(stderr, PROGRAM ": line %zu: refused %lu at %zu\n", line_number, (unsigned long)number, place);
     return number == 0;
 }
 
@@ -131,7 +89,7 @@ static int tape_line(struct book *book, const struct line *line, size_t line_num
     int32_t number = read_number(line->text, digits);
 
     if (number == NO_NUMBER) {
-        fprintf(stderr, "phrasebook: line %zu: no number\n", line_number);
+        fprintf(stderr, PROGRAM ": line %zu: no number\n", line_number);
         return 0;
     }
     return tape(book, (uint16_t)number, line, digits + 1, line_number);
@@ -140,17 +98,13 @@ static int tape_line(struct book *book, const struct line *line, size_t line_num
 /* Puts the lines of a file into the book, as far as it can be read. Gives 0 if one of them is not in the book. */
 static int tape_lines(struct book *book, FILE *file)
 {
-    struct line line = { NULL, NULL, NULL, 0, 0 };
+    struct line line = first_line();
     size_t line_number = 0;
     int all = 1;
 
-    /* Room from the start: the unit is handed no NULL, even for an empty phrase. */
-    make_room(&line, FIRST_ROOM);
     while (read_line(file, &line))
         all &= tape_line(book, &line, ++line_number);
-    free(line.text);
-    free(line.read);
-    free(line.edited);
+    free_line(&line);
     return all;
 }
 
@@ -159,8 +113,7 @@ static int print_phrase(const struct book *book, uint16_t phrase)
 {
     govorun_found found = govorun_book_find(book->bytes, book->room, book->used, phrase);
 
-    for (size_t i = 0; i < found.length; i++)
-        printf("%s%d", i == 0 ? "" : " ", book->bytes[found.start + i]);
+    print_codes(book->bytes + found.start, found.length);
     puts(found.found ? "" : "none");
     return found.found != 0;
 }
@@ -172,7 +125,7 @@ static int make_and_print(FILE *file, uint16_t phrase)
     int done = tape_lines(&book, file);
 
     if (ferror(file)) {
-        fputs("phrasebook: the phrases could not be read\n", stderr);
+        fputs(PROGRAM ": the phrases could not be read\n", stderr);
         done = 0;
     } else {
         done &= print_phrase(&book, phrase);
@@ -188,12 +141,12 @@ int main(int argc, char **argv)
     int done;
 
     if (number == NO_NUMBER) {
-        fputs("usage: phrasebook PHRASES NUMBER\n", stderr);
+        fputs("usage: " PROGRAM " PHRASES NUMBER\n", stderr);
         return EXIT_FAILURE;
     }
     file = fopen(argv[1], "rb");
     if (file == NULL) {
-        fprintf(stderr, "phrasebook: %s could not be opened\n", argv[1]);
+        fprintf(stderr, PROGRAM ": %s could not be opened\n", argv[1]);
         return EXIT_FAILURE;
     }
     done = make_and_print(file, (uint16_t)number);
