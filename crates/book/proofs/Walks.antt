@@ -144,17 +144,13 @@ module _ {book : List ℕ} {n i : ℕ} {s : Seen} (g : Going book n i s) where
         }
 
 -- What the walk tells, for lookups and additions.
-module _ (r : Reading) (n : ℕ) where
-  pub walked-sound : {c : Contents} (bookEnd : ℕ) (a : Answer) → walkedOf r n ≡ Sound c → (locateAnswer r n ≡ c .found) × (afterBook r n bookEnd a ≡ cond (leb (c .least) n) a (Refused (refusal 16 bookEnd)))
-  unfolding walkedOf locateAnswer afterBook
-  walked-sound {c} bookEnd a = of r where
-    of : (r : Reading) → walkedOf r n ≡ Sound c → (locateAnswer r n ≡ c .found) × (afterBook r n bookEnd a ≡ cond (leb (c .least) n) a (Refused (refusal 16 bookEnd)))
-    of (holds fs) h = let e : c ≡ record { least = leastAfter 0 fs; found = placed (startOf fs n) (search fs n) } = (cc) in rw e (refl, refl)
-    of (unsound x) h = absurd (let z : _≡_ {A = ℕ} 0 1 = cc in omega (arith, z))
+pub walked-sound : (r : Reading) (n bookEnd : ℕ) (a : Answer) {c : Contents} → walkedOf r n ≡ Sound c
+    → (locateAnswer r n ≡ c .found) × (afterBook r n bookEnd a ≡ cond (leb (c .least) n) a (Refused (refusal 16 bookEnd)))
+unfolding walkedOf locateAnswer afterBook
+walked-sound (holds fs) n bookEnd a {c} h = let e : c ≡ record { least = leastAfter 0 fs; found = placed (startOf fs n) (search fs n) } = (cc) in rw e (refl, refl)
+walked-sound (unsound x) n bookEnd a h = absurd (let z : _≡_ {A = ℕ} 0 1 = cc in omega (arith, z))
 
-  pub walked-unsound : {x : Refusal} (bookEnd : ℕ) (a : Answer) → walkedOf r n ≡ Unsound x → (locateAnswer r n ≡ located.Refused x) × (afterBook r n bookEnd a ≡ Refused x)
-  unfolding walkedOf locateAnswer afterBook
-  walked-unsound {x} bookEnd a = of r where
-    of : (r : Reading) → walkedOf r n ≡ Unsound x → (locateAnswer r n ≡ located.Refused x) × (afterBook r n bookEnd a ≡ Refused x)
-    of (holds fs) h = absurd (let z : _≡_ {A = ℕ} 0 1 = cc in omega (arith, z))
-    of (unsound y) h = let e : y ≡ x = (cc) in rw e (refl, refl)
+pub walked-unsound : (r : Reading) (n bookEnd : ℕ) (a : Answer) {x : Refusal} → walkedOf r n ≡ Unsound x → (locateAnswer r n ≡ located.Refused x) × (afterBook r n bookEnd a ≡ Refused x)
+unfolding walkedOf locateAnswer afterBook
+walked-unsound (holds fs) n bookEnd a h = absurd (let z : _≡_ {A = ℕ} 0 1 = cc in omega (arith, z))
+walked-unsound (unsound y) n bookEnd a {x} h = let e : y ≡ x = (cc) in rw e (refl, refl)

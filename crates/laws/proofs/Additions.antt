@@ -133,12 +133,9 @@ holding-all {fs = fs} (a ∷ more) now kept =
 pub additions-kept : (buffer : List ℕ) (additions : List Addition) → AdditionsKept buffer additions
 unfolding bookIn records findAnswer tapeAfter locateAnswer
 additions-kept buffer additions kept =
-    let empty : Holding buffer 0 [] = record { sound = record { bytes = none-used buffer; rising = tt }; size = refl } in
+    let empty : Holding buffer 0 [] = record { sound = record { bytes = refl; rising = tt }; size = refl } in
     holds-just (holding-all additions empty kept)
   where
-    none-used : (buffer : List ℕ) → bookIn buffer 0 ≡ records []
-    none-used buffer = refl
-
     holds-just : {buffer : List ℕ} {used : ℕ} {fs : List Phrase} → Holding buffer used fs → HoldsJust buffer used fs
     holds-just {fs = fs} h = let e = sound-read (h .sound) in record {
       sound = h .sound;

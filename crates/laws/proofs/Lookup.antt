@@ -48,7 +48,6 @@ behind-head f c = take-at (f .codes) c (length (f .codes)) refl
 -- The tape that is found stands in the book where startOf tells.
 pub record StandsAt (book : List ℕ) (start : ℕ) (t : List ℕ) : Type 0 where
   pub inside : start + length t ≤ length book
-  pub head : headSize ≤ start
   pub bytes : (c : List ℕ) → take (length t) (drop start (book ++ c)) ≡ t
 
 pub found-stands : (n : ℕ) (t : List ℕ) (fs : List Phrase) → search fs n ≡ entry t → StandsAt (records fs) (startOf fs n) t
@@ -61,14 +60,12 @@ found-stands n t (f ∷ fs) h = either (eqb (f .number) n)
     here : StandsAt (recordOf f ++ records fs) headSize (f .codes)
     here = record {
       inside = omega (arith, length-append (recordOf f) (records fs), record-size f);
-      head = omega arith;
       bytes = λ c. rw (append-assoc (recordOf f) (records fs) c) (behind-head f (records fs ++ c));
     }
 
     later : StandsAt (records fs) (startOf fs n) t → StandsAt (recordOf f ++ records fs) (length (recordOf f) + startOf fs n) t
     later s = record {
       inside = omega (arith, length-append (recordOf f) (records fs), s .inside);
-      head = omega (arith, s .head);
       bytes = λ c. rw (append-assoc (recordOf f) (records fs) c, drop-append-add (recordOf f) (records fs ++ c) (startOf fs n)) (s .bytes c);
     }
 
@@ -79,11 +76,18 @@ none-found n fs h = which (search fs n) refl where
   which none e = e
   which (entry t) e = absurd (h t (found-listed n t fs e))
 
--- The ways in which a lookup ends.
-pub data Ended (book : List ℕ) (n : ℕ) (old new : List ℕ) (r : Found) : Type 0 where
-  gave : (t : List ℕ) → Has book n t → r ≡ Tape → new ≡ t → Ended book n old new r
-  missed : HasNone book n → r ≡ Missing → new ≡ old → Ended book n old new r
-  refusedBy : (k p : ℕ) → BookDue book k p → r ≡ Refused (refusal k p) → new ≡ old → Ended book n old new r
+-- What a book is to a lookup: it has a tape under the number, it has none, or one of its numbers is due.
+data Standing (book : List ℕ) (n : ℕ) : Type 0 where
+  hasTape : (t : List ℕ) → Has book n t → Standing book n
+  hasNone : HasNone book n → Standing book n
+  isDue : (k p : ℕ) → BookDue book k p → Standing book n
+
+standing : (book : List ℕ) (n : ℕ) → Judged book → Standing book n
+standing book n (isSound fs s e) = which (search fs n) refl where
+  which : (q : Search) → search fs n ≡ q → Standing book n
+  which none f = hasNone (record { phrases = fs; sound = s; none = λ t l. no-entry (sym f ∙ listed-found 0 n t fs (s .rising) l) })
+  which (entry t) f = hasTape t (record { phrases = fs; sound = s; has = found-listed n t fs f })
+standing book n (isRefused k p range d e) = isDue k p d
 
 -- what is told, in numbers
 abbrev wayOf : Found → ℕ
@@ -121,35 +125,31 @@ module _ (book : List ℕ) (b : Bytes book) (n : ℕ) (old new : List ℕ) (r : 
   unfolding findAnswer tapeAfter
   due-refused k p d = let e = due-read b d in (answer ∙ rw e refl, tape ∙ rw e refl)
 
-  -- and one of them is
-  ended : Judged book → Ended book n old new r
-  ended (isSound fs s e) = which (search fs n) refl where
-    which : (q : Search) → search fs n ≡ q → Ended book n old new r
-    which none f =
-        let h : HasNone book n = record { phrases = fs; sound = s; none = λ t l. no-entry (sym f ∙ listed-found 0 n t fs (s .rising) l) } in
-        let w = due-missed h in missed h (w .0) (w .1)
-    which (entry t) f = let h : Has book n t = record { phrases = fs; sound = s; has = found-listed n t fs f } in let w = due-gave t h in gave t h (w .0) (w .1)
-  ended (isRefused k p range d e) = let w = due-refused k p d in refusedBy k p d (w .0) (w .1)
-
-  -- so it is exact
+  -- and one of them is, so it is exact
   pub looks-up : LooksUp book n old new r
-  looks-up = exact (ended (judge book b)) where
-    exact : Ended book n old new r → LooksUp book n old new r
-    exact (gave t h e f) = record {
-      gives = λ u. (λ q. rw (sym (q .1) ∙ f) h, due-gave u);
-      misses = (λ q. absurd (omega (arith, ap wayOf (sym e ∙ q .0))), due-missed);
-      refuses = λ k p. (λ q. absurd (omega (arith, ap wayOf (sym e ∙ q .0))), due-refused k p);
-    }
-    exact (missed h e f) = record {
-      gives = λ u. (λ q. absurd (omega (arith, ap wayOf (sym e ∙ q .0))), due-gave u);
-      misses = (λ q. h, due-missed);
-      refuses = λ k p. (λ q. absurd (omega (arith, ap wayOf (sym e ∙ q .0))), due-refused k p);
-    }
-    exact (refusedBy k p d e f) = record {
-      gives = λ u. (λ q. absurd (omega (arith, ap wayOf (sym e ∙ q .0))), due-gave u);
-      misses = (λ q. absurd (omega (arith, ap wayOf (sym e ∙ q .0))), due-missed);
-      refuses = λ i j. (λ q. rw (← ap numberTold (sym e ∙ q .0), ← ap placeTold (sym e ∙ q .0)) d, due-refused i j);
-    }
+  looks-up = exact (standing book n (judge book b)) where
+    exact : Standing book n → LooksUp book n old new r
+    exact (hasTape t h) =
+        let w = due-gave t h in
+        record {
+          gives = λ u. (λ q. rw (sym (q .1) ∙ w .1) h, due-gave u);
+          misses = (λ q. absurd (omega (arith, ap wayOf (sym (w .0) ∙ q .0))), due-missed);
+          refuses = λ k p. (λ q. absurd (omega (arith, ap wayOf (sym (w .0) ∙ q .0))), due-refused k p);
+        }
+    exact (hasNone h) =
+        let w = due-missed h in
+        record {
+          gives = λ u. (λ q. absurd (omega (arith, ap wayOf (sym (w .0) ∙ q .0))), due-gave u);
+          misses = (λ q. h, due-missed);
+          refuses = λ k p. (λ q. absurd (omega (arith, ap wayOf (sym (w .0) ∙ q .0))), due-refused k p);
+        }
+    exact (isDue k p d) =
+        let w = due-refused k p d in
+        record {
+          gives = λ u. (λ q. absurd (omega (arith, ap wayOf (sym (w .0) ∙ q .0))), due-gave u);
+          misses = (λ q. absurd (omega (arith, ap wayOf (sym (w .0) ∙ q .0))), due-missed);
+          refuses = λ i j. (λ q. rw (← ap numberTold (sym (w .0) ∙ q .0), ← ap placeTold (sym (w .0) ∙ q .0)) d, due-refused i j);
+        }
 
 -- What is told by place keeps its promise: the bytes there are the tape, and they lie in the buffer.
 module _ (buffer : List ℕ) (used n : ℕ) (b : Bytes buffer) where

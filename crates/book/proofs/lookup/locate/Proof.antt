@@ -20,9 +20,7 @@ locate-spec =
     (λ c κs. search needs) (λ c. search needs) (λ c. search needs)
     (λ c.
     let w = c .before .before .before in
-    let s = w .before .before .before .before in
     locate-promised _ _ _ (λ j. omega (arith, w .before .before .before .shared-slice-known .given j)) (sym (walked-sound _ _ 0 (Written 0 0) (sym (walked w) ∙ c .before .c .given .1) .0)))
     (λ c.
     let w = c .before .before .before in
-    let s = w .before .before .before .before in
     locate-promised _ _ _ (λ j. omega (arith, w .before .before .before .shared-slice-known .given j)) (sym (walked-unsound _ _ 0 (Written 0 0) (sym (walked w) ∙ c .before .r .given .1) .0))))

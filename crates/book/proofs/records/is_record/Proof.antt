@@ -16,4 +16,4 @@ is-record-spec =
     let s = m .before .before .before in
     let l = length-drop (s .args .i) (s .args .x .now) in
     rw (c .span-at .ensures .0) (record-by-length (drop (s .args .i) (s .args .x .now)) _ (sym (m .is-marked .ensures) ∙ c .before .if2 .taken) (omega (arith, l, m .before .if1 .left)) (sym l)))
-    (λ c. let m = c .before in let s = m .before .before .before in sym (no-record _ (λ r. false≢true (sym (c .if2 .left) ∙ m .is-marked .ensures ∙ r .mark)))))
+    (λ c. let m = c .before in sym (no-record _ (λ r. false≢true (sym (c .if2 .left) ∙ m .is-marked .ensures ∙ r .mark)))))
