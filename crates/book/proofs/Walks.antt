@@ -1,9 +1,9 @@
 -- The walk over a book, place by place: what is read at a place of the bytes is what stands at the start of the bytes from there on.
-use Rattle.laws.proofs.Kit.{ℕ, suc, _+_, _-_, _*_, _<_, _≤_, _≡_, refl, sym, ap, _∙_, true, false, cond, _&&_, and-true, List, [], _∷_, add-one, arith, eqb, leb, length, drop, getD, getD-drop, length-drop, length-take-le, take-all, drop-of-length-le, drop-drop, le-leb, lt-leb, eqb-true, eqb-false, ne-eqb, eq-eqb}
+use Rattle.laws.proofs.Kit.{ℕ, suc, _+_, _-_, _*_, _<_, _≤_, _≡_, refl, sym, ap, _∙_, true, false, ⊎-elim, cond, _&&_, and-true, List, [], _∷_, add-one, arith, eqb, leb, length, drop, getD, getD-drop, length-drop, length-take-le, take-all, drop-of-length-le, drop-drop, le-leb, lt-leb, eqb-true, eqb-false, ne-eqb, eq-eqb}
 use Rattle.spec.specs.Book.{Phrase, recordOf, headSize, recordMark, pairAt, numberIn, lengthIn, spanIn, phraseIn, hasRecordMark, isWhole, isRecord, row15, row16, bookIn, Reading, holds, unsound, _then_, readFrom, readBook, search, startOf, placed, locateAnswer, leastAfter, afterBook, RisingFrom}
 use Rattle.spec.specs.{Utf8.same, Refusals.refusal, declared.Refusal.Refusal, declared.Answer.Answer, declared.Answer.the-variants.Refused}
 use Rattle.spec.specs.declared.Located.the-variants as located
-use Rattle.laws.proofs.{Classes.either, Classes.refuted, Book.Stands, Book.record-stands, Book.stands-15, Book.read-15, Book.read-16, Book.read-record, Book.Bytes, Book.Judged, Book.isSound, Book.isRefused, Book.judge, Book.record-size}
+use Rattle.laws.proofs.{Classes.either, Classes.refuted, Classes.below-or, Book.Stands, Book.record-stands, Book.stands-15, Book.read-15, Book.read-16, Book.read-record, Book.Bytes, Book.Judged, Book.isSound, Book.isRefused, Book.judge, Book.record-size}
 use Rattle.book.specs.Walking.{EndOf, walkedOf, noted, toldBy}
 use Rattle.book.specs.{declared.Contents.Contents, declared.Seen.Seen, declared.Walked.Walked, declared.Walked.the-variants.Sound, declared.Walked.the-variants.Unsound}
 
@@ -36,10 +36,15 @@ pair-behind x i k = let e : i + suc k ≡ suc (i + k) = omega arith in rw (getD-
 pub no-record : (x : List ℕ) → (Stands x → ⊥) → isRecord x ≡ false
 no-record x h = refuted (isRecord x) (λ q. h (record-stands x q))
 
--- and behind a head with its mark the length tells
-pub record-by-length : (x : List ℕ) (k : ℕ) → hasRecordMark x ≡ true → headSize ≤ length x → k ≡ length x → leb (spanIn x) k ≡ isRecord x
+-- and behind a head with its mark its end tells
+pub record-by-end : (x : List ℕ) (i : ℕ) → hasRecordMark (drop i x) ≡ true → i + headSize ≤ length x → leb (i + spanIn (drop i x)) (length x) ≡ isRecord (drop i x)
 unfolding isRecord isWhole
-record-by-length x k m h e = rw (e, m, le-leb headSize (length x) h) refl
+record-by-end x i m h =
+    let s = spanIn (drop i x) in
+    let l = length-drop i x in
+    rw (m, le-leb headSize (length (drop i x)) (omega (arith, l, h)))
+    (⊎-elim (λ q. rw (lt-leb (i + s) (length x) q, lt-leb s (length (drop i x)) (omega (arith, l, q, h))) refl)
+    (λ q. rw (le-leb (i + s) (length x) q, le-leb s (length (drop i x)) (omega (arith, l, q))) refl) (below-or (length x) (i + s)))
 
 -- the end of a book: the used count, or the buffer's end before it
 pub end-at : (buffer : List ℕ) (used : ℕ) → used ≤ length buffer → EndOf buffer used used

@@ -32,12 +32,12 @@ fn is_marked(x: &[u8], i: usize) -> bool
     pair_at(x, i) == MARK
 }
 
-// How many bytes the record at place i has by its head, with the head.
-fn span_at(x: &[u8], i: usize) -> usize
+// Where the record at place i ends by its head.
+fn end_at(x: &[u8], i: usize) -> usize
     requires { ⌜ i + headSize ≤ length (now x) ⌝ }
-    ensures { λ r. ⌜ (r ≡ spanIn (drop i (now (x .entry)))) × (r < 65542) ⌝ }
+    ensures { λ r. ⌜ r ≡ i + spanIn (drop i (now (x .entry))) ⌝ }
 {
-    HEAD_SIZE + pair_at(x, i + LENGTH)
+    i + HEAD_SIZE + pair_at(x, i + LENGTH)
 }
 
 // Does a record stand at place i, with its mark, its head and its whole tape?
@@ -45,12 +45,11 @@ pub fn is_record(x: &[u8], i: usize) -> bool
     requires { ⌜ i ≤ length (now x) ⌝ }
     ensures { λ r. ⌜ r ≡ isRecord (drop i (now (x .entry))) ⌝ }
 {
-    let left = x.len() - i;
-    if left < HEAD_SIZE {
+    if x.len() < i + HEAD_SIZE {
         return false;
     }
     if is_marked(x, i) {
-        return span_at(x, i) <= left;
+        return end_at(x, i) <= x.len();
     }
     false
 }

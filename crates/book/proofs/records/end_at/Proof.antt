@@ -1,0 +1,14 @@
+-- The length stands in the head.
+use Rattle.laws.proofs.Kit.{_∙_, arith, needs}
+use Rattle.spec.specs.Book.{lengthPlace}
+use Rattle.book.proofs.Walks.{pair-behind}
+use Rattle.book.proofs.records.end_at.Statement.{statement}
+use Rattle.book.proofs.records.end_at.Tie as tie
+
+pub end-at-spec : {M : Type 1} → statement M
+end-at-spec =
+    tie.close
+    (tie.spec
+    (λ c. search needs) (λ c. search needs) (λ c κs. search needs)
+    (λ c. omega (arith, c .pair-at .ensures .1))
+    (λ c. let s = c .before .before in omega (arith, c .pair-at .ensures .0 ∙ pair-behind (s .args .x .now) (s .args .i) lengthPlace)))
