@@ -33,7 +33,7 @@ fn is_marked(x: &[u8], i: usize) -> bool
 }
 
 // Where the record at place i ends by its head.
-fn end_at(x: &[u8], i: usize) -> usize
+fn record_end(x: &[u8], i: usize) -> usize
     requires { ⌜ i + headSize ≤ length (now x) ⌝ }
     ensures { λ r. ⌜ r ≡ i + spanIn (drop i (now (x .entry))) ⌝ }
 {
@@ -49,7 +49,7 @@ pub fn is_record(x: &[u8], i: usize) -> bool
         return false;
     }
     if is_marked(x, i) {
-        return end_at(x, i) <= x.len();
+        return record_end(x, i) <= x.len();
     }
     false
 }

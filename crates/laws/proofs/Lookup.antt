@@ -190,13 +190,5 @@ find-promised {buffer} {used} {n} old k =
     record { answer = ap toldOf (k .answer) ∙ sym (w .0); tape = rw (k .tape) (rw (k .answer) (sym (w .1))) }
 
 -- so what holds of the one holds of the other
-kept-part : (r : Located) (buffer : List ℕ) → keptBy r (partAt r buffer) [] ≡ partAt r buffer
-unfolding partAt
-kept-part (located.At start k) buffer = refl
-kept-part located.Missing buffer = refl
-kept-part (located.Refused r) buffer = refl
-
 pub locate-looks-up : (buffer : List ℕ) (used n : ℕ) → Bytes buffer → (r : Located) → LocatePromise buffer used n r → LooksUp (bookIn buffer used) n [] (partAt r buffer) (toldOf r)
-locate-looks-up buffer used n b r k =
-    let f = find-promised [] k in
-    looks-up (bookIn buffer used) (bytes-in buffer used b) n [] (partAt r buffer) (toldOf r) (f .answer) (sym (kept-part r buffer) ∙ f .tape)
+locate-looks-up buffer used n b r k = looks-up (bookIn buffer used) (bytes-in buffer used b) n [] (partAt r buffer) (toldOf r) (find-promised [] k .answer) (k .tape)

@@ -13,5 +13,5 @@ is-record-spec =
     (λ c κs. search needs) (λ c κs. search needs)
     (λ c.
     let m = c .before .before in
-    rw (c .end-at .ensures) (record-by-end _ _ (sym (m .is-marked .ensures) ∙ c .before .if2 .taken) (m .before .if1 .left)))
+    rw (c .record-end .ensures) (record-by-end _ _ (sym (m .is-marked .ensures) ∙ c .before .if2 .taken) (m .before .if1 .left)))
     (λ c. let m = c .before in sym (no-record _ (λ r. false≢true (sym (c .if2 .left) ∙ m .is-marked .ensures ∙ r .mark)))))

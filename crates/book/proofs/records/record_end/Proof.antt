@@ -2,11 +2,11 @@
 use Rattle.laws.proofs.Kit.{_∙_, arith, needs}
 use Rattle.spec.specs.Book.{lengthPlace}
 use Rattle.book.proofs.Walks.{pair-behind}
-use Rattle.book.proofs.records.end_at.Statement.{statement}
-use Rattle.book.proofs.records.end_at.Tie as tie
+use Rattle.book.proofs.records.record_end.Statement.{statement}
+use Rattle.book.proofs.records.record_end.Tie as tie
 
-pub end-at-spec : {M : Type 1} → statement M
-end-at-spec =
+pub record-end-spec : {M : Type 1} → statement M
+record-end-spec =
     tie.close
     (tie.spec
     (λ c. search needs) (λ c. search needs) (λ c κs. search needs)
