@@ -6,12 +6,10 @@ use mathlib.Core.Bool.{cond}
 use mathlib.Core.List.{List}
 use lib.Dec.{eqb}
 use lib.ListN.{length, take}
-use Rattle.spec.specs.Book.{headSize, Reading, holds, unsound, readBook, bookIn, search, startOf, placed, leastAfter, afterBook}
+use Rattle.spec.specs.Book.{headSize, Reading, holds, unsound, bookIn, search, startOf, placed, leastAfter}
 use Rattle.spec.specs.Tape.{tape}
 use Rattle.message.specs.Places.{Steady}
 use Rattle.spec.specs.declared.Located.the-variants.{At, Missing}
-use Rattle.spec.specs.declared.Answer.{Answer}
-use Rattle.spec.specs.declared.Answer.the-variants.{Written, Refused}
 use Rattle.book.specs.declared.Contents.{Contents}
 use Rattle.book.specs.declared.Seen.{Seen}
 use Rattle.book.specs.declared.Walked.{Walked}
@@ -34,15 +32,6 @@ noted s wanted number start size = record { least = number + 1; start = cond (eq
 -- what that tells of a whole book
 abbrev pub toldBy : Seen → Contents
 toldBy s = record { least = s .least; found = cond (eqb (s .start) 0) Missing (At (s .start) (s .length)) }
-
--- a refusal, or what is answered where there is none
-unfoldable pub unlessRefused : Answer → Answer → Answer
-unlessRefused (Written k live) a = a
-unlessRefused (Refused x) a = Refused x
-
--- r tells whether the book refuses an addition under number n, whatever else would be answered
-pub record Judges (book : List ℕ) (n : ℕ) (r : Answer) : Type 0 where
-  pub whatever : (a : Answer) → afterBook (readBook book) n (length book) a ≡ unlessRefused r a
 
 -- a head may be written at place i, for number n and a tape of so many codes
 pub record HeadDue (out : List ℕ) (i n size : ℕ) : Type 0 where

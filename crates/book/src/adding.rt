@@ -1,7 +1,9 @@
 // Additions (paper 02, request 6).
-ghost use Rattle.spec.specs.Book.{phraseOf, recordOf, AddPromise};
+ghost use mathlib.Core.Path.{_≡_};
+ghost use lib.ListN.{length};
+ghost use Rattle.spec.specs.Book.{readBook, afterBook, phraseOf, recordOf, AddPromise};
 ghost use Rattle.laws.proofs.Putting.{Put};
-ghost use Rattle.book.specs.Walking.{Judges, RecordDue};
+ghost use Rattle.book.specs.Walking.{RecordDue};
 use crate::Walked;
 use crate::reading::book_end;
 use crate::reading::walk;
@@ -18,7 +20,7 @@ use transcriber::tape::write_tape;
 
 // The book's refusals of an addition under a number: 15 and 16 of its records, and 16 at its end where the number is not above the last. Where none is due it answers a writing of nothing.
 fn judge(book: &[u8], number: usize) -> Answer
-    ensures { λ r. ⌜ Judges (now (book .entry)) number r ⌝ }
+    ensures { λ r. ⌜ r ≡ afterBook (readBook (now (book .entry))) number (length (now (book .entry))) (Answer.Written 0 0) ⌝ }
 {
     match walk(book, number) {
         Walked::Sound(c) => {
