@@ -852,8 +852,14 @@ baseline_answer baseline_speak_level(int32_t level, uint8_t *out, size_t cap)
     return (baseline_answer){.length = (uint32_t)length};
 }
 
-/* A record of a book: a mark, a number and its tape's length, each of two bytes with the low one first, and the tape. */
-enum { RECORD_MARK = 0x9E52, NUMBER_AT = 2, LENGTH_AT = 4, HEAD_BYTES = 6, NO_PHRASE = 0x10000 };
+/*
+ * A record of a book: a mark, a number, a set of listeners, its tape's length, and the tape. The set is one byte; the others before the tape
+ * are two bytes each, with the low one first.
+ */
+enum { RECORD_MARK = 0x9F52, NUMBER_AT = 2, SET_AT = 4, LENGTH_AT = 5, HEAD_BYTES = 7, NO_PHRASE = 0x10000 };
+
+/* The last of the three listeners, who alone adds. */
+enum { DISPATCH = 2 };
 
 static uint32_t two_bytes(const uint8_t *p)
 {
@@ -898,13 +904,18 @@ IN_LINE struct passage pass_records(const uint8_t *p, size_t left, uint32_t phra
     return (struct passage){.record = record, .least = least};
 }
 
-baseline_found baseline_book_find(const uint8_t *book, size_t size, size_t used, uint16_t phrase)
+static bool hears(uint32_t listener, uint32_t set)
+{
+    return listener <= DISPATCH && (set >> listener & 1) != 0;
+}
+
+baseline_found baseline_book_find(uint32_t listener, const uint8_t *book, size_t size, size_t used, uint16_t phrase)
 {
     struct passage passage = pass_records(book, used < size ? used : size, phrase);
     if (passage.number)
         return (baseline_found){.number = passage.number, .place = (size_t)(passage.stop - book)};
-    if (!passage.record)
-        return (baseline_found){.found = 0};
+    if (!passage.record || !hears(listener, passage.record[SET_AT]))
+        return (baseline_found){.number = 17};
     const uint8_t *tape = passage.record + HEAD_BYTES;
     return (baseline_found){.found = 1, .start = (size_t)(tape - book), .length = two_bytes(passage.record + LENGTH_AT)};
 }
@@ -914,9 +925,25 @@ static baseline_added not_added(uint32_t number, size_t place)
     return (baseline_added){.number = number, .place = place};
 }
 
-/* The tape is written where it is to stay, behind the head, once nothing can be refused any more. */
-baseline_added baseline_book_add(uint8_t *book, size_t size, size_t used, uint16_t phrase, const uint8_t *msg, size_t len)
+/*
+ * Writes a record with the tape of an accepted message, which has so many codes; the tape goes to where it is to stay, behind the head.
+ * Not in line: beside the arguments of the addition there were too few registers for the second pass.
+ */
+__attribute__((noinline))
+static void write_record(uint32_t phrase, uint8_t set, const uint8_t *msg, size_t len, uint32_t codes, uint8_t *w)
 {
+    w = write_two_bytes(RECORD_MARK, w);
+    w = write_two_bytes(phrase, w);
+    *w++ = set;
+    w = write_two_bytes(codes, w);
+    write_tape(msg, msg + len, NULL, 0, w + codes);
+}
+
+baseline_added baseline_book_add(uint32_t listener, uint8_t *book, size_t size, size_t used, uint16_t phrase, uint8_t set,
+                                 const uint8_t *msg, size_t len)
+{
+    if (listener != DISPATCH)
+        return not_added(17, 0);
     baseline_counts counts = baseline_check(msg, len);
     if (counts.number)
         return not_added(counts.number, counts.place);
@@ -928,9 +955,6 @@ baseline_added baseline_book_add(uint8_t *book, size_t size, size_t used, uint16
         return not_added(16, end);
     if (longer > size)
         return not_added(11, longer);
-    uint8_t *w = write_two_bytes(RECORD_MARK, book + end);
-    w = write_two_bytes(phrase, w);
-    w = write_two_bytes(counts.codes, w);
-    write_tape(msg, msg + len, NULL, 0, w + counts.codes);
+    write_record(phrase, set, msg, len, counts.codes, book + end);
     return (baseline_added){.used = longer};
 }

@@ -41,7 +41,8 @@ baseline_text baseline_edit(const uint8_t *text, size_t len, uint8_t *out, size_
 baseline_text baseline_read_utf8(const uint8_t *text, size_t len, uint8_t *out, size_t cap);
 baseline_answer baseline_write_utf8(const uint8_t *msg, size_t len, uint8_t *out, size_t cap);
 baseline_answer baseline_speak_level(int32_t level, uint8_t *out, size_t cap);
-baseline_added baseline_book_add(uint8_t *book, size_t size, size_t used, uint16_t phrase, const uint8_t *msg, size_t len);
-baseline_found baseline_book_find(const uint8_t *book, size_t size, size_t used, uint16_t phrase);
+baseline_added baseline_book_add(uint32_t listener, uint8_t *book, size_t size, size_t used, uint16_t phrase, uint8_t set,
+                                 const uint8_t *msg, size_t len);
+baseline_found baseline_book_find(uint32_t listener, const uint8_t *book, size_t size, size_t used, uint16_t phrase);
 
 #endif

@@ -22,7 +22,7 @@
 enum { MAX_BYTES = 65536, MAX_CUTS = 4096 / 2, OUT_BYTES = 2 * MAX_BYTES, FILLER = 0xAA };
 enum { MAX_LEVEL = 9999, MAX_LEVELS = 2 * MAX_LEVEL + 1, LEVEL_ROOM = 64, LEVEL_BYTES = 2 * LEVEL_ROOM };
 /* A phrase has its least bytes and more by chance, and then the rest of a word: at most 60. Its tape has at most twice as many. */
-enum { PHRASE_LEAST = 20, PHRASE_MORE = 24, PHRASE_BYTES = 60, RECORD_HEAD = 6, RECORD_BYTES = RECORD_HEAD + 2 * PHRASE_BYTES };
+enum { PHRASE_LEAST = 20, PHRASE_MORE = 24, PHRASE_BYTES = 60, RECORD_HEAD = 7, RECORD_BYTES = RECORD_HEAD + 2 * PHRASE_BYTES };
 enum { MAX_RECORDS = 5000, NUMBER_STEP = 13, BOOK_BYTES = (MAX_RECORDS + 1) * RECORD_BYTES };
 enum { ROUNDS = 40, ROUND_NS = 200000 };
 
@@ -107,7 +107,8 @@ enum operation {
     NOTHING, CHECK, NAME, TRANSCRIBE, JOIN_NO_CUT, JOIN_ALL_CUTS, EDIT, EDIT_JUST_ROOM, EDIT_NO_ROOM,
     READ, READ_JUST_ROOM, READ_NO_ROOM, READ_REFUSED, WRITE, WRITE_JUST_ROOM, WRITE_NO_ROOM,
     SPEAK, SPEAK_JUST_ROOM, SPEAK_REFUSED,
-    FIND_FIRST, FIND_MIDDLE, FIND_LAST, FIND_NONE, FIND_DAMAGED, ADD, ADD_TOO_SHORT, ADD_NOT_ABOVE, OPERATIONS
+    FIND_FIRST, FIND_MIDDLE, FIND_LAST, FIND_NONE, FIND_NOT_HEARD, FIND_DAMAGED,
+    ADD, ADD_TOO_SHORT, ADD_NOT_ABOVE, ADD_NOT_DISPATCH, OPERATIONS
 };
 
 struct spoken {
@@ -117,8 +118,10 @@ struct spoken {
 
 /* What a call is given beside the book's bytes, and beside the message that it may add. */
 struct book_call {
+    uint32_t listener;
     size_t size, used;
     uint16_t phrase;
+    uint8_t set; /* of a phrase that is added */
 };
 
 struct message {
@@ -134,7 +137,7 @@ struct message {
     size_t records;                   /* of the book, where there is one; the message is then what is added to it */
     struct book_call calls[OPERATIONS];
     const char *name;
-    /* What costs are divided by: its bytes; the bytes of all words of its levels; how many these are, if refused; or its records. */
+    /* What costs are divided by: its bytes; the bytes of all words of its levels; how many these are, if refused; its records; or 1. */
     size_t units;
     int uses;
 };
@@ -147,12 +150,13 @@ struct list {
 /*
  * What operations a case is for. A text with punctuation is for the editor or the reader alone: all else would refuse it. Levels are
  * apart from all of these: spoken with room for any, with just room, or outside the range. So are books, for which costs are divided by
- * their records in a lookup and by the message's bytes in an addition.
+ * their records in a lookup, by the message's bytes in an addition, and by 1 in one by a listener who may not add: it looks at neither.
  */
 enum {
     FOR_MESSAGES = 1, FOR_EDITOR = 2, FOR_READER = 4, FOR_WRITER = 8,
     FOR_SPEAKER = 16, FOR_SHORT_OUTPUT = 32, FOR_REFUSAL = 64, FOR_LEVELS = FOR_SPEAKER | FOR_SHORT_OUTPUT | FOR_REFUSAL,
-    FOR_LOOKUP = 128, FOR_ADDITION = 256, FOR_BOOKS = FOR_LOOKUP | FOR_ADDITION, FOR_ALL = 511
+    FOR_LOOKUP = 128, FOR_ADDITION = 256, FOR_BARRED_ADDITION = 512, FOR_BOOKS = FOR_LOOKUP | FOR_ADDITION | FOR_BARRED_ADDITION,
+    FOR_ALL = 1023
 };
 
 struct test_case {
@@ -290,6 +294,7 @@ static const struct book_case book_cases[] = {
     {"empty book", 0, FOR_ADDITION},
     {"book 30", 30, FOR_ADDITION},
     {"book 5000", MAX_RECORDS, FOR_ADDITION},
+    {"book 30", 30, FOR_BARRED_ADDITION},
 };
 
 /*
@@ -323,11 +328,13 @@ static const struct {
     [FIND_FIRST] = {"find first", FOR_LOOKUP, 1, 0},
     [FIND_MIDDLE] = {"find middle", FOR_LOOKUP, 1, 0},
     [FIND_LAST] = {"find last", FOR_LOOKUP, 1, 0},
-    [FIND_NONE] = {"find none", FOR_LOOKUP, 1, 0},
+    [FIND_NONE] = {"find none", FOR_LOOKUP, 1, 17},
+    [FIND_NOT_HEARD] = {"find not heard", FOR_LOOKUP, 1, 17},
     [FIND_DAMAGED] = {"find damaged", FOR_LOOKUP, 1, 15},
     [ADD] = {"add", FOR_ADDITION, 1, 0},
     [ADD_TOO_SHORT] = {"add too short", FOR_ADDITION, 1, 11},
     [ADD_NOT_ABOVE] = {"add not above", FOR_ADDITION, 1, 16},
+    [ADD_NOT_DISPATCH] = {"add not dispatch", FOR_BARRED_ADDITION, 1, 17},
 };
 
 /* No output is too short for an edit of breaks alone, and every number is above those of an empty book. */
@@ -413,43 +420,45 @@ static size_t room(enum operation operation, enum operation plain, size_t most, 
         return library##_answer_of(library##_speak_level(level, out, cap));                                     \
     }                                                                                                           \
     __attribute__((noipa))                                                                                      \
-    static library##_found library##_find_nothing(const uint8_t *book, size_t size, size_t used,                \
-                                                  uint16_t phrase)                                              \
+    static library##_found library##_find_nothing(uint32_t listener, const uint8_t *book, size_t size,          \
+                                                  size_t used, uint16_t phrase)                                 \
     {                                                                                                           \
-        (void)book, (void)size, (void)used, (void)phrase;                                                       \
+        (void)listener, (void)book, (void)size, (void)used, (void)phrase;                                       \
         return (library##_found){0, 0, 0, 0, 0};                                                                \
     }                                                                                                           \
     static struct result library##_run_find(enum operation operation, const struct message *m, uint8_t *book)   \
     {                                                                                                           \
-        library##_found (*find)(const uint8_t *, size_t, size_t, uint16_t) =                                    \
+        library##_found (*find)(uint32_t, const uint8_t *, size_t, size_t, uint16_t) =                          \
             operation == NOTHING ? library##_find_nothing : library##_book_find;                                \
         const struct book_call *c = &m->calls[operation];                                                       \
-        library##_found f = find(book, c->size, c->used, c->phrase);                                            \
+        library##_found f = find(c->listener, book, c->size, c->used, c->phrase);                               \
         return (struct result){f.number, (uint32_t)f.place, (uint32_t)f.start, (uint32_t)f.length};             \
     }                                                                                                           \
     __attribute__((noipa))                                                                                      \
-    static library##_added library##_add_nothing(uint8_t *book, size_t size, size_t used, uint16_t phrase,      \
-                                                 const uint8_t *msg, size_t len)                                \
+    static library##_added library##_add_nothing(uint32_t listener, uint8_t *book, size_t size, size_t used,    \
+                                                 uint16_t phrase, uint8_t set, const uint8_t *msg, size_t len)  \
     {                                                                                                           \
-        (void)book, (void)size, (void)used, (void)phrase, (void)msg, (void)len;                                 \
+        (void)listener, (void)book, (void)size, (void)used, (void)phrase, (void)set, (void)msg, (void)len;      \
         return (library##_added){0, 0, 0};                                                                      \
     }                                                                                                           \
     static struct result library##_run_add(enum operation operation, const struct message *m, uint8_t *book)    \
     {                                                                                                           \
-        library##_added (*add)(uint8_t *, size_t, size_t, uint16_t, const uint8_t *, size_t) =                  \
+        library##_added (*add)(uint32_t, uint8_t *, size_t, size_t, uint16_t, uint8_t, const uint8_t *,         \
+                               size_t) =                                                                        \
             operation == NOTHING ? library##_add_nothing : library##_book_add;                                  \
         const struct book_call *c = &m->calls[operation];                                                       \
-        library##_added a = add(book, c->size, c->used, c->phrase, m->bytes, m->len);                           \
+        library##_added a = add(c->listener, book, c->size, c->used, c->phrase, c->set, m->bytes, m->len);      \
         return (struct result){a.number, (uint32_t)a.place, (uint32_t)a.used, 0};                               \
     }                                                                                                           \
     static struct book_result library##_book(enum operation operation, const struct book_call *c,               \
                                              const struct message *m, uint8_t *book)                            \
     {                                                                                                           \
         if (operation >= ADD) {                                                                                 \
-            library##_added a = library##_book_add(book, c->size, c->used, c->phrase, m->bytes, m->len);        \
+            library##_added a = library##_book_add(c->listener, book, c->size, c->used, c->phrase, c->set,      \
+                                                   m->bytes, m->len);                                           \
             return (struct book_result){a.number, 0, a.place, 0, 0, a.used};                                    \
         }                                                                                                       \
-        library##_found f = library##_book_find(book, c->size, c->used, c->phrase);                             \
+        library##_found f = library##_book_find(c->listener, book, c->size, c->used, c->phrase);                \
         return (struct book_result){f.number, f.found, f.place, f.start, f.length, 0};                          \
     }                                                                                                           \
     static struct result library##_run(enum operation operation, const struct message *m, uint8_t *out)         \
@@ -566,15 +575,25 @@ static uint16_t number_of(size_t record)
     return (uint16_t)(NUMBER_STEP * record);
 }
 
+/* Road crews may hear each phrase and pump crews none; all other bits come by turns. */
+static uint8_t set_of(size_t record)
+{
+    return (uint8_t)(record << 2 | GOVORUN_FOR_ROAD);
+}
+
 /* The calls for a book with so many bytes used, in a buffer with room for more. A book is damaged where its last byte is missing. */
 static void plan_calls(struct message *message, size_t used)
 {
     struct book_call *calls = message->calls;
     size_t records = message->records;
-    for (int operation = NOTHING; operation < OPERATIONS; operation++)
-        calls[operation] = (struct book_call){BOOK_BYTES, used, number_of(records)};
+    for (int operation = NOTHING; operation < OPERATIONS; operation++) {
+        uint32_t listener = operation < ADD ? GOVORUN_ROAD : GOVORUN_DISPATCH;
+        calls[operation] = (struct book_call){listener, BOOK_BYTES, used, number_of(records), set_of(records)};
+    }
+    calls[FIND_NOT_HEARD].listener = GOVORUN_PUMP;
+    calls[ADD_NOT_DISPATCH].listener = GOVORUN_ROAD;
     calls[FIND_FIRST].phrase = calls[FIND_DAMAGED].phrase = number_of(0);
-    calls[FIND_MIDDLE].phrase = number_of(records / 2);
+    calls[FIND_MIDDLE].phrase = calls[FIND_NOT_HEARD].phrase = number_of(records / 2);
     calls[FIND_NONE].phrase = number_of(records / 2) + 1;
     calls[FIND_LAST].phrase = calls[ADD_NOT_ABOVE].phrase = number_of(records - 1);
     calls[FIND_DAMAGED].used = used - 1;
@@ -589,7 +608,8 @@ static void make_book(struct message *message, const struct book_case *c)
     memset(book_before, FILLER, BOOK_BYTES);
     for (size_t i = 0; i < c->records; i++) {
         fill_phrase(message, &seed);
-        used += baseline_book_add(book_before + used, BOOK_BYTES - used, 0, number_of(i), message->bytes, message->len).used;
+        used += baseline_book_add(GOVORUN_DISPATCH, book_before + used, BOOK_BYTES - used, 0, number_of(i), set_of(i), message->bytes,
+                                  message->len).used;
     }
     memcpy(books[0], book_before, BOOK_BYTES);
     memcpy(books[1], book_before, BOOK_BYTES);
@@ -597,7 +617,7 @@ static void make_book(struct message *message, const struct book_case *c)
     message->name = c->name;
     message->records = c->records;
     message->uses = c->uses;
-    message->units = c->uses & FOR_LOOKUP ? c->records : message->len;
+    message->units = c->uses & FOR_LOOKUP ? c->records : c->uses & FOR_ADDITION ? message->len : 1;
     plan_calls(message, used);
 }
 
@@ -686,8 +706,8 @@ static struct book_result compare_call(const struct message *message, enum opera
     size_t end = results[0].used, book = c->used < c->size ? c->used : c->size, start = end == 0 ? 0 : book;
     if (memcmp(&results[0], &results[1], sizeof results[0]) != 0 || memcmp(books[0], books[1], bytes) != 0 ||
         memcmp(books[0], book_before, start) != 0 || memcmp(books[0] + end, book_before + end, bytes - end) != 0) {
-        fprintf(stderr, "the two differ, or change what they must keep: %s, phrase %d, in %zu bytes with %zu used\n",
-                operations[operation].name, c->phrase, c->size, c->used);
+        fprintf(stderr, "the two differ, or change what they must keep: %s, listener %u, phrase %d, in %zu bytes with %zu used\n",
+                operations[operation].name, c->listener, c->phrase, c->size, c->used);
         exit(1);
     }
     return results[0];
@@ -707,12 +727,13 @@ static void compare_book(const struct message *message, enum operation operation
 /* Fills a library's book, from an empty one on, by its own additions alone. */
 static void add_phrases(int library, struct message *message, size_t records)
 {
-    struct book_call c = {BOOK_BYTES, 0, 0};
+    struct book_call c = {GOVORUN_DISPATCH, BOOK_BYTES, 0, 0, 0};
     uint32_t seed = 1;
     memset(books[library], FILLER, BOOK_BYTES);
     for (size_t i = 0; i < records; i++) {
         fill_phrase(message, &seed);
         c.phrase = number_of(i);
+        c.set = set_of(i);
         c.used = book_libraries[library](ADD, &c, message, books[library]).used;
     }
 }
@@ -730,13 +751,15 @@ static void compare_additions(struct message *message, const struct book_case *c
     }
 }
 
-/* All calls, with this buffer and used count instead of their own. */
+/* All calls, with this buffer and used count instead of their own, by each listener and by numbers that are none. */
 static void compare_calls(const struct message *message, size_t size, size_t used, size_t bytes)
 {
-    for (int operation = FIND_FIRST; operation <= ADD_NOT_ABOVE; operation++) {
-        struct book_call c = {size, used, message->calls[operation].phrase};
-        compare_call(message, (enum operation)operation, &c, bytes);
-    }
+    static const uint32_t listeners[] = {GOVORUN_PUMP, GOVORUN_ROAD, GOVORUN_DISPATCH, 3, 32, 258, UINT32_MAX};
+    for (int operation = FIND_FIRST; operation < OPERATIONS; operation++)
+        for (size_t i = 0; i < sizeof listeners / sizeof listeners[0]; i++) {
+            struct book_call c = {listeners[i], size, used, message->calls[operation].phrase, message->calls[operation].set};
+            compare_call(message, (enum operation)operation, &c, bytes);
+        }
 }
 
 /* A small book with each used count, in each buffer, with a used count above each, and with each byte damaged, also to equal numbers. */
@@ -770,7 +793,7 @@ static run_function *run_of(int library, const struct message *message)
 {
     if (message->uses & FOR_LOOKUP)
         return find_libraries[library];
-    if (message->uses & FOR_ADDITION)
+    if (message->uses & FOR_BOOKS)
         return add_libraries[library];
     return message->uses & FOR_LEVELS ? level_libraries[library] : libraries[library];
 }

@@ -16,7 +16,8 @@
  * A message is Windows-1251: words with one gap (0x20) or pause ('#') between neighbours, a stress mark ('*') right after a
  * stressed vowel, at most 4,096 bytes. A text in UTF-8 is read first, by govorun_read_utf8, and one with commas and stops is then
  * edited, by govorun_edit. govorun_write_utf8 turns a message back. The words of a level are a message that govorun_speak_level writes.
- * Phrases that are heard daily are kept taped in a book: govorun_book_add adds one, govorun_book_find finds it.
+ * Phrases that are heard daily are kept taped in a book, each for some listeners: govorun_book_add adds one, govorun_book_find finds it for
+ * a listener who may hear it.
  */
 #ifndef GOVORUN_H
 #define GOVORUN_H
@@ -113,12 +114,22 @@ govorun_answer govorun_write_utf8(const uint8_t *msg, size_t len, uint8_t *out, 
 govorun_answer govorun_speak_level(int32_t level, uint8_t *out, size_t cap);
 
 /*
- * A phrase book. A record is the mark 0x52 0x9E, the phrase's number and the length of its tape, two bytes each, low byte first, and then
- * the tape. The book is book[0 .. used), record after record, with numbers that rise strictly; a used count above size is read as size.
- * An empty book has used 0, and its first number may be 0. Both calls below check the whole book, and refuse with
+ * The listeners of a phrase book, of whom each call below names one. For each that may hear a phrase its set has the bit 1 << listener; the
+ * set's other bits are kept as given and passed over. A listener of any other number hears nothing and adds nothing.
+ */
+enum { GOVORUN_PUMP = 0, GOVORUN_ROAD = 1, GOVORUN_DISPATCH = 2 };
+enum { GOVORUN_FOR_PUMP = 1, GOVORUN_FOR_ROAD = 2, GOVORUN_FOR_DISPATCH = 4 };
+
+/*
+ * A phrase book. A record is the mark 0x52 0x9F, the phrase's number, its set of listeners, the length of its tape, and then the tape; the
+ * set is one byte, number and length are two each, low byte first. The book is book[0 .. used), record after record, with numbers that
+ * rise strictly; a used count above size is read as size. An empty book has used 0, and its first number may be 0. Both calls below
+ * refuse with
  *   15  the mark is missing, or the record is cut short     the record's start
  *   16  the number is not above the one before              the record's start; of a phrase to be added, the book's end
- * by the smallest place, 15 before 16 at one place.
+ *   17  not for this listener                               place 0
+ * 15 and 16 by the smallest place of the whole book, 15 before 16 at one place; 17 in a lookup after them, in an addition before every
+ * other check.
  */
 
 /* number 0: added, place 0, and used is the new used count, for the next call. Any other number: refused, used 0. */
@@ -128,15 +139,16 @@ typedef struct {
 } govorun_added;
 
 /*
- * Adds the tape of a message at the end of the book, under a number above the last. 1 to 10 of the message first, then 15 and 16 of the
- * book, then 16 for the number, then 11: size is too small, and the place is the bytes of the book with the addition. At most 6 + 2 * len
- * bytes are added.
+ * Adds the tape of a message at the end of the book, under a number above the last and for the listeners of a set, which may be any byte.
+ * 17 first, unless the listener is GOVORUN_DISPATCH; then 1 to 10 of the message, then 15 and 16 of the book, then 16 for the number, then
+ * 11: size is too small, and the place is the bytes of the book with the addition. At most 7 + 2 * len bytes are added.
  */
-govorun_added govorun_book_add(uint8_t *book, size_t size, size_t used, uint16_t phrase, const uint8_t *msg, size_t len);
+govorun_added govorun_book_add(uint32_t listener, uint8_t *book, size_t size, size_t used, uint16_t phrase, uint8_t set,
+                               const uint8_t *msg, size_t len);
 
 /*
- * number 0, found 1: the tape is book[start .. start + length). number 0, found 0: there is none under this number; place, start and
- * length are 0. Any other number: refused, 15 or 16 at its place; found, start and length are 0.
+ * number 0, place 0, found 1: the tape is book[start .. start + length). Any other number: refused, 15 or 16 at its place or 17 at 0;
+ * found, start and length are 0.
  */
 typedef struct {
     uint32_t number;
@@ -145,8 +157,16 @@ typedef struct {
     size_t start, length;
 } govorun_found;
 
-/* Finds the tape under a number. What stands after the used count makes no difference. */
-govorun_found govorun_book_find(const uint8_t *book, size_t size, size_t used, uint16_t phrase);
+/*
+ * Finds the tape under a number for a listener. 15 and 16 of the book first, then 17, alike where there is no such phrase and where its set
+ * lacks the listener. What stands after the used count makes no difference.
+ *
+ * Two books that are sound, so that neither 15 nor 16 is met, and agree in the numbers and tapes of the phrases that a listener may hear
+ * give him the same answers, however often he asks: number, place, found, length and the tape's bytes. This is not said of start, which
+ * tells where in the book the tape stands, and so how much stands before it: hand a crew the bytes and not the place. Nor is it said of
+ * 15 and 16, which tell of the book's state, nor of the time of a call, which grows with the whole book.
+ */
+govorun_found govorun_book_find(uint32_t listener, const uint8_t *book, size_t size, size_t used, uint16_t phrase);
 
 #ifdef __cplusplus
 }

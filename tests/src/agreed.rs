@@ -59,22 +59,35 @@ pub fn speak_level(level: i32, cap: usize) -> Result<Vec<u8>, Refusal> {
     with_output(Operation::SpeakLevel(level), &[], cap).map(|(words, _)| words)
 }
 
-/// The lookup in a book: the tape of a phrase, if there is one.
-pub fn book_find(buffer: &[u8], used: usize, phrase: u16) -> Result<Option<Vec<u8>>, Refusal> {
-    let tried = Lent::new(buffer, used).lookup(phrase).in_place(buffer);
+/// The lookup in a book: the tape of a phrase, for this listener.
+pub fn book_find(
+    listener: u32,
+    buffer: &[u8],
+    used: usize,
+    phrase: u16,
+) -> Result<Vec<u8>, Refusal> {
+    let lookup = Lent::new(buffer, used).lookup(listener, phrase);
+    let tried = lookup.in_place(buffer);
     let found = tried.unwrap_or_else(|difference| panic!("{difference}"));
-    let tape = || buffer[found.start..][..found.length].to_vec();
     match Refusal::given(found.number, found.place) {
         Some(refusal) => Err(refusal),
-        None => Ok((found.found == 1).then(tape)),
+        None => Ok(buffer[found.start..][..found.length].to_vec()),
     }
 }
 
-/// The addition to a book: the new used count.
-pub fn book_add(buffer: &mut [u8], used: usize, phrase: u16, msg: &[u8]) -> Result<usize, Refusal> {
+/// The addition to a book by this listener: the new used count.
+pub fn book_add(
+    listener: u32,
+    buffer: &mut [u8],
+    used: usize,
+    phrase: u16,
+    set: u8,
+    msg: &[u8],
+) -> Result<usize, Refusal> {
     let before = buffer.to_vec();
     let lent = Lent::new(&before, used);
-    let tried = lent.addition(phrase, msg).in_place(msg, buffer);
+    let addition = lent.addition(listener, phrase, set, msg);
+    let tried = addition.in_place(msg, buffer);
     let added = tried.unwrap_or_else(|difference| panic!("{difference}"));
     match Refusal::given(added.number, added.place) {
         Some(refusal) => Err(refusal),

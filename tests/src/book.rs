@@ -1,5 +1,5 @@
-//! Request 6 of document 02, "A phrase book": taped phrases, one record after another, in the first
-//! part of a lent buffer.
+//! Requests 6 and 7 of document 02, "A phrase book" and "Who may hear what": taped phrases, one
+//! record after another, in the first part of a lent buffer, each for a set of listeners.
 
 use std::ops::Range;
 
@@ -7,15 +7,46 @@ use crate::refusals::Refusal;
 use crate::tape;
 
 /// What a record begins with.
-pub const MARK: [u8; 2] = [0x52, 0x9E];
+pub const MARK: [u8; 2] = [0x52, 0x9F];
 
-/// How many bytes of a record stand before its tape: mark, number and length.
-pub const HEAD: usize = 6;
+/// How many bytes of a record stand before its tape: mark, number, set and length.
+pub const HEAD: usize = 7;
 
-/// A phrase that a book holds: its number, and where in the book the tape lies.
+/// Who looks a phrase up, or adds one.
+#[derive(Clone, Copy, Debug, PartialEq, Eq)]
+pub enum Listener {
+    Pump,
+    Road,
+    Dispatch,
+}
+
+impl Listener {
+    /// The one that a call in C means by a number. Most numbers mean none of the three.
+    pub fn of(number: u32) -> Option<Self> {
+        match number {
+            0 => Some(Listener::Pump),
+            1 => Some(Listener::Road),
+            2 => Some(Listener::Dispatch),
+            _ => None,
+        }
+    }
+
+    /// Whether a set has this one among its listeners. Five of its bits stand for nobody.
+    pub fn is_in(self, set: u8) -> bool {
+        let own = match self {
+            Listener::Pump => 0b001,
+            Listener::Road => 0b010,
+            Listener::Dispatch => 0b100,
+        };
+        set & own != 0
+    }
+}
+
+/// A phrase that a book holds: its number, who may hear it, and where in the book the tape lies.
 #[derive(Clone, Debug, PartialEq, Eq)]
 pub struct Record {
     pub number: u16,
+    pub set: u8,
     pub tape: Range<usize>,
 }
 
@@ -48,40 +79,59 @@ fn rises(records: &[Record], number: u16) -> bool {
 /// The record that starts here, unless it has no mark or the book ends before it does.
 fn record_at(book: &[u8], start: usize) -> Option<Record> {
     let (head, rest) = book[start..].split_first_chunk::<HEAD>()?;
-    let [mark @ .., number_low, number_high, length_low, length_high] = *head;
+    let [mark @ .., number_low, number_high, set, length_low, length_high] = *head;
     let number = u16::from_le_bytes([number_low, number_high]);
     let length = usize::from(u16::from_le_bytes([length_low, length_high]));
     let first = start + HEAD;
     let tape = first..first + length;
-    (mark == MARK && length <= rest.len()).then_some(Record { number, tape })
+    (mark == MARK && length <= rest.len()).then_some(Record { number, set, tape })
 }
 
-/// The bytes of a record with this number and tape.
-pub fn record(number: u16, tape: &[u8]) -> Vec<u8> {
+/// The bytes of a record with this number, set and tape.
+pub fn record(number: u16, set: u8, tape: &[u8]) -> Vec<u8> {
     let length = u16::try_from(tape.len()).expect("two bytes hold a tape's length");
     let (number, length) = (number.to_le_bytes(), length.to_le_bytes());
-    [&MARK[..], &number, &length, tape].concat()
+    [&MARK[..], &number, &[set], &length, tape].concat()
 }
 
-/// The lookup: where the tape of a phrase lies, or that the book, which must be sound to its end,
-/// has none.
-pub fn find(buffer: &[u8], used: usize, phrase: u16) -> Result<Option<Range<usize>>, Refusal> {
+/// The lookup by a listener, or by nobody: where the tape of a phrase lies. The book must be sound
+/// to its end; then 17 says that there is no such phrase among those that the listener may hear.
+pub fn find(
+    listener: impl Into<Option<Listener>>,
+    buffer: &[u8],
+    used: usize,
+    phrase: u16,
+) -> Result<Range<usize>, Refusal> {
     let records = records(book(buffer, used))?;
-    let wanted = records.into_iter().find(|record| record.number == phrase);
-    Ok(wanted.map(|record| record.tape))
+    let listener = listener.into();
+    let is_heard = |record: &Record| listener.is_some_and(|listener| listener.is_in(record.set));
+    let mut heard = records.into_iter().filter(is_heard);
+    let wanted = heard.find(|record| record.number == phrase);
+    wanted.map(|record| record.tape).ok_or(Refusal::new(17, 0))
 }
 
-/// The addition: puts a record with the message's tape behind the book and gives the new used
-/// count. What is wrong with the message is said first, then what is wrong with the book, then that
+/// The addition by a listener, or by nobody: puts a record with the set and the message's tape
+/// behind the book and gives the new used count. All but dispatch are refused before anything is
+/// looked at. Then comes what is wrong with the message, then what is wrong with the book, then that
 /// the number does not rise, and last that the buffer has no room; a refusal leaves the buffer.
-pub fn add(buffer: &mut [u8], used: usize, phrase: u16, msg: &[u8]) -> Result<usize, Refusal> {
+pub fn add(
+    listener: impl Into<Option<Listener>>,
+    buffer: &mut [u8],
+    used: usize,
+    phrase: u16,
+    set: u8,
+    msg: &[u8],
+) -> Result<usize, Refusal> {
+    if listener.into() != Some(Listener::Dispatch) {
+        return Err(Refusal::new(17, 0));
+    }
     let tape = tape(msg, usize::MAX)?;
     let book = book(buffer, used);
     let end = book.len();
     if !rises(&records(book)?, phrase) {
         return Err(Refusal::new(16, end));
     }
-    let record = record(phrase, &tape);
+    let record = record(phrase, set, &tape);
     let new_end = end + record.len();
     let room = buffer.get_mut(end..new_end);
     room.ok_or(Refusal::new(11, new_end))?

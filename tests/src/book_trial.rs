@@ -1,7 +1,7 @@
 //! One lookup in a lent book, or one addition to it, by the library beside what the papers ask: the
 //! answer, and every byte of the buffer and around it.
 
-use crate::book;
+use crate::book::{self, Listener};
 use crate::gen::Rng;
 use crate::placed::Placed;
 use crate::text::hex;
@@ -24,22 +24,27 @@ impl<'a> Lent<'a> {
         Lent::new(buffer, buffer.len())
     }
 
-    /// The lookup of a phrase, with the answer that the papers ask for.
-    pub fn lookup(self, phrase: u16) -> Lookup<'a> {
+    /// The lookup of a phrase by a listener, with the answer that the papers ask for.
+    pub fn lookup(self, listener: u32, phrase: u16) -> Lookup<'a> {
+        let found = book::find(Listener::of(listener), self.buffer, self.used, phrase);
         Lookup {
             lent: self,
+            listener,
             phrase,
-            answer: book::find(self.buffer, self.used, phrase).into(),
+            answer: found.into(),
         }
     }
 
-    /// The addition of a message, with the answer that the papers ask for.
-    pub fn addition(self, phrase: u16, msg: &'a [u8]) -> Addition<'a> {
+    /// The addition of a message by a listener, with the answer that the papers ask for.
+    pub fn addition(self, listener: u32, phrase: u16, set: u8, msg: &'a [u8]) -> Addition<'a> {
         let mut after = self.buffer.to_vec();
-        let answer = book::add(&mut after, self.used, phrase, msg).into();
+        let by = Listener::of(listener);
+        let answer = book::add(by, &mut after, self.used, phrase, set, msg).into();
         Addition {
             lent: self,
+            listener,
             phrase,
+            set,
             msg,
             answer,
             after,
@@ -54,6 +59,7 @@ impl<'a> Lent<'a> {
 
 pub struct Lookup<'a> {
     lent: Lent<'a>,
+    listener: u32,
     phrase: u16,
     answer: Found,
 }
@@ -70,10 +76,8 @@ impl Lookup<'_> {
 
     /// Tries the lookup on this copy of the buffer.
     pub fn in_place(&self, buffer: &[u8]) -> Result<Found, String> {
-        let (expected, given) = (
-            self.answer,
-            unit::book_find(buffer, self.lent.used, self.phrase),
-        );
+        let (expected, used) = (self.answer, self.lent.used);
+        let given = unit::book_find(self.listener, buffer, used, self.phrase);
         if given != expected {
             return Err(self.told(&format!("gives {given:?} for {expected:?}")));
         }
@@ -84,14 +88,17 @@ impl Lookup<'_> {
     }
 
     fn told(&self, wrong: &str) -> String {
-        let phrase = self.phrase;
-        self.lent.told(&format!("the lookup of {phrase} {wrong}"))
+        let (listener, phrase) = (self.listener, self.phrase);
+        let wrong = format!("the lookup of {phrase} by {listener} {wrong}");
+        self.lent.told(&wrong)
     }
 }
 
 pub struct Addition<'a> {
     lent: Lent<'a>,
+    listener: u32,
     phrase: u16,
+    set: u8,
     msg: &'a [u8],
     answer: Added,
     after: Vec<u8>,
@@ -112,7 +119,7 @@ impl Addition<'_> {
     /// Tries the addition of this copy of the message to this copy of the buffer.
     pub fn in_place(&self, msg: &[u8], buffer: &mut [u8]) -> Result<Added, String> {
         let (expected, used) = (self.answer, self.lent.used);
-        let given = unit::book_add(buffer, used, self.phrase, msg);
+        let given = unit::book_add(self.listener, buffer, used, self.phrase, self.set, msg);
         if given != expected {
             return Err(self.told(&format!("gives {given:?} for {expected:?}")));
         }
@@ -127,8 +134,9 @@ impl Addition<'_> {
     }
 
     fn told(&self, wrong: &str) -> String {
-        let (phrase, msg) = (self.phrase, hex(self.msg));
-        let wrong = format!("the addition of {phrase} {wrong}\nmessage: {msg}");
+        let (listener, phrase, set) = (self.listener, self.phrase, self.set);
+        let what = format!("the addition of {phrase} for the set {set:#04X} by {listener}");
+        let wrong = format!("{what} {wrong}\nmessage: {}", hex(self.msg));
         self.lent.told(&wrong)
     }
 }

@@ -1,4 +1,4 @@
-//! A second implementation of document 01 and of requests 1, 2, 4, 5 and 6 of document 02, written
+//! A second implementation of document 01 and of requests 1, 2 and 4 to 7 of document 02, written
 //! from the papers for comparison. It says what each operation must answer; it is plain rather
 //! than fast.
 //!

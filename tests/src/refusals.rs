@@ -20,7 +20,7 @@ impl Refusal {
 
     /// The refusal in an answer of the library's, unless its number is 0.
     pub fn given(number: u32, place: usize) -> Option<Self> {
-        let number = u8::try_from(number).expect("no number is above 16");
+        let number = u8::try_from(number).expect("no number is above 17");
         (number != 0).then_some(Refusal { number, place })
     }
 }

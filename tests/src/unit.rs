@@ -57,6 +57,12 @@ pub struct Found {
     pub length: usize,
 }
 
+/// The listeners by the numbers that the header gives them.
+pub const PUMP: u32 = 0;
+pub const ROAD: u32 = 1;
+pub const DISPATCH: u32 = 2;
+pub const LISTENERS: [u32; 3] = [PUMP, ROAD, DISPATCH];
+
 /// The functions as the header declares them.
 pub mod raw {
     use super::{Added, Answer, Counts, Found, Text};
@@ -79,14 +85,22 @@ pub mod raw {
         ) -> Answer;
         pub fn govorun_speak_level(level: i32, out: *mut u8, cap: usize) -> Answer;
         pub fn govorun_book_add(
+            listener: u32,
             book: *mut u8,
             size: usize,
             used: usize,
             phrase: u16,
+            set: u8,
             msg: *const u8,
             len: usize,
         ) -> Added;
-        pub fn govorun_book_find(book: *const u8, size: usize, used: usize, phrase: u16) -> Found;
+        pub fn govorun_book_find(
+            listener: u32,
+            book: *const u8,
+            size: usize,
+            used: usize,
+            phrase: u16,
+        ) -> Found;
     }
 }
 
@@ -133,15 +147,23 @@ pub fn speak_level(level: i32, out: &mut [u8]) -> Answer {
     unsafe { raw::govorun_speak_level(level, out.as_mut_ptr(), out.len()) }
 }
 
-pub fn book_add(book: &mut [u8], used: usize, phrase: u16, msg: &[u8]) -> Added {
+pub fn book_add(
+    listener: u32,
+    book: &mut [u8],
+    used: usize,
+    phrase: u16,
+    set: u8,
+    msg: &[u8],
+) -> Added {
     let (start, size) = (book.as_mut_ptr(), book.len());
+    let (msg, len) = (msg.as_ptr(), msg.len());
     // SAFETY: as above.
-    unsafe { raw::govorun_book_add(start, size, used, phrase, msg.as_ptr(), msg.len()) }
+    unsafe { raw::govorun_book_add(listener, start, size, used, phrase, set, msg, len) }
 }
 
-pub fn book_find(book: &[u8], used: usize, phrase: u16) -> Found {
+pub fn book_find(listener: u32, book: &[u8], used: usize, phrase: u16) -> Found {
     // SAFETY: as above.
-    unsafe { raw::govorun_book_find(book.as_ptr(), book.len(), used, phrase) }
+    unsafe { raw::govorun_book_find(listener, book.as_ptr(), book.len(), used, phrase) }
 }
 
 /// An answer of the library, to be held beside the expected one.
@@ -207,19 +229,23 @@ impl From<Result<usize, Refusal>> for Added {
 }
 
 /// The expected answer of a lookup in the header's types.
-impl From<Result<Option<Range<usize>>, Refusal>> for Found {
-    fn from(expected: Result<Option<Range<usize>>, Refusal>) -> Self {
-        let (number, place) = match expected {
-            Ok(_) => (0, 0),
-            Err(refusal) => (refusal.number.into(), refusal.place),
-        };
-        let tape = expected.ok().flatten();
-        Found {
-            number,
-            place,
-            found: tape.is_some().into(),
-            start: tape.as_ref().map_or(0, |tape| tape.start),
-            length: tape.as_ref().map_or(0, |tape| tape.len()),
+impl From<Result<Range<usize>, Refusal>> for Found {
+    fn from(expected: Result<Range<usize>, Refusal>) -> Self {
+        match expected {
+            Ok(tape) => Found {
+                number: 0,
+                place: 0,
+                found: 1,
+                start: tape.start,
+                length: tape.len(),
+            },
+            Err(refusal) => Found {
+                number: refusal.number.into(),
+                place: refusal.place,
+                found: 0,
+                start: 0,
+                length: 0,
+            },
         }
     }
 }

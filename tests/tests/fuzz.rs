@@ -55,53 +55,75 @@ fn levels_by_the_first_bytes() {
     assert_eq!(levels(&20_205_i32.to_le_bytes()), [20_205, 5]);
 }
 
-fn asked(buffer: Vec<u8>, used: usize, phrase: u16, msg: &[u8]) -> Asked {
-    Asked {
-        buffer,
-        used,
-        phrase,
-        msg: msg.to_vec(),
-    }
-}
-
 #[test]
 fn books_as_they_come() {
     let given = Asked::as_it_comes;
-    let five = |used| asked(b"\x52\x9E\x05\x00\x00".to_vec(), used, 0x0305, b"msg");
-    let buffer_and_message = b"\x05\x00\x52\x9E\x05\x00\x00msg";
-    let with_used = |used: &[u8; 3]| given(&[b"\x05\x03", &used[..], buffer_and_message].concat());
-    assert_eq!(with_used(&[6, 0, 0]), five(6));
-    assert_eq!(with_used(&[0xFF, 0xFF, 0]), five(usize::MAX));
-    assert_eq!(with_used(&[3, 0, 32]), five((1 << 32) + 3));
-    let longer = given(b"\x00\x00\x02\x00\x00\xFF\xFFabc");
-    assert_eq!(longer, asked(b"abc".to_vec(), 2, 0, b""));
-    assert_eq!(given(b"short"), asked(Vec::new(), 0, 0, b""));
+    let five = |listener, used| Asked {
+        buffer: b"\x52\x9F\x05\x00\x00".to_vec(),
+        used,
+        listener,
+        phrase: 0x0305,
+        set: 0xF4,
+        msg: b"msg".to_vec(),
+    };
+    let buffer_and_message = b"\x05\x00\x52\x9F\x05\x00\x00msg";
+    let with = |listener, used: &[u8; 3]| {
+        let head = [listener, 5, 3, 0xF4];
+        given(&[&head, &used[..], buffer_and_message].concat())
+    };
+    assert_eq!(with(0, &[6, 0, 0]), five(0, 6));
+    assert_eq!(with(2, &[0xFF, 0xFF, 0]), five(2, usize::MAX));
+    assert_eq!(with(3, &[3, 0, 32]), five(3, (1 << 32) + 3));
+    assert_eq!(with(4 * 8 + 2, &[6, 0, 0]), five(0x0102, 6));
+    assert_eq!(with(4 * 16 + 1, &[6, 0, 0]), five(0x0001_0001, 6));
+    assert_eq!(with(4 * 31, &[6, 0, 0]), five(1 << 31, 6));
+    let longer = given(b"\x00\x00\x00\x00\x02\x00\x00\xFF\xFFabc");
+    assert_eq!(
+        (&longer.buffer[..], &longer.msg[..]),
+        (&b"abc"[..], &b""[..])
+    );
+    assert_eq!(given(b"short"), given(&[0; 9]));
 }
 
 #[test]
 fn books_of_phrases() {
-    let two = [record(5, &[7]), record(6, &[])].concat();
-    let free = |count| vec![0x52; count];
-    let given = Asked::made(b"\x03\x02\x05\x01\x07\x01\x00\xFF\x00msg");
-    assert_eq!(given, asked([&two[..], &free(2)].concat(), 13, 9, b"msg"));
-    let given = Asked::made(b"\xFF\x00\x05\x01\x07\x01\x00\x01");
-    assert_eq!(given, asked(two, 13, 261, b"\x01"));
-    let last = Asked::made(b"\x01\x00\xEF\x00\xEF\x00\xEF\x00");
-    assert_eq!(last.buffer[14..16], [0xFF; 2]);
+    let two = [record(5, 7, &[7]), record(6, 0xF9, &[])].concat();
+    let given = Asked::made(b"\x02\x03\x06\x02\x05\x07\x01\x07\x01\xF9\x00\xFF\x00\x00msg");
+    let expected = Asked {
+        buffer: [&two[..], b"\x52\x52"].concat(),
+        used: 15,
+        listener: 2,
+        phrase: 9,
+        set: 6,
+        msg: b"msg".to_vec(),
+    };
+    assert_eq!(given, expected);
+    let given = Asked::made(b"\x01\xFF\x00\x00\x05\x07\x01\x07\x01\xF9\x00\x01\x02");
+    let expected = Asked {
+        buffer: two,
+        used: 15,
+        listener: 1,
+        phrase: 261,
+        set: 0,
+        msg: vec![1, 2],
+    };
+    assert_eq!(given, expected);
+    let last = Asked::made(b"\x00\x01\x00\x00\xEF\x00\x00\xEF\x00\x00\xEF\x00\x00");
+    assert_eq!(last.buffer[16..18], [0xFF; 2]);
     assert_eq!(last.phrase, 0);
-    let roomy = Asked::made(b"\x00\xFF");
-    assert_eq!(roomy, asked(free(10_240), 0, 0, b""));
-    assert_eq!(Asked::made(b"\x01"), asked(Vec::new(), 0, 0, b""));
+    let roomy = Asked::made(b"\x00\x00\x00\xFF");
+    assert_eq!((roomy.buffer, roomy.used), (vec![0x52; 10_240], 0));
+    assert_eq!(Asked::made(b"\x01"), Asked::made(&[0; 4]));
 }
 
 /// Each kind of wrong phrase makes another book.
 #[test]
 fn books_with_a_wrong_phrase() {
-    let made = |how| Asked::made(&[0, 0, how, 2, 7, 8]).buffer;
-    let sound = record(1, &[7, 8]);
+    let made = |how| Asked::made(&[0, 0, 0, 0, how, 6, 2, 7, 8]).buffer;
+    let sound = record(1, 6, &[7, 8]);
     assert_eq!(made(1), sound);
-    let wrong: BTreeSet<Vec<u8>> = (0xF0..=0xFB).map(made).collect();
-    assert_eq!(wrong.len(), 12);
+    let wrong: BTreeSet<Vec<u8>> = (0xF0..=0xFD).map(made).collect();
+    assert_eq!(wrong.len(), 14);
     assert!(!wrong.contains(&sound));
 }
 

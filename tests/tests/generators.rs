@@ -3,8 +3,10 @@
 //! their books sound or refused as damaged. This tries the check, the reader and the book from both
 //! sides.
 
+use std::collections::BTreeSet;
+
 use govorun_tests::agreed::{book_add, book_find, check, join, read_utf8, tape};
-use govorun_tests::gen::books::{self, laid, phrases, DAMAGES};
+use govorun_tests::gen::books::{self, any_listener, laid, phrases, DAMAGES, NOBODY};
 use govorun_tests::gen::cuts::BAD_CUTS;
 use govorun_tests::gen::damaged::{Spot, SPOTS};
 use govorun_tests::gen::lexicon;
@@ -14,6 +16,7 @@ use govorun_tests::gen::{
 };
 use govorun_tests::message::words;
 use govorun_tests::syllables::syllables;
+use govorun_tests::unit::{DISPATCH, LISTENERS};
 use govorun_tests::{cp1251, hex, show, Refusal};
 
 #[test]
@@ -175,14 +178,22 @@ fn wrong_sequences_are_refused_at_their_first_byte() {
 #[test]
 fn books_of_phrases_are_sound() {
     let mut rng = Rng::for_test(15);
+    let mut sets = [0; 256];
     for _ in 0..3000 {
         let most = rng.between(1, 9);
         let phrases = phrases(&mut rng, most);
         let book = laid(&phrases);
-        for (number, tape) in phrases {
-            assert_eq!(book_find(&book, book.len(), number), Ok(Some(tape)));
+        for phrase in phrases {
+            let listener = rng.pick(&LISTENERS);
+            let found = book_find(listener, &book, book.len(), phrase.number);
+            let is_for = phrase.set >> listener & 1 == 1;
+            let expected = is_for.then_some(phrase.tape);
+            assert_eq!(found, expected.ok_or(Refusal::new(17, 0)));
+            sets[usize::from(phrase.set)] += 1;
         }
     }
+    assert!(sets[..8].iter().min() >= Some(&500));
+    assert!(sets[8..].iter().min() >= Some(&5));
 }
 
 #[test]
@@ -198,12 +209,23 @@ fn damaged_books_are_refused_as_made() {
                 continue;
             };
             let used = book.len();
-            for (number, _) in phrases {
-                assert_eq!(book_find(&book, used, number), Err(refusal), "{damage:?}");
+            for number in phrases.iter().map(|phrase| phrase.number) {
+                let found = book_find(any_listener(&mut rng), &book, used, number);
+                assert_eq!(found, Err(refusal), "{damage:?}");
             }
-            assert_eq!(book_add(&mut book, used, u16::MAX, &msg), Err(refusal));
+            let added = book_add(DISPATCH, &mut book, used, u16::MAX, 7, &msg);
+            assert_eq!(added, Err(refusal));
             count += 1;
         }
         assert!(count >= 1000, "{damage:?} {count}");
     }
+}
+
+#[test]
+fn listeners_of_all_kinds() {
+    let mut rng = Rng::for_test(17);
+    let met: BTreeSet<u32> = (0..3000).map(|_| any_listener(&mut rng)).collect();
+    let all: BTreeSet<u32> = LISTENERS.into_iter().chain(NOBODY).collect();
+    assert_eq!(met, all);
+    assert_eq!(all.len(), LISTENERS.len() + NOBODY.len());
 }

@@ -12,7 +12,8 @@ use govorun_tests::gen::{
 };
 use govorun_tests::message::breaks;
 use govorun_tests::trial::{self, Operation, Trial};
-use govorun_tests::{check, cp1251, hex, unit};
+use govorun_tests::unit::{self, DISPATCH, LISTENERS};
+use govorun_tests::{check, cp1251, hex};
 
 /// All operations on one message with one list of cuts.
 fn agrees(rng: &mut Rng, msg: &[u8], cuts: &[usize]) {
@@ -283,7 +284,7 @@ fn lengths_above_32_bits() {
     ] {
         assert_eq!((answer.number, answer.place, out), (2, 0, [9; 8]));
     }
-    let added = unit::book_add(&mut out, 0, 0, long);
+    let added = unit::book_add(DISPATCH, &mut out, 0, 0, 7, long);
     assert_eq!((added.number, added.place, out), (2, 0, [9; 8]));
     let lent = memory.last(HUGE);
     assert_eq!(unit::name(&msg, lent).length, 2);
@@ -291,7 +292,7 @@ fn lengths_above_32_bits() {
     assert_eq!(unit::join(&msg, &[1], lent).length, 3);
     assert_eq!(unit::write_utf8(&msg, lent).length, 5);
     assert_eq!(unit::speak_level(-4_989, lent).length, 54);
-    assert_eq!(unit::book_add(lent, 0, 0, &msg).used, 9);
+    assert_eq!(unit::book_add(DISPATCH, lent, 0, 0, 7, &msg).used, 10);
     let mut zeros = Fenced::new(HUGE * size_of::<usize>());
     let answer = unit::join(&msg, as_places(zeros.whole()), &mut out);
     assert_eq!((answer.number, answer.place, out), (12, 0, [9; 8]));
@@ -309,6 +310,23 @@ fn declared(source: &str, beginning: &str) -> BTreeSet<String> {
 /// The functions that the header declares.
 fn calls() -> BTreeSet<String> {
     declared(include_str!("../../include/govorun.h"), "govorun_")
+}
+
+/// The number that the header gives to a name.
+fn numbered(name: &str) -> Option<u32> {
+    let header = include_str!("../../include/govorun.h");
+    let (_, behind) = header.split_once(&format!(" {name} = "))?;
+    behind.split([',', ' ']).next()?.parse().ok()
+}
+
+#[test]
+fn every_listener_of_the_header_has_a_number_and_a_bit() {
+    for (name, listener) in ["PUMP", "ROAD", "DISPATCH"].into_iter().zip(LISTENERS) {
+        let number = numbered(&format!("GOVORUN_{name}"));
+        assert_eq!(number, Some(listener), "{name}");
+        let bit = numbered(&format!("GOVORUN_FOR_{name}"));
+        assert_eq!(bit, Some(1 << listener), "{name}");
+    }
 }
 
 #[test]

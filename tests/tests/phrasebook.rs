@@ -1,7 +1,9 @@
 //! The phrase book in C: it builds without a warning, tapes each line of its file that is a phrase
-//! and tells of those that are none, plays the phrase that is asked for, and touches no memory that
-//! is not its own.
+//! for some listeners and tells of those that are none, plays the phrase that is asked for to who may
+//! hear it and refuses it to others as if it were not there, and touches no memory that is not its
+//! own.
 
+use std::collections::BTreeMap;
 use std::ffi::OsStr;
 use std::fs;
 use std::os::unix::ffi::OsStrExt;
@@ -18,9 +20,18 @@ use govorun_tests::gen::noise::bytes;
 use govorun_tests::gen::utf8::untaken;
 use govorun_tests::gen::{damaged, message, message_of_any_length, punctuated, Rng};
 use govorun_tests::utf8::{read, written};
-use govorun_tests::{book, Refusal};
+use govorun_tests::{tape, Refusal};
 
-const USAGE: &str = "usage: phrasebook PHRASES NUMBER\n";
+const USAGE: &str = "usage: phrasebook PHRASES LISTENER NUMBER\n";
+
+/// Who may be asked for and who may stand in a line.
+const LISTENERS: [&str; 3] = ["pump", "road", "dispatch"];
+
+/// What is said of a phrase that is not there, and of one that is not for the listener.
+const REFUSED: &str = "phrasebook: refused 17 at 0\n";
+
+/// How many bytes of a record stand before its tape.
+const HEAD: usize = 7;
 
 /// The program, built once for all tests here.
 fn phrasebook() -> &'static Path {
@@ -76,10 +87,12 @@ impl Drop for Phrases {
     }
 }
 
-/// What the program leaves for a file of these bytes, and for this number as it is given.
-fn run(content: impl AsRef<[u8]>, number: impl AsRef<OsStr>) -> Left {
+/// What the program leaves for a file of these bytes, and for this listener and number as they are
+/// given.
+fn run(content: impl AsRef<[u8]>, listener: impl AsRef<OsStr>, number: impl AsRef<OsStr>) -> Left {
     let file = Phrases::new(content);
-    Left::by(Command::new(phrasebook()).arg(&file.0).arg(number))
+    let mut command = Command::new(phrasebook());
+    Left::by(command.arg(&file.0).arg(listener).arg(number))
 }
 
 /// A number from 0 to 65,535 that is written in digits alone.
@@ -89,10 +102,40 @@ fn number(digits: &[u8]) -> Option<u16> {
     text.filter(|_| are_digits)?.parse().ok()
 }
 
-/// The number of a line, and the phrase behind the gap.
-fn parts(line: &[u8]) -> Option<(u16, &[u8])> {
-    let gap = line.iter().position(|&byte| byte == b' ')?;
-    Some((number(&line[..gap])?, &line[gap + 1..]))
+/// What a line says.
+struct Said<'a> {
+    number: u16,
+    listeners: Vec<&'a [u8]>,
+    phrase: &'a [u8],
+}
+
+impl Said<'_> {
+    fn is_for(&self, listener: &str) -> bool {
+        self.listeners.contains(&listener.as_bytes())
+    }
+}
+
+/// What stands before the first gap, and what behind it.
+fn at_gap(text: &[u8]) -> Option<(&[u8], &[u8])> {
+    let gap = text.iter().position(|&byte| byte == b' ')?;
+    Some((&text[..gap], &text[gap + 1..]))
+}
+
+/// The parts of a line, or what it lacks.
+fn parts(line: &[u8]) -> Result<Said<'_>, &'static str> {
+    let numbered = at_gap(line).and_then(|(digits, rest)| Some((number(digits)?, rest)));
+    let (number, rest) = numbered.ok_or("no number")?;
+    let (names, phrase) = at_gap(rest).ok_or("no listeners")?;
+    let listeners: Vec<&[u8]> = names.split(|&byte| byte == b',').collect();
+    let is_listener = |name: &&[u8]| LISTENERS.map(str::as_bytes).contains(name);
+    if !listeners.iter().all(is_listener) {
+        return Err("no listeners");
+    }
+    Ok(Said {
+        number,
+        listeners,
+        phrase,
+    })
 }
 
 /// The lines of a file, without the newlines that end them.
@@ -103,143 +146,329 @@ fn lines(content: &[u8]) -> Vec<&[u8]> {
         .collect()
 }
 
-/// What must be left for a file of these bytes.
-fn expected(content: &[u8], wanted: u16) -> Left {
-    let lines = lines(content);
-    let mut buffer = vec![0; lines.iter().map(|line| 6 + 2 * line.len()).sum()];
-    let mut used = 0;
-    let mut complaints = String::new();
-    for (index, line) in (1..).zip(lines) {
-        let Some((number, phrase)) = parts(line) else {
-            complaints += &format!("phrasebook: line {index}: no number\n");
-            continue;
-        };
-        let msg = read(phrase).map(|read| edited(&read));
-        match msg.and_then(|msg| book::add(&mut buffer, used, number, &msg)) {
-            Ok(new) => used = new,
-            Err(Refusal { number, place }) => {
-                complaints += &format!("phrasebook: line {index}: refused {number} at {place}\n");
-            }
+/// The lines that are in a book, each with its tape, and the bytes that it takes.
+#[derive(Default)]
+struct Book<'a> {
+    phrases: BTreeMap<u16, (Said<'a>, Vec<u8>)>,
+    used: usize,
+}
+
+impl<'a> Book<'a> {
+    fn add(&mut self, line: Said<'a>) -> Result<(), Refusal> {
+        let tape = tape(&edited(&read(line.phrase)?), usize::MAX)?;
+        let last = self.phrases.keys().next_back();
+        if last.is_some_and(|&last| last >= line.number) {
+            return Err(Refusal::new(16, self.used));
         }
+        self.used += HEAD + tape.len();
+        self.phrases.insert(line.number, (line, tape));
+        Ok(())
     }
-    let found = book::find(&buffer, used, wanted).expect("a sound book");
-    let print = found.as_ref().map_or("none\n".to_string(), |tape| {
-        print_of(Ok(buffer[tape.clone()].to_vec()))
-    });
-    let is_good = found.is_some() && complaints.is_empty();
-    Left::new(&print, &complaints, i32::from(!is_good))
+
+    fn find(&self, listener: &str, number: u16) -> Option<Vec<u8>> {
+        let (line, tape) = self.phrases.get(&number)?;
+        line.is_for(listener).then(|| tape.clone())
+    }
+}
+
+/// What must be left for a file of these bytes.
+fn expected(content: &[u8], listener: &str, wanted: u16) -> Left {
+    let mut book = Book::default();
+    let mut complaints = String::new();
+    for (index, line) in (1..).zip(lines(content)) {
+        let complaint = match parts(line).map(|line| book.add(line)) {
+            Ok(Ok(())) => continue,
+            Ok(Err(refusal)) => format!("refused {} at {}", refusal.number, refusal.place),
+            Err(missing) => missing.to_string(),
+        };
+        complaints += &format!("phrasebook: line {index}: {complaint}\n");
+    }
+    match book.find(listener, wanted) {
+        Some(tape) => {
+            let status = i32::from(!complaints.is_empty());
+            Left::new(&print_of(Ok(tape)), &complaints, status)
+        }
+        None => Left::new("", &(complaints + REFUSED), 1),
+    }
 }
 
 /// What the program leaves must be what is expected.
-fn runs_as_expected(content: &[u8], wanted: u16) {
-    let (given, expected) = (run(content, wanted.to_string()), expected(content, wanted));
+fn runs_as_expected(content: &[u8], listener: &str, wanted: u16) {
+    let given = run(content, listener, wanted.to_string());
+    let expected = expected(content, listener, wanted);
     let content = String::from_utf8_lossy(content);
-    assert_eq!(given, expected, "{wanted} in\n{content}");
+    assert_eq!(given, expected, "{listener} {wanted} in\n{content}");
 }
 
 fn thirty() -> Vec<u8> {
     fs::read(file("phrases.txt")).expect("examples/phrases.txt")
 }
 
-/// Each of the thirty is accepted, and all have numbers and tapes of their own.
+/// The lines of a file that has no others.
+fn phrases(content: &[u8]) -> Vec<Said<'_>> {
+    let phrases = lines(content).into_iter().map(parts);
+    phrases
+        .collect::<Result<_, _>>()
+        .expect("numbers and listeners")
+}
+
+/// Each of the thirty is accepted and is heard by its listeners alone, and all have numbers and tapes
+/// of their own.
 #[test]
 fn thirty_phrases() {
     let content = thirty();
-    let phrases = lines(&content).into_iter();
-    let numbers: Vec<u16> = phrases
-        .map(|line| parts(line).expect("a number and a phrase").0)
-        .collect();
-    assert_eq!(numbers.len(), 30);
+    let phrases = phrases(&content);
+    assert_eq!(phrases.len(), 30);
     let mut prints = Vec::new();
-    for number in numbers {
-        let left = run(&content, number.to_string());
-        assert_eq!(left, expected(&content, number), "{number}");
-        assert_eq!((left.status, &left.complaints[..]), (Some(0), ""));
-        prints.push(left.print);
+    for phrase in &phrases {
+        for listener in LISTENERS {
+            let left = run(&content, listener, phrase.number.to_string());
+            let expected = expected(&content, listener, phrase.number);
+            assert_eq!(left, expected, "{listener} {}", phrase.number);
+            if phrase.is_for(listener) {
+                assert_eq!((left.status, &left.complaints[..]), (Some(0), ""));
+                prints.push(left.print);
+            } else {
+                assert_eq!(left, Left::new("", REFUSED, 1));
+            }
+        }
     }
     prints.sort();
     prints.dedup();
     assert_eq!(prints.len(), 30);
 }
 
+/// Some of the thirty are for all, some for each listener alone, and some for dispatch and one kind
+/// of crew.
 #[test]
-fn numbers_that_the_thirty_do_not_have() {
+fn listeners_of_the_thirty() {
     let content = thirty();
-    let has = |number| {
-        lines(&content)
-            .iter()
-            .any(|line| parts(line).is_some_and(|p| p.0 == number))
-    };
-    let others = [0, 255, 256, 9_999, 65_534, 65_535];
-    let others: Vec<u16> = others.into_iter().filter(|&number| !has(number)).collect();
-    assert!(others.len() >= 3);
-    for number in others {
-        assert_eq!(
-            run(&content, number.to_string()),
-            Left::new("none\n", "", 1)
-        );
+    let phrases = phrases(&content);
+    for listeners in [
+        &["pump", "road", "dispatch"][..],
+        &["pump"],
+        &["road"],
+        &["dispatch"],
+        &["pump", "dispatch"],
+        &["road", "dispatch"],
+    ] {
+        let names: Vec<&[u8]> = listeners.iter().map(|name| name.as_bytes()).collect();
+        let has_these = |phrase: &Said| phrase.listeners == names;
+        assert!(phrases.iter().any(has_these), "{listeners:?}");
     }
 }
 
 #[test]
-fn phrases_and_complaints() {
-    let two = "5 \"Ду*б\", - ра*д!\n9 а\n";
-    assert_eq!(run(two, "5"), Left::new("24 6 39 63 41 1 45\n", "", 0));
-    assert_eq!(run(two, "9"), Left::new("7\n", "", 0));
-    assert_eq!(run(two, "6"), Left::new("none\n", "", 1));
+fn numbers_that_the_thirty_do_not_have() {
+    let content = thirty();
+    let phrases = phrases(&content);
+    let others = [0, 255, 256, 9_999, 65_534, 65_535];
+    let is_other = |&number: &u16| phrases.iter().all(|phrase| phrase.number != number);
+    let others: Vec<u16> = others.into_iter().filter(is_other).collect();
+    assert!(others.len() >= 3);
+    for number in others {
+        for listener in LISTENERS {
+            let left = run(&content, listener, number.to_string());
+            assert_eq!(left, Left::new("", REFUSED, 1), "{listener} {number}");
+        }
+    }
+}
+
+#[test]
+fn phrases_and_refusals() {
+    let two = "5 pump \"Ду*б\", - ра*д!\n9 road,pump а\n";
+    for (listener, number, print) in [
+        ("pump", "5", "24 6 39 63 41 1 45\n"),
+        ("pump", "9", "7\n"),
+        ("road", "9", "7\n"),
+    ] {
+        assert_eq!(run(two, listener, number), Left::new(print, "", 0));
+    }
+    for (listener, number) in [("road", "5"), ("dispatch", "9"), ("pump", "6")] {
+        assert_eq!(run(two, listener, number), Left::new("", REFUSED, 1));
+    }
     // The last line needs no newline.
-    assert_eq!(run("5 а\n9 ду*б", "9"), Left::new("24 6 39\n", "", 0));
-    // The book goes on behind a line that is refused or has no number.
-    let bad = "5 а\n5 и\n\n6 а7\nа\n7 б*\n8 ду*б\n3 а\n";
-    let complaints = "phrasebook: line 2: refused 16 at 7\nphrasebook: line 3: no number\n\
+    let open = "5 road а\n9 road ду*б";
+    assert_eq!(run(open, "road", "9"), Left::new("24 6 39\n", "", 0));
+}
+
+/// The book goes on behind a line that is refused or has no number or listeners.
+#[test]
+fn phrases_and_complaints() {
+    let content = "5 pump а\n5 pump и\n\n6 pump а7\nа\n7 pump б*\n7 crew а\n\
+                   8 road ду*б\n3 road а\n";
+    let complaints = "phrasebook: line 2: refused 16 at 8\nphrasebook: line 3: no number\n\
                       phrasebook: line 4: refused 13 at 2\nphrasebook: line 5: no number\n\
-                      phrasebook: line 6: refused 5 at 1\nphrasebook: line 8: refused 16 at 16\n";
-    assert_eq!(run(bad, "8"), Left::new("24 6 39\n", complaints, 1));
-    assert_eq!(run(bad, "5"), Left::new("7\n", complaints, 1));
-    assert_eq!(run(bad, "6"), Left::new("none\n", complaints, 1));
+                      phrasebook: line 6: refused 5 at 1\nphrasebook: line 7: no listeners\n\
+                      phrasebook: line 9: refused 16 at 18\n";
+    let refused = format!("{complaints}{REFUSED}");
+    for (listener, number, print) in [("road", "8", "24 6 39\n"), ("pump", "5", "7\n")] {
+        let left = run(content, listener, number);
+        assert_eq!(left, Left::new(print, complaints, 1));
+    }
+    for (listener, number) in [("pump", "6"), ("pump", "7"), ("pump", "8"), ("road", "5")] {
+        let left = run(content, listener, number);
+        assert_eq!(left, Left::new("", &refused, 1));
+    }
+}
+
+/// Of the same book the same is left, byte for byte, for a phrase that is not there and for one that
+/// is not for the listener; and so whether or not another line is wrong.
+#[test]
+fn not_for_him_is_as_if_not_there() {
+    for more in ["", "а\n", "9 crew а\n"] {
+        for listener in LISTENERS {
+            let others: Vec<&str> = LISTENERS.into_iter().filter(|&l| l != listener).collect();
+            let content = format!("4 {listener} и\n5 {} ду*б\n{more}", others.join(","));
+            let heard = run(&content, listener, "4");
+            assert_eq!(heard.print, "10\n");
+            let not_for_him = run(&content, listener, "5");
+            assert_eq!((&not_for_him.print[..], not_for_him.status), ("", Some(1)));
+            assert!(not_for_him.complaints.ends_with(REFUSED));
+            for number in ["3", "6", "0", "65535"] {
+                assert_eq!(run(&content, listener, number), not_for_him, "{listener}");
+            }
+        }
+    }
+}
+
+/// What a listener is answered does not tell which phrases for others are in the book.
+#[test]
+fn phrases_for_others_make_no_difference() {
+    let mut rng = Rng::for_test(152);
+    for _ in 0..20 {
+        let content = good_file(&mut rng);
+        let phrases = phrases(&content);
+        for listener in LISTENERS {
+            let mut his = lines(&content);
+            his.retain(|line| parts(line).is_ok_and(|line| line.is_for(listener)));
+            let his = his.join(&b'\n');
+            for phrase in &phrases {
+                let number = phrase.number.to_string();
+                let left = run(&content, listener, &number);
+                assert_eq!(run(&his, listener, &number), left, "{listener} {number}");
+                assert_eq!(left.status == Some(0), phrase.is_for(listener));
+            }
+        }
+    }
 }
 
 #[test]
 fn a_file_without_phrases() {
-    assert_eq!(run("", "0"), Left::new("none\n", "", 1));
-    let no_number = Left::new("none\n", "phrasebook: line 1: no number\n", 1);
-    assert_eq!(run("\n", "0"), no_number);
-    assert_eq!(run("phrases", "0"), no_number);
+    assert_eq!(run("", "dispatch", "0"), Left::new("", REFUSED, 1));
+    let complaints = format!("phrasebook: line 1: no number\n{REFUSED}");
+    let no_number = Left::new("", &complaints, 1);
+    assert_eq!(run("\n", "dispatch", "0"), no_number);
+    assert_eq!(run("phrases", "dispatch", "0"), no_number);
+}
+
+/// With a wrong second line, which is complained of so, the first line and the third are in the
+/// book, and the second is not.
+fn is_left_out(line: &str, complaint: &str) {
+    let complaint = format!("phrasebook: line 2: {complaint}\n");
+    let refused = format!("{complaint}{REFUSED}");
+    let content = format!("4 pump ду*б\n{line}\n6 pump и*\n");
+    let numbers = [
+        ("4", "24 6 39\n", &complaint),
+        ("5", "", &refused),
+        ("6", "5\n", &complaint),
+    ];
+    for (number, print, complaints) in numbers {
+        let left = run(&content, "pump", number);
+        assert_eq!(left, Left::new(print, complaints, 1), "{line:?}");
+    }
 }
 
 #[test]
 fn lines_without_a_number() {
-    let wrong =
-        "| | 5 а|а|а 5|5|5а|-5 а|+5 а|5. а|5,0 а|0x5 а|5\tа|٥ а|5\0 а|\x005 а|65536 а|65541 а|\
-                 99999 а|4294967301 а|18446744073709551621 а|\
-                 340282366920938463463374607431768211461 а";
+    let wrong = "| | 5 pump а|а|pump а|pump 5 а|5|5а|-5 pump а|+5 pump а|5. pump а|5,0 pump а|\
+                 0x5 pump а|5\tpump а|٥ pump а|5\0 pump а|\x005 pump а|65536 pump а|65541 pump а|\
+                 99999 pump а|4294967301 pump а|18446744073709551621 pump а|\
+                 340282366920938463463374607431768211461 pump а";
     for line in wrong.split('|') {
-        let complaint = "phrasebook: line 2: no number\n";
-        let content = format!("4 ду*б\n{line}\n6 и*\n");
-        let left = run(&content, "5");
-        assert_eq!(left, Left::new("none\n", complaint, 1), "{line}");
-        let left = run(&content, "6");
-        assert_eq!(left, Left::new("5\n", complaint, 1), "{line}");
+        is_left_out(line, "no number");
     }
+}
+
+/// All that stands between the number and the next space must be names of listeners.
+#[test]
+fn lines_without_listeners() {
+    let wrong = "|а|crew|all|-|*|0|1|7|pumps|pum|p|roads|dispatcher|dispatc|Pump|PUMP|насос|\
+                 pump\t|pump\0|\0pump|pump\r|pump\u{a0}|pump.|pump:|\"pump\"|(pump)|\
+                 ,|,pump|pump,|pump,,road|pump,road,|,pump,road|pump,crew|crew,pump|pump,Road|\
+                 pump,road,dispatch,crew|pump;road|pump+road|pump/road|pumproad|roads,pump";
+    for names in wrong.split('|') {
+        is_left_out(&format!("5 {names} а"), "no listeners");
+    }
+    for line in [
+        "5 ",
+        "5  ",
+        "5 а",
+        "5 ду*б, а",
+        "5 pump",
+        "5 pump,road",
+        "5 pump, road а",
+        "5  pump а",
+        "5 \tpump а",
+        "5 pump\tа",
+    ] {
+        is_left_out(line, "no listeners");
+    }
+}
+
+/// Behind its listeners a line may lack a phrase, or have one that begins like listeners.
+#[test]
+fn phrases_behind_listeners() {
+    is_left_out("5 pump ", "refused 1 at 0");
+    is_left_out("5 pump  ", "refused 1 at 0");
+    is_left_out("5 pump road", "refused 13 at 0");
+    is_left_out("5 pump ,road а", "refused 13 at 1");
+    let content = "5 road , а\n6 road  , а";
+    for number in ["5", "6"] {
+        assert_eq!(run(content, "road", number), Left::new("7\n", "", 0));
+    }
+}
+
+/// One name to three, in each order, also with one repeated.
+#[test]
+fn listeners_in_any_order() {
+    let one = LISTENERS.map(|name| vec![name]);
+    let longer = |list: &Vec<_>| LISTENERS.map(|name| [&list[..], &[name]].concat());
+    let two: Vec<_> = one.iter().flat_map(longer).collect();
+    let three: Vec<_> = two.iter().flat_map(longer).collect();
+    for list in one.iter().chain(&two).chain(&three) {
+        let content = format!("5 {} ду*б\n", list.join(","));
+        for listener in LISTENERS {
+            let left = if list.contains(&listener) {
+                Left::new("24 6 39\n", "", 0)
+            } else {
+                Left::new("", REFUSED, 1)
+            };
+            assert_eq!(run(&content, listener, "5"), left, "{listener} {content}");
+        }
+    }
+    let often = format!("5 {}road ду*б", "pump,".repeat(10_000));
+    runs_as_expected(often.as_bytes(), "road", 5);
+    runs_as_expected(often.as_bytes(), "dispatch", 5);
 }
 
 #[test]
 fn zeros_before_a_number() {
     let zeros = "0".repeat(100);
-    let content = format!("05 а\n{zeros}7 и\n");
-    assert_eq!(run(&content, "5"), Left::new("7\n", "", 0));
-    assert_eq!(run(&content, "7"), Left::new("10\n", "", 0));
+    let content = format!("05 road а\n{zeros}7 road и\n");
+    assert_eq!(run(&content, "road", "5"), Left::new("7\n", "", 0));
+    assert_eq!(run(&content, "road", "7"), Left::new("10\n", "", 0));
 }
 
 #[test]
 fn the_first_number_and_the_last() {
-    let content = "0 а\n65534 и\n65535 у\n";
-    assert_eq!(run(content, "0"), Left::new("7\n", "", 0));
-    assert_eq!(run(content, "65534"), Left::new("10\n", "", 0));
-    assert_eq!(run(content, "65535"), Left::new("11\n", "", 0));
-    let more = "65535 у\n65535 у\n0 а\n";
-    let complaints = "phrasebook: line 2: refused 16 at 7\nphrasebook: line 3: refused 16 at 7\n";
-    assert_eq!(run(more, "65535"), Left::new("11\n", complaints, 1));
+    let content = "0 pump а\n65534 pump и\n65535 pump у\n";
+    assert_eq!(run(content, "pump", "0"), Left::new("7\n", "", 0));
+    assert_eq!(run(content, "pump", "65534"), Left::new("10\n", "", 0));
+    assert_eq!(run(content, "pump", "65535"), Left::new("11\n", "", 0));
+    let more = "65535 pump у\n65535 pump у\n0 pump а\n";
+    let complaints = "phrasebook: line 2: refused 16 at 8\nphrasebook: line 3: refused 16 at 8\n";
+    assert_eq!(run(more, "pump", "65535"), Left::new("11\n", complaints, 1));
 }
 
 /// Those that the reader, the check and the book refuse, each at its place.
@@ -254,14 +483,13 @@ fn refused_phrases() {
         ("а\r", 13, 2),
         ("а, -ьа", 6, 2),
         ("бък", 8, 2),
+        (&"а".repeat(65), 10, 64),
     ] {
-        let complaint = format!("phrasebook: line 1: refused {number} at {place}\n");
-        let left = run(format!("5 {phrase}\n6 а"), "6");
-        assert_eq!(left, Left::new("7\n", &complaint, 1), "{phrase}");
+        is_left_out(
+            &format!("5 pump {phrase}"),
+            &format!("refused {number} at {place}"),
+        );
     }
-    let long = format!("5 {}\n6 а", "а".repeat(65));
-    let complaint = "phrasebook: line 1: refused 10 at 64\n";
-    assert_eq!(run(long, "6"), Left::new("7\n", complaint, 1));
 }
 
 /// Only what is left of a phrase after editing must not be too long.
@@ -269,22 +497,50 @@ fn refused_phrases() {
 fn long_lines() {
     for count in [2_048, 2_049, 50_000] {
         let phrase = "а, ".repeat(count);
-        let content = format!("5 {phrase}\n7 а\n");
-        runs_as_expected(content.as_bytes(), 5);
-        runs_as_expected(content.as_bytes(), 7);
+        let content = format!("5 road {phrase}\n7 road а\n");
+        runs_as_expected(content.as_bytes(), "road", 5);
+        runs_as_expected(content.as_bytes(), "road", 7);
     }
-    let dashes = format!("5 {}а", "-".repeat(1_000_000));
-    assert_eq!(run(dashes, "5"), Left::new("7\n", "", 0));
+    let dashes = format!("5 road {}а", "-".repeat(1_000_000));
+    assert_eq!(run(dashes, "road", "5"), Left::new("7\n", "", 0));
 }
 
-/// A line of a file: a number, mostly above the one before, and a phrase, mostly a good one; or
-/// bytes without a meaning.
+/// Some listeners as a line has them.
+fn any_listeners(rng: &mut Rng) -> String {
+    let count = rng.between(1, 3);
+    let names: Vec<&str> = (0..count).map(|_| rng.pick(&LISTENERS)).collect();
+    names.join(",")
+}
+
+/// A file of good lines with rising numbers.
+fn good_file(rng: &mut Rng) -> Vec<u8> {
+    let mut number = rng.pick(&[0, 250, 65_300]);
+    let mut content = Vec::new();
+    for _ in 0..rng.below(12) {
+        number += rng.pick(&[1, 1, 2, 20]);
+        let length = rng.between(1, 40);
+        let phrase = message(rng, length);
+        let line = format!("{number} {} ", any_listeners(rng));
+        content.extend([line.as_bytes(), &written(&phrase), b"\n"].concat());
+    }
+    content
+}
+
+/// A line of a file: a number, mostly above the one before, listeners, mostly good ones, and a
+/// phrase, mostly a good one, too; or bytes without a meaning.
 fn any_line(rng: &mut Rng, last: &mut u16) -> Vec<u8> {
     if rng.one_in(3) {
         *last = last.saturating_add(rng.between(1, 300) as u16);
     } else if !rng.one_in(5) {
         *last = last.saturating_add(1);
     }
+    let wrong = rng.pick(&["", "crew", "pump,", ",road", "road,crew"]);
+    let listeners = if rng.one_in(20) {
+        wrong.to_string()
+    } else {
+        any_listeners(rng)
+    };
+    let head = format!("{last} {listeners} ").into_bytes();
     let sequences = untaken();
     let damage = rng.between(1, 10) as u8;
     let phrase = match rng.below(12) {
@@ -292,7 +548,7 @@ fn any_line(rng: &mut Rng, last: &mut u16) -> Vec<u8> {
         1 => return bytes(rng, 30),
         2 => {
             let wrong = &sequences[rng.below(sequences.len())];
-            return [format!("{last} а").as_bytes(), wrong].concat();
+            return [&head, "а".as_bytes(), wrong].concat();
         }
         3 => message_of_any_length(rng),
         _ => {
@@ -300,8 +556,7 @@ fn any_line(rng: &mut Rng, last: &mut u16) -> Vec<u8> {
             message(rng, length)
         }
     };
-    let phrase = written(&punctuated(rng, &phrase, 3));
-    [format!("{last} ").as_bytes(), &phrase].concat()
+    [head, written(&punctuated(rng, &phrase, 3))].concat()
 }
 
 /// A file of so many such lines. A newline would make two of one.
@@ -321,7 +576,7 @@ fn any_number(rng: &mut Rng, content: &[u8]) -> u16 {
     let lines = lines(content);
     let numbers: Vec<u16> = lines
         .iter()
-        .filter_map(|line| Some(parts(line)?.0))
+        .filter_map(|line| Some(parts(line).ok()?.number))
         .collect();
     match numbers.len() {
         0 => 0,
@@ -335,35 +590,63 @@ fn files_of_any_lines() {
     for round in 0..150 {
         let count = if round % 30 == 0 { 3000 } else { rng.below(40) };
         let content = any_file(&mut rng, count);
-        runs_as_expected(&content, any_number(&mut rng, &content));
+        let wanted = any_number(&mut rng, &content);
+        for listener in LISTENERS {
+            runs_as_expected(&content, listener, wanted);
+        }
     }
 }
 
 #[test]
 fn numbers_are_asked_for_by_digits_alone() {
-    let content = "0 а\n5 ду*б\n65535 у\n";
+    let content = "0 road а\n5 road ду*б\n65535 road у\n";
     for number in ["5", "05", "00005"] {
-        assert_eq!(run(content, number), Left::new("24 6 39\n", "", 0));
+        assert_eq!(run(content, "road", number), Left::new("24 6 39\n", "", 0));
     }
     let wrong = " |x|-0|-5|+5| 5|5 |5x|x5|5.|0x5|5\n|٥|65536|65541|99999|4294967301|\
                  18446744073709551621|340282366920938463463374607431768211461|";
     for number in wrong.split('|') {
-        assert_eq!(run(content, number), Left::new("", USAGE, 1), "{number:?}");
+        let left = run(content, "road", number);
+        assert_eq!(left, Left::new("", USAGE, 1), "{number:?}");
     }
     let no_text = OsStr::from_bytes(b"5\xFF");
-    assert_eq!(run(content, no_text), Left::new("", USAGE, 1));
+    assert_eq!(run(content, "road", no_text), Left::new("", USAGE, 1));
 }
 
 #[test]
-fn two_arguments_and_no_other_count() {
-    let file = Phrases::new("5 а\n");
+fn one_listener_asks_by_name() {
+    let content = "5 pump,road,dispatch ду*б\n";
+    for listener in LISTENERS {
+        assert_eq!(run(content, listener, "5"), Left::new("24 6 39\n", "", 0));
+    }
+    let wrong = "| |crew|all|-|0|1|2|3|5|pumps|pum|p|roads|dispatcher|dispatc|Pump|PUMP|насос|\
+                 pump\n| pump|pump |pump,road|pump,|,pump|pump,pump|pump,road,dispatch";
+    for listener in wrong.split('|') {
+        let left = run(content, listener, "5");
+        assert_eq!(left, Left::new("", USAGE, 1), "{listener:?}");
+    }
+    let no_text = OsStr::from_bytes(b"pump\xFF");
+    assert_eq!(run(content, no_text, "5"), Left::new("", USAGE, 1));
+}
+
+#[test]
+fn three_arguments_and_no_other_count() {
+    let file = Phrases::new("5 pump а\n");
     let file = file.0.to_str().expect("a plain name");
     for arguments in [
         &[][..],
         &[file],
         &["5"],
-        &[file, "5", "5"],
+        &[file, "pump"],
+        &[file, "5"],
+        &["pump", "5"],
+        &[file, "5", "pump"],
+        &["pump", file, "5"],
         &[file, file, "5"],
+        &[file, "5", "5"],
+        &[file, "pump", "5", "5"],
+        &[file, "pump", "road", "5"],
+        &[file, file, "pump", "5"],
     ] {
         let left = Left::by(Command::new(phrasebook()).args(arguments));
         assert_eq!(left, Left::new("", USAGE, 1), "{arguments:?}");
@@ -373,7 +656,7 @@ fn two_arguments_and_no_other_count() {
 #[test]
 fn a_file_that_cannot_be_read() {
     for path in ["/", "/no/such/file", ""] {
-        let left = Left::by(Command::new(phrasebook()).args([path, "5"]));
+        let left = Left::by(Command::new(phrasebook()).args([path, "pump", "5"]));
         let complaint = &left.complaints;
         assert_eq!((&left.print[..], left.status), ("", Some(1)), "{path}");
         let is_line = complaint.ends_with('\n') && complaint.lines().count() == 1;
@@ -387,10 +670,14 @@ fn a_file_that_cannot_be_read() {
 /// Only a phrase that was printed is a good end.
 #[test]
 fn an_output_that_is_full() {
-    let file = Phrases::new("5 а\n");
+    let file = Phrases::new("5 pump а\n");
     let full = fs::File::create("/dev/full").expect("a device that is always full");
     let mut command = Command::new(phrasebook());
-    let status = command.arg(&file.0).arg("5").stdout(full).status();
+    let status = command
+        .arg(&file.0)
+        .args(["pump", "5"])
+        .stdout(full)
+        .status();
     assert_eq!(status.expect("the program starts").code(), Some(1));
 }
 
@@ -398,7 +685,7 @@ fn an_output_that_is_full() {
 /// limit, that of its seconds.
 #[test]
 fn without_memory() {
-    let limited = "ulimit -v 20000 && ulimit -t 20 && exec \"$0\" /dev/zero 5";
+    let limited = "ulimit -v 20000 && ulimit -t 20 && exec \"$0\" /dev/zero pump 5";
     let left = Left::by(Command::new("sh").args(["-c", limited]).arg(phrasebook()));
     let complaint = "phrasebook: there is no memory left\n";
     assert_eq!(left, Left::new("", complaint, 1));
@@ -407,17 +694,26 @@ fn without_memory() {
 #[test]
 fn under_memory_check() {
     let mut rng = Rng::for_test(151);
-    let long = format!("5 {}\n6 а", "а, ".repeat(5000)).into_bytes();
+    let long = format!("5 road {}\n6 road а", "а, ".repeat(5000)).into_bytes();
+    let heads = "5\n5 \n5 pump\n5 pump,\n5 pump, \n5 pump \n5 ,".into();
     let [few, many] = [60, 400].map(|count| any_file(&mut rng, count));
-    for content in [thirty(), few, many, long, Vec::new()] {
+    for content in [thirty(), few, many, long, heads, Vec::new()] {
         let file = Phrases::new(&content);
         for wanted in [any_number(&mut rng, &content), u16::MAX] {
+            let listener = rng.pick(&LISTENERS);
             let mut command = under_valgrind(phrasebook());
-            let left = Left::by(command.arg(&file.0).arg(wanted.to_string()));
-            assert_eq!(left, expected(&content, wanted), "{wanted}");
+            command.arg(&file.0).args([listener, &wanted.to_string()]);
+            let expected = expected(&content, listener, wanted);
+            assert_eq!(Left::by(&mut command), expected, "{listener} {wanted}");
         }
     }
-    for arguments in [&["/no/such/file", "5"][..], &["/", "5"], &["5"]] {
+    for arguments in [
+        &["/no/such/file", "pump", "5"][..],
+        &["/", "pump", "5"],
+        &["/", "crew", "5"],
+        &["/", "", "5"],
+        &["5"],
+    ] {
         let left = Left::by(under_valgrind(phrasebook()).args(arguments));
         assert_eq!(left.status, Some(1), "{arguments:?}");
     }

@@ -206,15 +206,31 @@ fn read_by_taking_off(text: &[u8]) -> Result<Vec<u8>, Refusal> {
 fn refusal_by_taking_off(book: &[u8], place: usize, before: Option<u16>) -> Option<Refusal> {
     match *book {
         [] => None,
-        [0x52, 0x9E, low, high, length, 0, ref rest @ ..] if rest.len() >= length.into() => {
+        [0x52, 0x9F, low, high, _, length, 0, ref rest @ ..] if rest.len() >= length.into() => {
             let number = 256 * u16::from(high) + u16::from(low);
             if before >= Some(number) {
                 return Some(Refusal::new(16, place));
             }
             let length = usize::from(length);
-            refusal_by_taking_off(&rest[length..], place + 6 + length, Some(number))
+            refusal_by_taking_off(&rest[length..], place + 7 + length, Some(number))
         }
         _ => Some(Refusal::new(15, place)),
+    }
+}
+
+/// What a listener hears of phrase 1 in a sound book, by taking records off its start until that of
+/// the phrase comes.
+fn heard_by_taking_off(book: &[u8], listener: u32) -> Option<&[u8]> {
+    match *book {
+        [_, _, 1, 0, set, length, _, ref rest @ ..] => {
+            let is_for = [set % 2, set / 2 % 2, set / 4 % 2];
+            let is_heard = is_for.get(listener as usize) == Some(&1);
+            is_heard.then_some(&rest[..length.into()])
+        }
+        [_, _, _, _, _, length, _, ref rest @ ..] => {
+            heard_by_taking_off(&rest[length.into()..], listener)
+        }
+        _ => None,
     }
 }
 
@@ -319,21 +335,24 @@ fn reading_agrees_with_taking_off() {
 fn books_agree_with_taking_off() {
     let records = [
         &b""[..],
-        b"\x52\x9E\x00\x00\x00\x00",
-        b"\x52\x9E\x01\x00\x01\x00\x52",
+        b"\x52\x9F\x00\x00\x00\x00\x00",
+        b"\x52\x9F\x01\x00\x05\x01\x00\x52",
     ];
     for before in records {
-        for alphabet in [&b"\x52\x9E\x00\x01"[..], b"\x52\x9E\x00"] {
-            every_string(alphabet, 8, &mut |rest| {
+        for (alphabet, longest) in [(&b"\x52\x9F\x00\x01"[..], 8), (b"\x52\x9F\x00", 9)] {
+            every_string(alphabet, longest, &mut |rest| {
                 let book = [before, rest].concat();
-                let refused = book_find(&book, book.len(), 1).err();
-                assert_eq!(
-                    refused,
-                    refusal_by_taking_off(&book, 0, None),
-                    "{}",
-                    hex(&book)
-                );
+                (0..4).for_each(|listener| agrees_with_taking_off(&book, listener));
             });
         }
     }
+}
+
+fn agrees_with_taking_off(book: &[u8], listener: u32) {
+    let expected = match refusal_by_taking_off(book, 0, None) {
+        Some(refusal) => Err(refusal),
+        None => heard_by_taking_off(book, listener).ok_or(Refusal::new(17, 0)),
+    };
+    let found = book_find(listener, book, book.len(), 1);
+    assert_eq!(found.as_deref(), expected.as_deref(), "{}", hex(book));
 }

@@ -3,17 +3,18 @@
 
 use std::arch::asm;
 
+use govorun_tests::book::{self, Listener, HEAD};
 use govorun_tests::book_trial::Lent;
 use govorun_tests::fence::Fenced;
-use govorun_tests::gen::books::{laid, muddle, phrases};
+use govorun_tests::gen::books::{laid, muddle, phrases, Phrase};
 use govorun_tests::gen::damaged::SPOTS;
 use govorun_tests::gen::utf8::{taken, untaken};
 use govorun_tests::gen::{damaged, extreme_messages, noise, punctuated, Rng};
 use govorun_tests::message::breaks;
 use govorun_tests::spoken_levels::LONGEST;
-use govorun_tests::unit::{raw, Added, Found, Text};
+use govorun_tests::unit::{raw, Added, Found, Text, DISPATCH, PUMP, ROAD};
 use govorun_tests::utf8::written;
-use govorun_tests::{book, check, speak_level, Refusal};
+use govorun_tests::{check, speak_level, Refusal};
 
 /// The most that a call may take, in bytes, its return address with it, as the header says it.
 fn bound() -> usize {
@@ -24,8 +25,8 @@ fn bound() -> usize {
     number.replace(',', "").parse().expect("a number of bytes")
 }
 
-/// How many bytes a caller puts on the stack: an argument, and what keeps the stack aligned.
-const ABOVE: usize = 16;
+/// How many bytes a caller puts on the stack: three arguments, and what keeps the stack aligned.
+const ABOVE: usize = 32;
 
 /// A painted stack.
 struct Stack {
@@ -43,13 +44,14 @@ impl Stack {
     /// Calls a function of the C interface with these arguments and gives the number of its answer
     /// and how many bytes of stack it touched.
     fn call(&mut self, function: *const (), arguments: &[usize]) -> (u32, usize) {
-        let mut seven = [0; 7];
-        seven[..arguments.len()].copy_from_slice(arguments);
-        let [six @ .., seventh] = seven;
+        let mut nine = [0; 9];
+        nine[..arguments.len()].copy_from_slice(arguments);
+        let [six @ .., seventh, eighth, ninth] = nine;
         let whole = self.memory.whole();
         whole.copy_from_slice(&self.paint);
         let (stack, above) = whole.split_at_mut(whole.len() - ABOVE);
-        above[..size_of::<usize>()].copy_from_slice(&seventh.to_ne_bytes());
+        let others = [seventh, eighth, ninth].map(usize::to_ne_bytes);
+        above[..size_of_val(&others)].copy_from_slice(others.as_flattened());
         let top = stack.as_mut_ptr_range().end;
         // SAFETY: the stack is ours, and the caller hands the arguments that the function takes.
         let number = unsafe { call_on(top, function, six) };
@@ -64,7 +66,7 @@ impl Stack {
     }
 }
 
-/// Calls a function of up to seven whole numbers on another stack, above which the seventh stands.
+/// Calls a function of up to nine whole numbers on another stack, above which the last three stand.
 /// All answers of the interface but editor's, reader's and the book's come back in two registers,
 /// the number in the lower half of the first.
 ///
@@ -166,29 +168,42 @@ impl Deepest {
         }
     }
 
-    /// Calls lookup and addition. The place for an answer is the first argument, as for a text; the
-    /// number of the phrase takes the lower half of its register, and nothing is said of the upper.
-    fn measure_book(&mut self, stack: &mut Stack, lent: Lent, phrase: u16, msg: &[u8]) {
+    /// Calls lookup and addition. The place for an answer is the first argument, as for a text;
+    /// listener, number and set take the lower halves of theirs, and nothing is said of the upper.
+    fn measure_book(
+        &mut self,
+        stack: &mut Stack,
+        lent: Lent,
+        listener: u32,
+        phrase: u16,
+        msg: &[u8],
+    ) {
+        const UPPER: usize = 0x5A5A_5A5A << 32;
+        const SET: u8 = 0b1010_0101;
         let mut buffer = lent.buffer.to_vec();
         let no_answer = Refusal::new(u8::MAX, usize::MAX);
         let (mut found, mut added) = (Found::from(Err(no_answer)), Added::from(Err(no_answer)));
-        let register = usize::from(phrase) | 0x5A5A_5A5A << 32;
         let book = [
+            listener as usize | UPPER,
             buffer.as_mut_ptr() as usize,
             buffer.len(),
             lent.used,
-            register,
+            usize::from(phrase) | UPPER,
         ];
-        let message = [msg.as_ptr() as usize, msg.len()];
+        let message = [usize::from(SET) | UPPER, msg.as_ptr() as usize, msg.len()];
         let arguments = [&[&raw mut found as usize][..], &book].concat();
         let (_, touched) = stack.call(raw::govorun_book_find as _, &arguments);
         self.book_find = touched.max(self.book_find);
         let arguments = [&[&raw mut added as usize][..], &book, &message].concat();
         let (_, touched) = stack.call(raw::govorun_book_add as _, &arguments);
         self.book_add = touched.max(self.book_add);
+        let (by, used) = (Listener::of(listener), lent.used);
         let mut after = lent.buffer.to_vec();
-        assert_eq!(found, book::find(lent.buffer, lent.used, phrase).into());
-        assert_eq!(added, book::add(&mut after, lent.used, phrase, msg).into());
+        assert_eq!(found, book::find(by, lent.buffer, used, phrase).into());
+        assert_eq!(
+            added,
+            book::add(by, &mut after, used, phrase, SET, msg).into()
+        );
         assert_eq!(buffer, after);
     }
 
@@ -313,11 +328,11 @@ fn books() {
         let mut muddled = laid(&phrases(&mut rng, 50));
         muddle(&mut rng, &mut muddled);
         for book in [Vec::new(), laid(&phrases(&mut rng, 50)), muddled] {
-            for free in [2 * 4096 + 6, 0] {
+            for free in [2 * 4096 + HEAD, 0] {
                 let buffer = [&book[..], &vec![0; free]].concat();
                 let lent = Lent::new(&buffer, book.len());
-                for phrase in [u16::MAX, 300] {
-                    deepest.measure_book(&mut stack, lent, phrase, &msg);
+                for (listener, phrase) in [(DISPATCH, u16::MAX), (DISPATCH, 300), (PUMP, 1)] {
+                    deepest.measure_book(&mut stack, lent, listener, phrase, &msg);
                 }
             }
         }
@@ -331,12 +346,15 @@ fn a_book_of_all_numbers() {
     let mut rng = Rng::for_test(76);
     let mut stack = Stack::new(&mut rng);
     let mut deepest = Deepest::default();
-    let all: Vec<_> = (0..u16::MAX).map(|number| (number, vec![7])).collect();
+    let phrase = |number: u16| Phrase::new(number, number as u8, &[7]);
+    let all: Vec<_> = (0..u16::MAX).map(phrase).collect();
     let book = laid(&all);
-    let buffer = [&book[..], &[0; 7]].concat();
+    let buffer = [&book[..], &[0; HEAD + 1]].concat();
+    let lent = Lent::new(&buffer, book.len());
     for phrase in [0, 65_534, 65_535] {
-        let lent = Lent::new(&buffer, book.len());
-        deepest.measure_book(&mut stack, lent, phrase, b"\xE0");
+        for listener in [DISPATCH, ROAD, DISPATCH + (1 << 16)] {
+            deepest.measure_book(&mut stack, lent, listener, phrase, b"\xE0");
+        }
     }
     deepest.at_most(bound());
 }

@@ -8,6 +8,7 @@ use std::fs;
 
 use govorun_tests::agreed::{book_add, join, names, speak_level, tape};
 use govorun_tests::codes::NAMES;
+use govorun_tests::unit::DISPATCH;
 use govorun_tests::{cp1251, spell};
 
 /// The text of a file of the repository.
@@ -106,15 +107,15 @@ fn every_worked_level_has_its_words() {
 fn every_worked_record_is_what_is_added() {
     let rows = rows(
         "SPECIFICATION.md",
-        "| message | number | record, hexadecimal |",
+        "| message | number | set | record, hexadecimal |",
     );
     assert_eq!(rows.len(), 2);
     for row in rows {
-        let bytes = row[2].split(' ').map(|byte| u8::from_str_radix(byte, 16));
-        let record: Vec<u8> = bytes.map(|byte| byte.expect("two digits")).collect();
+        let byte = |digits| u8::from_str_radix(digits, 16).expect("two digits");
+        let record: Vec<u8> = row[3].split(' ').map(byte).collect();
         let mut buffer = vec![0xAA; record.len()];
-        let phrase = row[1].parse().expect("a number");
-        let added = book_add(&mut buffer, 0, phrase, &cp1251(&row[0]));
+        let (phrase, set) = (row[1].parse().expect("a number"), byte(&row[2]));
+        let added = book_add(DISPATCH, &mut buffer, 0, phrase, set, &cp1251(&row[0]));
         assert_eq!(added, Ok(record.len()), "{row:?}");
         assert_eq!(buffer, record, "{row:?}");
     }
@@ -133,9 +134,9 @@ fn numbers_of_rows(comments: &str) -> BTreeSet<usize> {
 fn every_refusal_has_a_row() {
     let rows = rows("../README.md", "| No. | what | place |");
     let listed: Vec<usize> = rows.iter().flat_map(|row| numbers(&row[0])).collect();
-    assert_eq!(listed, (1..=16).collect::<Vec<_>>());
+    assert_eq!(listed, (1..=17).collect::<Vec<_>>());
     let header = numbers_of_rows(&file("include/govorun.h"));
-    assert_eq!(header, (1..=16).collect());
+    assert_eq!(header, (1..=17).collect());
 }
 
 /// A word, with the number that says it, if one does.

@@ -1,27 +1,27 @@
 -- The walk over a book, place by place: what is read at a place of the bytes is what stands at the start of the bytes from there on.
-use Rattle.laws.proofs.Kit.{ℕ, suc, _+_, _-_, _*_, _<_, _≤_, _≡_, refl, sym, ap, _∙_, true, false, ⊎-elim, cond, _&&_, and-true, List, [], _∷_, add-one, arith, eqb, leb, length, drop, getD, getD-drop, length-drop, length-take-le, take-all, drop-of-length-le, drop-drop, le-leb, lt-leb, eqb-true, eqb-false, ne-eqb, eq-eqb}
-use Rattle.spec.specs.Book.{Phrase, recordOf, headSize, recordMark, pairAt, numberIn, lengthIn, spanIn, phraseIn, hasRecordMark, isWhole, isRecord, row15, row16, bookIn, Reading, holds, unsound, _then_, readFrom, readBook, search, startOf, placed, locateAnswer, leastAfter, afterBook, RisingFrom}
-use Rattle.spec.specs.{Utf8.same, Refusals.refusal, declared.Refusal.Refusal, declared.Answer.Answer, declared.Answer.the-variants.Refused}
+use Rattle.laws.proofs.Kit.{ℕ, suc, _+_, _-_, _*_, _<_, _≤_, _≡_, refl, sym, ap, _∙_, true, false, ⊎-elim, cond, _&&_, and-true, List, [], _∷_, add-one, arith, eqb, leb, length, drop, length-append, getD, getD-drop, length-drop, length-take-le, take-all, drop-of-length-le, drop-drop, le-leb, lt-leb, eqb-true, eqb-false, ne-eqb, eq-eqb}
+use Rattle.spec.specs.Book.{Phrase, recordOf, records, headSize, recordMark, pairAt, numberIn, lengthIn, spanIn, phraseIn, hasRecordMark, isWhole, isRecord, row15, row16, bookIn, Reading, holds, unsound, _then_, readFrom, readBook, Search, none, entry, search, recordAt, startOf, heard, placed, locateAnswer, leastAfter, afterBook, RisingFrom}
+use Rattle.spec.specs.{Listeners.mayHear, declared.Listener.Listener, declared.Located.Located, Utf8.same, Refusals.refusal, declared.Refusal.Refusal, declared.Answer.Answer, declared.Answer.the-variants.Refused}
 use Rattle.spec.specs.declared.Located.the-variants as located
-use Rattle.laws.proofs.{Classes.either, Classes.refuted, Classes.below-or, Book.Stands, Book.record-stands, Book.stands-15, Book.read-15, Book.read-16, Book.read-record, Book.Bytes, Book.Judged, Book.isSound, Book.isRefused, Book.judge, Book.record-size}
-use Rattle.book.specs.Walking.{EndOf, walkedOf, noted, toldBy}
-use Rattle.book.specs.{declared.Contents.Contents, declared.Seen.Seen, declared.Walked.Walked, declared.Walked.the-variants.Sound, declared.Walked.the-variants.Unsound}
+use Rattle.laws.proofs.{Classes.either, Classes.refuted, Classes.below-or, Book.Stands, Book.record-stands, Book.stands-15, Book.read-15, Book.read-16, Book.read-record, Book.Bytes, Book.Judged, Book.isSound, Book.isRefused, Book.judge, Book.record-size, Book.written-reads, Lookup.found-stands, Lookup.record-there, Lookup.tape-inside}
+use Rattle.book.specs.Walking.{EndOf, walkedOf, noted, PlaceIn, toldAt}
+use Rattle.book.specs.{declared.Seen.Seen, declared.Walked.Walked, declared.Walked.the-variants.Sound, declared.Walked.the-variants.Unsound}
 
 -- the two bytes of the mark
-mark-bytes : (x : List ℕ) → hasRecordMark x ≡ (eqb (getD x 0 0) 82 && eqb (getD x 1 0) 158)
+mark-bytes : (x : List ℕ) → hasRecordMark x ≡ (eqb (getD x 0 0) 82 && eqb (getD x 1 0) 159)
 unfolding hasRecordMark recordMark same
 mark-bytes [] = refl
 mark-bytes (a ∷ []) = refl
-mark-bytes (a ∷ b ∷ x) = ap (eqb a 82 &&_) (and-true (eqb b 158))
+mark-bytes (a ∷ b ∷ x) = ap (eqb a 82 &&_) (and-true (eqb b 159))
 
 -- as a number
-mark-number : (a b : ℕ) → a < 256 → eqb (a + b * 256) 40530 ≡ (eqb a 82 && eqb b 158)
+mark-number : (a b : ℕ) → a < 256 → eqb (a + b * 256) 40786 ≡ (eqb a 82 && eqb b 159)
 mark-number a b h = either (eqb a 82)
-    (λ p. either (eqb b 158) (λ q. rw (p, q) (eq-eqb (a + b * 256) 40530 (omega (arith, eqb-true a 82 p, eqb-true b 158 q))))
-    (λ q. rw (p, q) (ne-eqb (a + b * 256) 40530 (λ e. eqb-false b 158 q (omega (arith, e, h))))))
-    (λ p. rw p (ne-eqb (a + b * 256) 40530 (λ e. eqb-false a 82 p (omega (arith, e, h)))))
+    (λ p. either (eqb b 159) (λ q. rw (p, q) (eq-eqb (a + b * 256) 40786 (omega (arith, eqb-true a 82 p, eqb-true b 159 q))))
+    (λ q. rw (p, q) (ne-eqb (a + b * 256) 40786 (λ e. eqb-false b 159 q (omega (arith, e, h))))))
+    (λ p. rw p (ne-eqb (a + b * 256) 40786 (λ e. eqb-false a 82 p (omega (arith, e, h)))))
 
-pub mark-at : (x : List ℕ) (i : ℕ) → Bytes x → eqb (pairAt i x) 40530 ≡ hasRecordMark (drop i x)
+pub mark-at : (x : List ℕ) (i : ℕ) → Bytes x → eqb (pairAt i x) 40786 ≡ hasRecordMark (drop i x)
 unfolding pairAt
 mark-at x i b =
     let z : i + 0 ≡ i = omega arith in
@@ -58,43 +58,40 @@ end-all buffer used r l m h = record { inside = m; book = take-all r buffer l �
 -- what is seen with the phrases from place i on, after what was seen before them, and what the walk comes to with them
 abbrev notedAll : Seen → ℕ → ℕ → List Phrase → Seen
 notedAll s n i [] = s
-notedAll s n i (f ∷ fs) = let k = i + headSize in notedAll (noted s n (f .number) k (length (f .codes))) n (k + length (f .codes)) fs
+notedAll s n i (f ∷ fs) = notedAll (noted s n (f .number) i) n (i + length (recordOf f)) fs
+
+abbrev pub soundWith : Seen → Walked
+soundWith s = Sound (s .least) (s .place)
 
 abbrev pub resumed : Seen → ℕ → ℕ → Reading → Walked
-resumed s n i (holds fs) = Sound (toldBy (notedAll s n i fs))
+resumed s n i (holds fs) = soundWith (notedAll s n i fs)
 resumed s n i (unsound r) = Unsound r
 
-resumed-then : (s : Seen) (n i : ℕ) (f : Phrase) (r : Reading)
-    → resumed s n i (f then r) ≡ (let k = i + headSize in resumed (noted s n (f .number) k (length (f .codes))) n (k + length (f .codes)) r)
+resumed-then : (s : Seen) (n i : ℕ) (f : Phrase) (r : Reading) → resumed s n i (f then r) ≡ resumed (noted s n (f .number) i) n (i + length (recordOf f)) r
 unfolding _then_
 resumed-then s n i f (holds fs) = refl
 resumed-then s n i f (unsound r) = refl
 
 -- Numbers rise, so above the number wanted nothing is found any more,
-noted-above : (n k i : ℕ) (s : Seen) (fs : List Phrase) → RisingFrom k fs → n < k → notedAll s n i fs ≡ record { least = leastAfter (s .least) fs; start = s .start; length = s .length }
+noted-above : (n k i : ℕ) (s : Seen) (fs : List Phrase) → RisingFrom k fs → n < k → notedAll s n i fs ≡ record { least = leastAfter (s .least) fs; place = s .place }
 unfolding leastAfter
 noted-above n k i s [] r h = refl
 noted-above n k i s (f ∷ fs) r h =
     let e = ne-eqb (f .number) n (omega (arith, h, r .1)) in
-    rw (e, add-one (f .number)) (noted-above n (suc (f .number)) (i + headSize + length (f .codes)) (record { least = suc (f .number); start = s .start; length = s .length }) fs (r .2) (omega (arith, h, r .1)))
+    rw (e, add-one (f .number)) (noted-above n (suc (f .number)) (i + length (recordOf f)) (record { least = suc (f .number); place = s .place }) fs (r .2) (omega (arith, h, r .1)))
 
--- and the walk finds what a search in the phrases does.
-noted-found : (n k i : ℕ) (s : Seen) (fs : List Phrase) → RisingFrom k fs → s .start ≡ 0
-    → toldBy (notedAll s n i fs) ≡ record { least = leastAfter (s .least) fs; found = placed (i + startOf fs n) (search fs n) }
-unfolding leastAfter startOf search placed
-noted-found n k i s [] r h = rw h refl
+-- and the walk, which begins with the book's end for the place, finds where the record wanted begins.
+noted-found : (n k i : ℕ) (s : Seen) (fs : List Phrase) → RisingFrom k fs → s .place ≡ i + length (records fs) → notedAll s n i fs ≡ record { least = leastAfter (s .least) fs; place = i + recordAt fs n }
+unfolding leastAfter recordAt records
+noted-found n k i s [] r h = rw (← h) refl
 noted-found n k i s (f ∷ fs) r h =
-    let j = i + headSize + length (f .codes) in
-    let a : i + (length (recordOf f) + startOf fs n) ≡ j + startOf fs n = omega (arith, record-size f) in
-    let here : Seen = record { least = suc (f .number); start = i + headSize; length = length (f .codes) } in
-    let as-before : Seen = record { least = suc (f .number); start = s .start; length = s .length } in
+    let j = i + length (recordOf f) in
+    let z : i + 0 ≡ i = omega arith in
+    let here : i + (length (recordOf f) + recordAt fs n) ≡ j + recordAt fs n = omega arith in
+    let end : s .place ≡ j + length (records fs) = omega (arith, h, length-append (recordOf f) (records fs)) in
     either (eqb (f .number) n)
-    (λ q.
-    let e : notedAll s n i (f ∷ fs) ≡ notedAll here n j fs = rw (q, add-one (f .number)) refl in
-    ap toldBy (e ∙ noted-above n (suc (f .number)) j here fs (r .2) (omega (arith, eqb-true (f .number) n q))) ∙ rw (q, ne-eqb (i + headSize) 0 (omega arith)) refl)
-    (λ q.
-    let e : notedAll s n i (f ∷ fs) ≡ notedAll as-before n j fs = rw (q, add-one (f .number)) refl in
-    ap toldBy e ∙ noted-found n (suc (f .number)) j as-before fs (r .2) h ∙ rw (q, a) refl)
+    (λ q. rw (q, z, add-one (f .number)) (noted-above n (suc (f .number)) j (record { least = suc (f .number); place = i }) fs (r .2) (omega (arith, eqb-true (f .number) n q))))
+    (λ q. rw (q, here, add-one (f .number)) (noted-found n (suc (f .number)) j (record { least = suc (f .number); place = s .place }) fs (r .2) end))
 
 -- Where the walk stands: at place i of the book, with s seen; what is left to read makes of it what is due.
 pub record Going (book : List ℕ) (n i : ℕ) (s : Seen) : Type 0 where
@@ -102,19 +99,18 @@ pub record Going (book : List ℕ) (n i : ℕ) (s : Seen) : Type 0 where
   pub bytes : Bytes book
   pub rest : walkedOf (readBook book) n ≡ resumed s n i (readFrom 0 i (s .least) (drop i book))
 
-abbrev none-seen : Seen
-none-seen = record { least = 0; start = 0; length = 0 }
-
-pub going-start : (book : List ℕ) (n : ℕ) → Bytes book → Going book n 0 none-seen
+pub going-start : (book : List ℕ) (n : ℕ) → Bytes book → Going book n 0 (record { least = 0; place = length book })
 unfolding walkedOf readBook
 going-start book n b = record { inside = omega arith; bytes = b; rest = of (judge book b) } where
-  of : Judged book → walkedOf (readBook book) n ≡ resumed none-seen n 0 (readBook book)
-  of (isSound fs s e) = rw e (ap Sound (let z : 0 + startOf fs n ≡ startOf fs n = omega arith in sym (rw z at (noted-found n 0 0 none-seen fs (s .rising) refl))))
+  of : Judged book → walkedOf (readBook book) n ≡ resumed (record { least = 0; place = length book }) n 0 (readBook book)
+  of (isSound fs s e) =
+      let z : 0 + recordAt fs n ≡ recordAt fs n = omega arith in
+      rw e (ap soundWith (sym (rw z at (noted-found n 0 0 (record { least = 0; place = length book }) fs (s .rising) (omega (arith, ap length (s .bytes)))))))
   of (isRefused k p range d e) = rw e refl
 
-pub going-all : {book : List ℕ} {n i : ℕ} {s : Seen} {c : Contents} → Going book n i s → length book ≤ i → c ≡ toldBy s → Sound c ≡ walkedOf (readBook book) n
+pub going-all : {book : List ℕ} {n i : ℕ} {s : Seen} → Going book n i s → length book ≤ i → soundWith s ≡ walkedOf (readBook book) n
 unfolding readFrom
-going-all {book} {n} {i} {s} {c} g h e = ap Sound e ∙ sym (rw (drop-of-length-le book h) at (g .rest))
+going-all {book} {n} {i} {s} g h = sym (rw (drop-of-length-le book h) at (g .rest))
 
 -- At a place with more bytes the walk stops with 15 or 16, or goes on behind a record.
 module _ {book : List ℕ} {n i : ℕ} {s : Seen} (g : Going book n i s) where
@@ -135,27 +131,59 @@ module _ {book : List ℕ} {n i : ℕ} {s : Seen} (g : Going book n i s) where
         let k : row16 (s .least) x ≡ true = rw (← e, lt-leb (s .least) number l) refl in
         sym (rw (read-16 i (s .least) x left (stands-15 there) k) at (g .rest))
 
-    pub going-more : {size : ℕ} {q : Seen} → size ≡ lengthIn x → s .least ≤ number → q ≡ noted s n number (i + headSize) size → Going book n (i + headSize + size) q
+    pub going-more : {j : ℕ} {q : Seen} → j ≡ i + spanIn x → s .least ≤ number → q ≡ noted s n number i → Going book n j q
     unfolding row16 phraseIn
-    going-more {size} {q} b l t =
+    going-more {j} {q} b l t =
         let k : row16 (s .least) x ≡ false = rw (← e, le-leb (s .least) number l) refl in
         let w = there .whole in
-        let z : length (phraseIn x .codes) ≡ lengthIn x = length-take-le (lengthIn x) (drop headSize x) (omega (arith, w, length-drop headSize x)) in
-        let j : i + spanIn x ≡ i + headSize + lengthIn x = omega arith in
+        let z : length (recordOf (phraseIn x)) ≡ spanIn x = record-size (phraseIn x) ∙ ap (headSize +_) (length-take-le (lengthIn x) (drop headSize x) (omega (arith, w, length-drop headSize x))) in
         record {
           inside = omega (arith, w, b, length-drop i book);
           bytes = g .bytes;
-          rest = g .rest ∙ ap (resumed s n i) (read-record i (s .least) x left (stands-15 there) k) ∙ resumed-then s n i (phraseIn x) _ ∙ rw (t, e, b, z, add-one (numberIn x), drop-drop (spanIn x) i book, j) refl;
+          rest = g .rest ∙ ap (resumed s n i) (read-record i (s .least) x left (stands-15 there) k) ∙ resumed-then s n i (phraseIn x) _ ∙ rw (t, e, b, z, add-one (numberIn x), drop-drop (spanIn x) i book) refl;
         }
 
--- What the walk tells, for lookups and additions.
-pub walked-sound : (r : Reading) (n bookEnd : ℕ) (a : Answer) {c : Contents} → walkedOf r n ≡ Sound c
-    → (locateAnswer r n ≡ c .found) × (afterBook r n bookEnd a ≡ cond (leb (c .least) n) a (Refused (refusal 16 bookEnd)))
+-- What the walk over a book that is not sound tells, for lookups and additions,
+pub walked-unsound : (l : Listener) (r : Reading) (n bookEnd : ℕ) (a : Answer) {x : Refusal} → walkedOf r n ≡ Unsound x → (locateAnswer l r n ≡ located.Refused x) × (afterBook r n bookEnd a ≡ Refused x)
 unfolding walkedOf locateAnswer afterBook
-walked-sound (holds fs) n bookEnd a {c} h = let e : c ≡ record { least = leastAfter 0 fs; found = placed (startOf fs n) (search fs n) } = (cc) in rw e (refl, refl)
-walked-sound (unsound x) n bookEnd a h = absurd (let z : _≡_ {A = ℕ} 0 1 = cc in omega (arith, z))
+walked-unsound l (holds fs) n bookEnd a h = absurd (let z : _≡_ {A = ℕ} 0 1 = cc in omega (arith, z))
+walked-unsound l (unsound y) n bookEnd a {x} h = let e : y ≡ x = (cc) in rw e (refl, refl)
 
-pub walked-unsound : (r : Reading) (n bookEnd : ℕ) (a : Answer) {x : Refusal} → walkedOf r n ≡ Unsound x → (locateAnswer r n ≡ located.Refused x) × (afterBook r n bookEnd a ≡ Refused x)
-unfolding walkedOf locateAnswer afterBook
-walked-unsound (holds fs) n bookEnd a h = absurd (let z : _≡_ {A = ℕ} 0 1 = cc in omega (arith, z))
-walked-unsound (unsound y) n bookEnd a {x} h = let e : y ≡ x = (cc) in rw e (refl, refl)
+-- and over a sound one, for an addition
+pub walked-least : (r : Reading) (n bookEnd : ℕ) (a : Answer) {least place : ℕ} → walkedOf r n ≡ Sound least place → afterBook r n bookEnd a ≡ cond (leb least n) a (Refused (refusal 16 bookEnd))
+unfolding walkedOf afterBook
+walked-least (holds fs) n bookEnd a {least} h = let e : least ≡ leastAfter 0 fs = (cc) in rw e refl
+walked-least (unsound x) n bookEnd a h = absurd (let z : _≡_ {A = ℕ} 0 1 = cc in omega (arith, z))
+
+-- and for a lookup: the record there, or the book's end, tells a listener what he must be told.
+none-at : (n : ℕ) (fs : List Phrase) → search fs n ≡ none → recordAt fs n ≡ length (records fs)
+unfolding search recordAt records
+none-at n [] h = refl
+none-at n (f ∷ fs) h = either (eqb (f .number) n) (λ q. absurd (let u = rw q at h in let z : _≡_ {A = ℕ} 0 1 = cc in omega (arith, z)))
+    (λ q. rw q (ap (length (recordOf f) +_) (none-at n fs (rw q at h)) ∙ sym (length-append (recordOf f) (records fs))))
+
+module _ (l : Listener) (book : List ℕ) (n : ℕ) (b : Bytes book) {least place : ℕ} (walked : walkedOf (readBook book) n ≡ Sound least place) where
+  abbrev Told : ℕ → Located → Type 0
+  Told i due = PlaceIn book i × (toldAt l book i ≡ due)
+
+  told-search : (fs : List Phrase) → RisingFrom 0 fs → book ≡ records fs → (q : Search) → search fs n ≡ q → Told (recordAt fs n) (placed (startOf fs n) (heard l q))
+  unfolding placed heard
+  told-search fs r e none h =
+      let z : length book ≤ recordAt fs n = omega (arith, ap length e, none-at n fs h) in
+      (λ more. absurd (omega (arith, z, more)), rw (le-leb (length book) (recordAt fs n) z) refl)
+  told-search fs r e (entry set t) h =
+      let w = found-stands 0 n set t fs r h in
+      let d = rw (← e) at (record-there w) in
+      let f = written-reads (record { number = n; set = set; codes = t }) (w .behind) (w .fits) in
+      let z : recordAt fs n + headSize + length t ≤ length book = omega (arith, tape-inside w, ap length e) in
+      (λ more. omega (arith, z), rw (lt-leb (length book) (recordAt fs n) (omega (arith, z)), d, f .set, f .length) (either (mayHear l set) (λ m. rw m refl) (λ m. rw m refl)))
+
+  pub told-walked : Told place (locateAnswer l (readBook book) n)
+  unfolding walkedOf locateAnswer
+  told-walked = of (judge book b) where
+    of : Judged book → Told place (locateAnswer l (readBook book) n)
+    of (isSound fs g e) =
+        let w = rw e at walked in
+        let z : place ≡ recordAt fs n = (cc) in
+        rw (e, z) (told-search fs (g .rising) (g .bytes) (search fs n) refl)
+    of (isRefused k p range d e) = absurd (let w = rw e at walked in let z : _≡_ {A = ℕ} 0 1 = cc in omega (arith, z))

@@ -4,13 +4,15 @@ use Prim.Native.Nat.{ℕ, _+_, _<_, _≤_}
 use mathlib.Core.Path.{_≡_}
 use mathlib.Core.Bool.{cond}
 use mathlib.Core.List.{List}
-use lib.Dec.{eqb}
-use lib.ListN.{length, take}
-use Rattle.spec.specs.Book.{headSize, Reading, holds, unsound, bookIn, search, startOf, placed, leastAfter}
+use lib.Dec.{eqb, leb}
+use lib.ListN.{length, take, drop}
+use Rattle.spec.specs.Book.{headSize, setIn, lengthIn, Reading, holds, unsound, bookIn, recordAt, leastAfter}
+use Rattle.spec.specs.Listeners.{mayHear, withheld}
 use Rattle.spec.specs.Tape.{tape}
 use Rattle.message.specs.Places.{Steady}
-use Rattle.spec.specs.declared.Located.the-variants.{At, Missing}
-use Rattle.book.specs.declared.Contents.{Contents}
+use Rattle.spec.specs.declared.Listener.{Listener}
+use Rattle.spec.specs.declared.Located.{Located}
+use Rattle.spec.specs.declared.Located.the-variants as located
 use Rattle.book.specs.declared.Seen.{Seen}
 use Rattle.book.specs.declared.Walked.{Walked}
 use Rattle.book.specs.declared.Walked.the-variants.{Sound, Unsound}
@@ -20,18 +22,24 @@ pub record EndOf (buffer : List ℕ) (used r : ℕ) : Type 0 where
   pub inside : r ≤ length buffer
   pub book : take r buffer ≡ bookIn buffer used
 
--- what a book tells of number n
+-- what the walk over a book comes to: the least number that may be added, and where the record of number n begins, the book's end where there is none
 unfoldable pub walkedOf : Reading → ℕ → Walked
-walkedOf (holds fs) n = Sound (record { least = leastAfter 0 fs; found = placed (startOf fs n) (search fs n) })
+walkedOf (holds fs) n = Sound (leastAfter 0 fs) (recordAt fs n)
 walkedOf (unsound r) n = Unsound r
 
--- what was seen before a record, and is seen with it: it has this number, and its tape begins at this place and is so long
-abbrev pub noted : Seen → ℕ → ℕ → ℕ → ℕ → Seen
-noted s wanted number start size = record { least = number + 1; start = cond (eqb number wanted) start (s .start); length = cond (eqb number wanted) size (s .length) }
+-- what was seen before a record, and is seen with it: it has this number, and begins at this place
+abbrev pub noted : Seen → ℕ → ℕ → ℕ → Seen
+noted s wanted number place = record { least = number + 1; place = cond (eqb number wanted) place (s .place) }
 
--- what that tells of a whole book
-abbrev pub toldBy : Seen → Contents
-toldBy s = record { least = s .least; found = cond (eqb (s .start) 0) Missing (At (s .start) (s .length)) }
+-- a place where a record begins, or the book's end
+abbrev pub PlaceIn : List ℕ → ℕ → Type 0
+PlaceIn book i = (i < length book) → i + headSize ≤ length book
+
+-- what a listener is told there
+abbrev pub toldAt : Listener → List ℕ → ℕ → Located
+toldAt l book i =
+    cond (leb (length book) i) (located.Refused withheld)
+    (cond (mayHear l (setIn (drop i book))) (located.At (i + headSize) (lengthIn (drop i book))) (located.Refused withheld))
 
 -- a head may be written at place i, for number n and a tape of so many codes
 pub record HeadDue (out : List ℕ) (i n size : ℕ) : Type 0 where

@@ -1,10 +1,11 @@
-// Additions (paper 02, request 6).
+// Additions (paper 02, requests 6 and 7).
 ghost use mathlib.Core.Path.{_≡_};
 ghost use lib.ListN.{length};
 ghost use Rattle.spec.specs.Book.{readBook, afterBook, phraseOf, recordOf, AddPromise};
 ghost use Rattle.laws.proofs.Putting.{Put};
 ghost use Rattle.book.specs.Walking.{RecordDue};
 use crate::Walked;
+use crate::listeners::not_for_listener;
 use crate::reading::book_end;
 use crate::reading::walk;
 use crate::records;
@@ -13,6 +14,7 @@ use message::check::check;
 use message::classify::class_table;
 use spec::Answer;
 use spec::Checked;
+use spec::Listener;
 use spec::Refusal;
 use transcriber::answers::refused;
 use transcriber::tables::sound_table;
@@ -23,8 +25,8 @@ fn judge(book: &[u8], number: usize) -> Answer
     ensures { λ r. ⌜ r ≡ afterBook (readBook (now (book .entry))) number (length (now (book .entry))) (Answer.Written 0 0) ⌝ }
 {
     match walk(book, number) {
-        Walked::Sound(c) => {
-            if number < c.least {
+        Walked::Sound { least, place: _ } => {
+            if number < least {
                 return Answer::Refused(Refusal {
                     number: 16,
                     place: book.len(),
@@ -37,20 +39,20 @@ fn judge(book: &[u8], number: usize) -> Answer
 }
 
 // Writes the record of an accepted message, whose tape has n codes, from place i on, and tells where it ends. The tape is put straight to its place, right before that end.
-fn write_record(m: &[u8], out: &mut [u8], i: usize, number: usize, n: usize) -> usize
+fn write_record(m: &[u8], out: &mut [u8], i: usize, number: usize, set: u8, n: usize) -> usize
     requires { ⌜ RecordDue (now m) (now out) i number n ⌝ }
-    ensures { λ r. ⌜ Put (recordOf (phraseOf number (now (m .entry)))) (now (out .entry)) (now (out .exit)) r i ⌝ }
+    ensures { λ r. ⌜ Put (recordOf (phraseOf number set (now (m .entry)))) (now (out .entry)) (now (out .exit)) r i ⌝ }
 {
-    let end = put_head(out, i, number, n) + n;
+    let end = put_head(out, i, number, set, n) + n;
     let t = class_table();
     let s = sound_table();
     write_tape(m, out, end, &t, &s);
     end
 }
 
-// The writer: adds the tape of a message under a number at the end of the book, and answers the new used count; or refuses and leaves every byte.
-pub fn add(buffer: &mut [u8], used: usize, number: u16, m: &[u8]) -> Answer
-    ensures { λ r. ⌜ AddPromise (now (buffer .entry)) used number (now (m .entry)) (now (buffer .exit)) r ⌝ }
+// Dispatch's addition: puts the record behind the book and answers the new used count, or refuses and leaves every byte.
+fn append(buffer: &mut [u8], used: usize, number: u16, set: u8, m: &[u8]) -> Answer
+    ensures { λ r. ⌜ AddPromise Listener.Dispatch (now (buffer .entry)) used number set (now (m .entry)) (now (buffer .exit)) r ⌝ }
 {
     let checked = check(m);
     let Checked::Accepted(counts) = checked else {
@@ -69,6 +71,24 @@ pub fn add(buffer: &mut [u8], used: usize, number: u16, m: &[u8]) -> Answer
             place: total,
         });
     }
-    let length = write_record(m, buffer, end, number as usize, n);
+    let length = write_record(m, buffer, end, number as usize, set, n);
     Answer::Written { length, live: 0 }
+}
+
+// The writer: adds the tape of a message, under a number and for a set of listeners, at the end of the book. Only dispatch may add phrases; anyone else is turned away before all other checks.
+pub fn add(
+    listener: Listener,
+    buffer: &mut [u8],
+    used: usize,
+    number: u16,
+    set: u8,
+    m: &[u8],
+) -> Answer
+    ensures { λ r. ⌜ AddPromise listener (now (buffer .entry)) used number set (now (m .entry)) (now (buffer .exit)) r ⌝ }
+{
+    match listener {
+        Listener::Pump => Answer::Refused(not_for_listener()),
+        Listener::Road => Answer::Refused(not_for_listener()),
+        Listener::Dispatch => append(buffer, used, number, set, m),
+    }
 }

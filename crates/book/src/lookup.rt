@@ -1,34 +1,63 @@
-// Lookups (paper 02, request 6).
+// Lookups (paper 02, requests 6 and 7).
 ghost use mathlib.Core.Path.{_≡_};
 ghost use Rattle.spec.specs.Book.{readBook, bookIn, locateAnswer, standsAfter, FindPromise, LocatePromise};
+ghost use Rattle.book.specs.Walking.{PlaceIn, toldAt};
 use crate::Walked;
+use crate::listeners::may_hear;
+use crate::listeners::not_for_listener;
 use crate::reading::book_end;
 use crate::reading::walk;
+use crate::records;
+use crate::records::pair_at;
 use spec::Found;
+use spec::Listener;
 use spec::Located;
 
-// Tells where in the buffer the tape under a number stands, or that there is none, or why the book is not sound.
-pub fn locate(buffer: &[u8], used: usize, wanted: u16) -> Located
-    ensures { λ r. ⌜ LocatePromise (now (buffer .entry)) used wanted r ⌝ }
+// What a listener is told of the record at a place, or of the book's end, where none begins.
+fn tell(listener: Listener, book: &[u8], i: usize) -> Located
+    requires { ⌜ PlaceIn (now book) i ⌝ }
+    ensures { λ r. ⌜ r ≡ toldAt listener (now (book .entry)) i ⌝ }
+{
+    if book.len() <= i {
+        return Located::Refused(not_for_listener());
+    }
+    if may_hear(listener, book[i + records::SET]) {
+        return Located::At {
+            start: i + records::HEAD_SIZE,
+            length: pair_at(book, i + records::LENGTH),
+        };
+    }
+    Located::Refused(not_for_listener())
+}
+
+// Tells a listener where in the buffer the tape under a number stands, if it is for him, or else that it is not, or why the book is not sound.
+pub fn locate(listener: Listener, buffer: &[u8], used: usize, wanted: u16) -> Located
+    ensures { λ r. ⌜ LocatePromise listener (now (buffer .entry)) used wanted r ⌝ }
 {
     let end = book_end(buffer, used);
-    match walk(&buffer[..end], wanted as usize) {
-        Walked::Sound(c) => c.found,
+    let book = &buffer[..end];
+    match walk(book, wanted as usize) {
+        Walked::Sound { least: _, place } => tell(listener, book, place),
         Walked::Unsound(r) => Located::Refused(r),
     }
 }
 
 // Hands back the tape's own bytes, a part of the buffer, in the place that is lent for it; where there is none to hand back the place keeps what it had.
-pub fn find<'a>(buffer: &'a [u8], used: usize, wanted: u16, tape: &mut &'a [u8]) -> Found
-    ensures { λ r. ⌜ FindPromise (now (buffer .entry)) used wanted (now (now (tape .entry))) (now (now (tape .exit))) r ⌝ }
-    ensures { λ _. ⌜ now (tape .exit) .ptr ≡ standsAfter (locateAnswer (readBook (bookIn (now (buffer .entry)) used)) wanted) (buffer .entry .ptr) (now (tape .entry) .ptr) ⌝ }
+pub fn find<'a>(
+    listener: Listener,
+    buffer: &'a [u8],
+    used: usize,
+    wanted: u16,
+    tape: &mut &'a [u8],
+) -> Found
+    ensures { λ r. ⌜ FindPromise listener (now (buffer .entry)) used wanted (now (now (tape .entry))) (now (now (tape .exit))) r ⌝ }
+    ensures { λ _. ⌜ now (tape .exit) .ptr ≡ standsAfter (locateAnswer listener (readBook (bookIn (now (buffer .entry)) used)) wanted) (buffer .entry .ptr) (now (tape .entry) .ptr) ⌝ }
 {
-    match locate(buffer, used, wanted) {
+    match locate(listener, buffer, used, wanted) {
         Located::At { start, length } => {
             *tape = &buffer[start..start + length];
             Found::Tape
         }
-        Located::Missing => Found::Missing,
         Located::Refused(r) => Found::Refused(r),
     }
 }

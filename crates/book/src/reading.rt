@@ -2,14 +2,12 @@
 ghost use mathlib.Core.Path.{_≡_};
 ghost use Prim.Native.Nat.{_<_};
 ghost use Rattle.spec.specs.Book.{readBook};
-ghost use Rattle.book.specs.Walking.{noted, toldBy, walkedOf, EndOf};
-use crate::Contents;
+ghost use Rattle.book.specs.Walking.{noted, walkedOf, EndOf};
 use crate::Seen;
 use crate::Walked;
 use crate::records;
 use crate::records::is_record;
 use crate::records::pair_at;
-use spec::Located;
 use spec::Refusal;
 
 // Where the book ends in a buffer: at the used count, or at the buffer's end where the count is above that.
@@ -22,43 +20,18 @@ pub fn book_end(buffer: &[u8], used: usize) -> usize
     used
 }
 
-// What is seen with one more record: it has this number, and its tape begins at this place and is so long.
-fn note(s: Seen, wanted: usize, number: usize, start: usize, length: usize) -> Seen
+// What is seen with one more record: it has this number, and begins at this place.
+fn note(s: Seen, wanted: usize, number: usize, place: usize) -> Seen
     requires { ⌜ number < 65536 ⌝ }
-    ensures { λ r. ⌜ r ≡ noted s wanted number start length ⌝ }
+    ensures { λ r. ⌜ r ≡ noted s wanted number place ⌝ }
 {
     let least = number + 1;
     if number == wanted {
-        return Seen {
-            least,
-            start,
-            length,
-        };
+        return Seen { least, place };
     }
     Seen {
         least,
-        start: s.start,
-        length: s.length,
-    }
-}
-
-// What was seen of a whole book as what it tells.
-fn tell(s: Seen) -> Contents
-    ensures { λ r. ⌜ r ≡ toldBy s ⌝ }
-{
-    let least = s.least;
-    if s.start == 0 {
-        return Contents {
-            least,
-            found: Located::Missing,
-        };
-    }
-    Contents {
-        least,
-        found: Located::At {
-            start: s.start,
-            length: s.length,
-        },
+        place: s.place,
     }
 }
 
@@ -69,8 +42,7 @@ pub fn walk(book: &[u8], wanted: usize) -> Walked
     let mut i = 0;
     let mut s = Seen {
         least: 0,
-        start: 0,
-        length: 0,
+        place: book.len(),
     };
     while is_record(book, i) {
         let number = pair_at(book, i + records::NUMBER);
@@ -80,10 +52,8 @@ pub fn walk(book: &[u8], wanted: usize) -> Walked
                 place: i,
             });
         }
-        let start = i + records::HEAD_SIZE;
-        let length = pair_at(book, i + records::LENGTH);
-        s = note(s, wanted, number, start, length);
-        i = start + length;
+        s = note(s, wanted, number, i);
+        i = i + records::HEAD_SIZE + pair_at(book, i + records::LENGTH);
     }
     if i < book.len() {
         return Walked::Unsound(Refusal {
@@ -91,5 +61,8 @@ pub fn walk(book: &[u8], wanted: usize) -> Walked
             place: i,
         });
     }
-    Walked::Sound(tell(s))
+    Walked::Sound {
+        least: s.least,
+        place: s.place,
+    }
 }

@@ -1,20 +1,23 @@
-// The record of a phrase (paper 02, request 6): a head of mark, number and length, and then the tape.
+// The record of a phrase (paper 02, requests 6 and 7): a head of mark, number, set of listeners and length, and then the tape.
 ghost use mathlib.Core.Path.{_≡_};
+ghost use mathlib.Core.List.{[], _∷_};
 ghost use Prim.Native.Nat.{_+_, _<_, _≤_};
 ghost use lib.ListN.{length, drop};
 ghost use Rattle.spec.specs.Book.{headSize, pairAt, spanIn, hasRecordMark, isRecord, twoBytes, headOf};
 ghost use Rattle.laws.proofs.Putting.{Put};
 ghost use Rattle.book.specs.Walking.{HeadDue};
 
-pub const HEAD_SIZE: usize = 6;
+pub const HEAD_SIZE: usize = 7;
 
-// Where in the head the number and the tape's length stand.
+// Where in the head the number, the set of listeners and the tape's length stand.
 pub const NUMBER: usize = 2;
 
-pub const LENGTH: usize = 4;
+pub const SET: usize = 4;
 
-// The mark's bytes are 52 and 9E, so this is its number, low byte first.
-const MARK: usize = 0x9E52;
+pub const LENGTH: usize = 5;
+
+// The mark's bytes are 52 and 9F, so this is its number, low byte first.
+const MARK: usize = 0x9F52;
 
 // The two bytes from place i on as a number, low byte first.
 pub fn pair_at(x: &[u8], i: usize) -> usize
@@ -54,6 +57,15 @@ pub fn is_record(x: &[u8], i: usize) -> bool
     false
 }
 
+// Puts a byte at place i.
+fn put_byte(out: &mut [u8], i: usize, b: u8) -> usize
+    requires { ⌜ i < length (now out) ⌝ }
+    ensures { λ r. ⌜ Put (b ∷ []) (now (out .entry)) (now (out .exit)) r i ⌝ }
+{
+    out[i] = b;
+    i + 1
+}
+
 // Puts a number in two bytes from place i on, low byte first.
 fn put_pair(out: &mut [u8], i: usize, n: usize) -> usize
     requires { ⌜ (n < 65536) × (i + 1 < length (now out)) ⌝ }
@@ -64,12 +76,13 @@ fn put_pair(out: &mut [u8], i: usize, n: usize) -> usize
     i + 2
 }
 
-// Puts the head of a record from place i on: for a number, and a tape of n codes.
-pub fn put_head(out: &mut [u8], i: usize, number: usize, n: usize) -> usize
+// Puts the head of a record from place i on: for a number, a set of listeners, and a tape of n codes.
+pub fn put_head(out: &mut [u8], i: usize, number: usize, set: u8, n: usize) -> usize
     requires { ⌜ HeadDue (now out) i number n ⌝ }
-    ensures { λ r. ⌜ Put (headOf number n) (now (out .entry)) (now (out .exit)) r i ⌝ }
+    ensures { λ r. ⌜ Put (headOf number set n) (now (out .entry)) (now (out .exit)) r i ⌝ }
 {
     let number_place = put_pair(out, i, MARK);
-    let length_place = put_pair(out, number_place, number);
+    let set_place = put_pair(out, number_place, number);
+    let length_place = put_byte(out, set_place, set);
     put_pair(out, length_place, n)
 }

@@ -3,10 +3,11 @@ ghost use Rattle.spec.specs.Answers.{CheckPromise, NamePromise, TranscribePromi
 ghost use Rattle.spec.specs.Editing.{EditPromise};
 ghost use Rattle.spec.specs.Utf8.{ReadPromise, WritePromise};
 ghost use Rattle.spec.specs.SpokenLevels.{LevelPromise};
-ghost use Rattle.spec.specs.Book.{AddPromise, LocatePromise};
+ghost use mathlib.Core.Path.{_≡_};
 ghost use Rattle.laws.proofs.Bounds.{Small, SmallCheck};
-ghost use Rattle.capi.specs.Said.{Said, Counted, Told, SaidAdded, SaidFound};
+ghost use Rattle.capi.specs.Said.{Said, Counted, Told, SaidAdded, SaidFound, named, hushed, FindsFor, AddsFor};
 use book::adding::add;
+use book::listeners::not_for_listener;
 use book::lookup::locate;
 use editor::edit;
 use joiner::join::join;
@@ -14,6 +15,7 @@ use levels::speak_level;
 use message::check::check;
 use spec::Answer;
 use spec::Checked;
+use spec::Listener;
 use spec::Located;
 use transcriber::naming::name;
 use transcriber::tape::transcribe;
@@ -187,16 +189,39 @@ fn tell_added(a: Answer) -> GovorunAdded
     }
 }
 
+// Whom a caller in C names as the listener.
+pub enum Named {
+    Known(Listener),
+    Nobody,
+}
+
+// The listeners are numbered; any other number is nobody's.
+fn named_by(number: u32) -> Named
+    ensures { λ r. ⌜ r ≡ named number ⌝ }
+{
+    match number {
+        0 => Named::Known(Listener::Pump),
+        1 => Named::Known(Listener::Road),
+        2 => Named::Known(Listener::Dispatch),
+        _ => Named::Nobody,
+    }
+}
+
 #[no_mangle]
 pub extern "C" fn govorun_book_add(
+    listener: u32,
     book: &mut [u8],
     used: usize,
     phrase: u16,
+    set: u8,
     m: &[u8],
 ) -> GovorunAdded
-    ensures { λ r. ⌜ Carried (AddPromise (now (book .entry)) used phrase (now (m .entry)) (now (book .exit))) SaidAdded r ⌝ }
+    ensures { λ r. ⌜ Carried (AddsFor (named listener) (now (book .entry)) used phrase set (now (m .entry)) (now (book .exit))) SaidAdded r ⌝ }
 {
-    tell_added(add(book, used, phrase, m))
+    match named_by(listener) {
+        Named::Known(l) => tell_added(add(l, book, used, phrase, set, m)),
+        Named::Nobody => tell_added(Answer::Refused(not_for_listener())),
+    }
 }
 
 // A lookup's answer: found is 1 where there is a tape.
@@ -211,13 +236,6 @@ fn tell_found(a: Located) -> GovorunFound
             start,
             length,
         },
-        Located::Missing => GovorunFound {
-            number: 0,
-            place: 0,
-            found: 0,
-            start: 0,
-            length: 0,
-        },
         Located::Refused(refusal) => GovorunFound {
             number: refusal.number as u32,
             place: refusal.place,
@@ -228,9 +246,30 @@ fn tell_found(a: Located) -> GovorunFound
     }
 }
 
-#[no_mangle]
-pub extern "C" fn govorun_book_find(book: &[u8], used: usize, phrase: u16) -> GovorunFound
-    ensures { λ r. ⌜ Carried (LocatePromise (now (book .entry)) used phrase) SaidFound r ⌝ }
+// What nobody is told where a listener is told this: the book's refusals alike, and never of a tape.
+fn hush(a: Located) -> Located
+    ensures { λ r. ⌜ r ≡ hushed a ⌝ }
 {
-    tell_found(locate(book, used, phrase))
+    match a {
+        Located::At {
+            start: _,
+            length: _,
+        } => Located::Refused(not_for_listener()),
+        Located::Refused(r) => Located::Refused(r),
+    }
+}
+
+#[no_mangle]
+pub extern "C" fn govorun_book_find(
+    listener: u32,
+    book: &[u8],
+    used: usize,
+    phrase: u16,
+) -> GovorunFound
+    ensures { λ r. ⌜ Carried (FindsFor (named listener) (now (book .entry)) used phrase) SaidFound r ⌝ }
+{
+    match named_by(listener) {
+        Named::Known(l) => tell_found(locate(l, book, used, phrase)),
+        Named::Nobody => tell_found(hush(locate(Listener::Dispatch, book, used, phrase))),
+    }
 }

@@ -1,6 +1,6 @@
 -- The phrase book: a record that is written reads back, and what reads as a record was written so; hence any bytes are the records of some rising phrases and then their end or the first place of a refusal.
 use Rattle.laws.proofs.Kit.{ℕ, zero, suc, _+_, _-_, _*_, _/_, _%_, _<_, _≤_, _≡_, refl, sym, ap, _∙_, true, false, not, _&&_, true≢false, false≢true, _⊎_, inl, inr, ⊎-elim, List, [], _∷_, _++_, append-assoc, append-nil, arith, eqb, leb, length, take, drop, getD, length-append, length-drop, take-append-drop, take-at, drop-at, getD-drop, getD-take, List·getD-eq-default, drop-drop, length-take, length-take-le, eqb-true, leb-true, le-leb, lt-leb}
-use Rattle.spec.specs.Book.{Phrase, recordMark, twoBytes, headOf, recordOf, records, headSize, numberIn, lengthIn, spanIn, pairAt, phraseIn, hasRecordMark, isWhole, isRecord, row15, row16, Reading, holds, unsound, _then_, readFrom, readBook, bookIn, leastAfter, Fits, RisingFrom, Sound}
+use Rattle.spec.specs.Book.{Phrase, recordMark, twoBytes, headOf, recordOf, records, headSize, numberIn, setIn, lengthIn, spanIn, pairAt, phraseIn, hasRecordMark, isWhole, isRecord, row15, row16, Reading, holds, unsound, _then_, readFrom, readBook, bookIn, leastAfter, Fits, RisingFrom, Sound}
 use Rattle.spec.specs.{Utf8.same, Refusals.refusal, declared.Refusal.Refusal, Demands.UpTo, Demands.BookDue, Demands.noRecord, Demands.notAbove}
 use Rattle.laws.proofs.{Classes.either, Classes.below-or}
 
@@ -72,6 +72,7 @@ standing x h = record-stands x (either (isRecord x) (λ q. q) (λ q. absurd (tru
 pub record Written (f : Phrase) (rest x : List ℕ) : Type 0 where
   pub stands : Stands x
   pub number : numberIn x ≡ f .number
+  pub set : setIn x ≡ f .set
   pub length : lengthIn x ≡ length (f .codes)
   pub phrase : phraseIn x ≡ f
   pub behind : drop (spanIn x) x ≡ rest
@@ -86,6 +87,7 @@ written-reads f rest fit =
     record {
       stands = record { mark = refl; head = omega (arith, e); whole = rw l (omega (arith, e)) };
       number = n;
+      set = refl;
       length = l;
       phrase = rw (n, l, take-at (f .codes) rest (length (f .codes)) refl) refl;
       behind = rw (l, ← drop-drop (length (f .codes)) headSize x) (drop-at (f .codes) rest (length (f .codes)) refl);
@@ -110,8 +112,8 @@ bytes-in buffer used b j = ⊎-elim (λ h. rw (getD-take used buffer j 0 h) (b j
     (λ (h : used ≤ j). let past : length (take used buffer) ≤ j = omega (arith, length-take used buffer, h) in rw (List·getD-eq-default (take used buffer) 0 past) (omega arith)) (below-or j used)
 
 -- a test of two bytes
-marked : (a b : ℕ) → (eqb a 82 && (eqb b 158 && true)) ≡ true → (a ≡ 82) × (b ≡ 158)
-marked a b h = either (eqb a 82) (λ p. either (eqb b 158) (λ q. (eqb-true a 82 p, eqb-true b 158 q)) (λ q. absurd (false≢true (rw (p, q) at h)))) (λ p. absurd (false≢true (rw p at h)))
+marked : (a b : ℕ) → (eqb a 82 && (eqb b 159 && true)) ≡ true → (a ≡ 82) × (b ≡ 159)
+marked a b h = either (eqb a 82) (λ p. either (eqb b 159) (λ q. (eqb-true a 82 p, eqb-true b 159 q)) (λ q. absurd (false≢true (rw (p, q) at h)))) (λ p. absurd (false≢true (rw p at h)))
 
 -- Where a record stands it was written: it is the record of the phrase that it holds.
 pub record Recorded (x : List ℕ) : Type 0 where
@@ -126,19 +128,20 @@ stands-written (b0 ∷ b1 ∷ []) b s = absurd (omega (arith, s .head))
 stands-written (b0 ∷ b1 ∷ b2 ∷ []) b s = absurd (omega (arith, s .head))
 stands-written (b0 ∷ b1 ∷ b2 ∷ b3 ∷ []) b s = absurd (omega (arith, s .head))
 stands-written (b0 ∷ b1 ∷ b2 ∷ b3 ∷ b4 ∷ []) b s = absurd (omega (arith, s .head))
-stands-written (b0 ∷ b1 ∷ b2 ∷ b3 ∷ b4 ∷ b5 ∷ y) b s =
+stands-written (b0 ∷ b1 ∷ b2 ∷ b3 ∷ b4 ∷ b5 ∷ []) b s = absurd (omega (arith, s .head))
+stands-written (b0 ∷ b1 ∷ b2 ∷ b3 ∷ b4 ∷ b5 ∷ b6 ∷ y) b s =
     let m = marked b0 b1 (s .mark) in
-    let n = b4 + b5 * 256 in
+    let n = b5 + b6 * 256 in
     let h : n ≤ length y = omega (arith, s .whole) in
     let t = length-take-le n y h in
     let low2 : (b2 + b3 * 256) % 256 ≡ b2 = omega (arith, b 2) in
     let high2 : (b2 + b3 * 256) / 256 ≡ b3 = omega (arith, b 2) in
-    let low4 : n % 256 ≡ b4 = omega (arith, b 4) in
-    let high4 : n / 256 ≡ b5 = omega (arith, b 4) in
+    let low5 : n % 256 ≡ b5 = omega (arith, b 5) in
+    let high5 : n / 256 ≡ b6 = omega (arith, b 5) in
     let r : y ≡ take n y ++ drop n y = sym (take-append-drop n y) in
     record {
-      fits = record { number = omega (arith, b 2, b 3); length = rw t (omega (arith, b 4, b 5)) };
-      bytes = rw (m .0, m .1, t, low2, high2, low4, high4, ← drop-drop n headSize (82 ∷ 158 ∷ b2 ∷ b3 ∷ b4 ∷ b5 ∷ y)) (ap (λ (z : List ℕ). 82 ∷ 158 ∷ b2 ∷ b3 ∷ b4 ∷ b5 ∷ z) r);
+      fits = record { number = omega (arith, b 2, b 3); set = b 4; length = rw t (omega (arith, b 5, b 6)) };
+      bytes = rw (m .0, m .1, t, low2, high2, low5, high5, ← drop-drop n headSize (82 ∷ 159 ∷ b2 ∷ b3 ∷ b4 ∷ b5 ∷ b6 ∷ y)) (ap (λ (z : List ℕ). 82 ∷ 159 ∷ b2 ∷ b3 ∷ b4 ∷ b5 ∷ b6 ∷ z) r);
     }
 
 -- phrases before what the records after them hold

@@ -17,6 +17,7 @@ pub mod Demands
 pub mod Additions
 pub mod Beside
 pub mod Lookup
+pub mod Silence
 pub mod MarkIndex
 pub mod Heard
 pub mod Edited

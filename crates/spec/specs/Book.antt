@@ -1,4 +1,4 @@
--- Paper 02, slip 6, a phrase book: taped phrases under numbers, in a lent buffer.
+-- Paper 02, slips 6 and 7, a phrase book: taped phrases under numbers, each with its set of listeners, in a lent buffer.
 -- Assumes nothing: these are definitions.
 use Prim.Native.Nat.{ℕ, zero, suc, _+_, _-_, _*_, _/_, _%_, _<_, _≤_}
 use mathlib.Core.Path.{_≡_}
@@ -10,6 +10,8 @@ use Rattle.spec.specs.Tape.{tape}
 use Rattle.spec.specs.Utf8.{same}
 use Rattle.spec.specs.Refusals.{refusal, checkOf}
 use Rattle.spec.specs.Answers.{within, afterCheck, Promise}
+use Rattle.spec.specs.Listeners.{mayHear, mayWrite, withheld}
+use Rattle.spec.specs.declared.Listener.{Listener}
 use Rattle.spec.specs.declared.Refusal.{Refusal}
 use Rattle.spec.specs.declared.Answer.{Answer}
 use Rattle.spec.specs.declared.Answer.the-variants as answer
@@ -19,41 +21,45 @@ use Rattle.spec.specs.declared.Located.{Located}
 use Rattle.spec.specs.declared.Located.the-variants as located
 
 infix 40 _then_
--- A phrase of the book: its number, and its tape.
+-- A phrase of the book: its number, the set of its listeners, and its tape.
 pub record Phrase : Type 0 where
   pub number : ℕ
+  pub set : ℕ
   pub codes : List ℕ
 
--- Slip 6, the record. The mark is 52 9E, in hexadecimal.
+-- Slip 6, the record, as slip 7 has it. The mark is 52 9F, in hexadecimal.
 unfoldable pub recordMark : List ℕ
-recordMark = 82 ∷ 158 ∷ []
+recordMark = 82 ∷ 159 ∷ []
 
 -- a number or a length: two bytes, low byte first
 unfoldable pub twoBytes : ℕ → List ℕ
 twoBytes n = n % 256 ∷ n / 256 ∷ []
 
--- mark, number and length of the tape
-unfoldable pub headOf : ℕ → ℕ → List ℕ
-headOf number size = recordMark ++ (twoBytes number ++ twoBytes size)
+-- mark, number, the set as it was given, and length of the tape
+unfoldable pub headOf : ℕ → ℕ → ℕ → List ℕ
+headOf number set size = recordMark ++ (twoBytes number ++ (set ∷ twoBytes size))
 
 -- and then the tape
 unfoldable pub recordOf : Phrase → List ℕ
-recordOf f = headOf (f .number) (length (f .codes)) ++ f .codes
+recordOf f = headOf (f .number) (f .set) (length (f .codes)) ++ f .codes
 
 -- records one after the other
 unfoldable pub records : List Phrase → List ℕ
 records [] = []
 records (f ∷ fs) = recordOf f ++ records fs
 
--- The same read back, from bytes x that begin where a record should. How long the head is, and where in it number and length stand
+-- The same read back, from bytes x that begin where a record should. How long the head is, and where in it number, set and length stand
 abbrev pub headSize : ℕ
-headSize = 6
+headSize = 7
 
 abbrev pub numberPlace : ℕ
 numberPlace = 2
 
+abbrev pub setPlace : ℕ
+setPlace = 4
+
 abbrev pub lengthPlace : ℕ
-lengthPlace = 4
+lengthPlace = 5
 
 -- the two bytes from place k on
 unfoldable pub pairAt : ℕ → List ℕ → ℕ
@@ -61,6 +67,9 @@ pairAt k x = getD x k 0 + getD x (suc k) 0 * 256
 
 abbrev pub numberIn : List ℕ → ℕ
 numberIn x = pairAt numberPlace x
+
+abbrev pub setIn : List ℕ → ℕ
+setIn x = getD x setPlace 0
 
 abbrev pub lengthIn : List ℕ → ℕ
 lengthIn x = pairAt lengthPlace x
@@ -70,7 +79,7 @@ abbrev pub spanIn : List ℕ → ℕ
 spanIn x = headSize + lengthIn x
 
 unfoldable pub phraseIn : List ℕ → Phrase
-phraseIn x = record { number = numberIn x; codes = take (lengthIn x) (drop headSize x) }
+phraseIn x = record { number = numberIn x; set = setIn x; codes = take (lengthIn x) (drop headSize x) }
 
 -- A record stands there: its mark, its head and its whole tape.
 unfoldable pub hasRecordMark : List ℕ → Bool
@@ -117,80 +126,93 @@ readBook book = readFrom 0 0 0 book
 unfoldable pub bookIn : List ℕ → ℕ → List ℕ
 bookIn buffer used = take used buffer
 
--- Slip 6, the lookup. What stands under a number: a tape, or none
+-- Slip 6, the lookup. What stands under a number: a tape with its set of listeners, or none
 pub data Search : Type 0 where
   none : Search
-  entry : List ℕ → Search
+  entry : ℕ → List ℕ → Search
 
 unfoldable pub search : List Phrase → ℕ → Search
 search [] n = none
-search (f ∷ fs) n = cond (eqb (f .number) n) (entry (f .codes)) (search fs n)
+search (f ∷ fs) n = cond (eqb (f .number) n) (entry (f .set) (f .codes)) (search fs n)
 
--- and where in the book that tape begins
-unfoldable pub startOf : List Phrase → ℕ → ℕ
-startOf [] n = 0
-startOf (f ∷ fs) n = cond (eqb (f .number) n) headSize (length (recordOf f) + startOf fs n)
+-- and where in the book its record begins, and its tape
+unfoldable pub recordAt : List Phrase → ℕ → ℕ
+recordAt [] n = 0
+recordAt (f ∷ fs) n = cond (eqb (f .number) n) 0 (length (recordOf f) + recordAt fs n)
+
+abbrev pub startOf : List Phrase → ℕ → ℕ
+startOf fs n = recordAt fs n + headSize
+
+-- Slip 7: what a listener may hear of it, a tape or nothing, and nothing alike where there is none and where he is not in its set
+pub data Heard : Type 0 where
+  nothing : Heard
+  aloud : List ℕ → Heard
+
+unfoldable pub heard : Listener → Search → Heard
+heard l none = nothing
+heard l (entry set t) = cond (mayHear l set) (aloud t) nothing
 
 -- what is told of it, and what is handed back: the tape, and else what was there before
-unfoldable pub told : Search → Found
-told none = found.Missing
-told (entry t) = found.Tape
+unfoldable pub told : Heard → Found
+told nothing = found.Refused withheld
+told (aloud t) = found.Tape
 
-unfoldable pub handed : Search → List ℕ → List ℕ
-handed none old = old
-handed (entry t) old = t
+unfoldable pub handed : Heard → List ℕ → List ℕ
+handed nothing old = old
+handed (aloud t) old = t
 
-unfoldable pub findAnswer : Reading → ℕ → Found
-findAnswer (holds fs) n = told (search fs n)
-findAnswer (unsound r) n = found.Refused r
+-- so 17 comes after the book's own refusals
+unfoldable pub findAnswer : Listener → Reading → ℕ → Found
+findAnswer l (holds fs) n = told (heard l (search fs n))
+findAnswer l (unsound r) n = found.Refused r
 
-unfoldable pub tapeAfter : Reading → ℕ → List ℕ → List ℕ
-tapeAfter (holds fs) n old = handed (search fs n) old
-tapeAfter (unsound r) n old = old
+unfoldable pub tapeAfter : Listener → Reading → ℕ → List ℕ → List ℕ
+tapeAfter l (holds fs) n old = handed (heard l (search fs n)) old
+tapeAfter l (unsound r) n old = old
 
--- The lookup of number n. The caller lends a place that refers to some bytes, old; afterwards it refers to new.
-pub record FindPromise (buffer : List ℕ) (used n : ℕ) (old new : List ℕ) (r : Found) : Type 0 where
-  pub answer : r ≡ findAnswer (readBook (bookIn buffer used)) n
-  pub tape : new ≡ tapeAfter (readBook (bookIn buffer used)) n old
+-- The lookup of number n by a listener. The caller lends a place that refers to some bytes, old; afterwards it refers to new.
+pub record FindPromise (l : Listener) (buffer : List ℕ) (used n : ℕ) (old new : List ℕ) (r : Found) : Type 0 where
+  pub answer : r ≡ findAnswer l (readBook (bookIn buffer used)) n
+  pub tape : new ≡ tapeAfter l (readBook (bookIn buffer used)) n old
 
 -- The same told by where the tape stands in the buffer.
-unfoldable pub placed : ℕ → Search → Located
-placed start none = located.Missing
-placed start (entry t) = located.At start (length t)
+unfoldable pub placed : ℕ → Heard → Located
+placed start nothing = located.Refused withheld
+placed start (aloud t) = located.At start (length t)
 
-unfoldable pub locateAnswer : Reading → ℕ → Located
-locateAnswer (holds fs) n = placed (startOf fs n) (search fs n)
-locateAnswer (unsound r) n = located.Refused r
+unfoldable pub locateAnswer : Listener → Reading → ℕ → Located
+locateAnswer l (holds fs) n = placed (startOf fs n) (heard l (search fs n))
+locateAnswer l (unsound r) n = located.Refused r
 
 -- what that tells without the place
 unfoldable pub toldOf : Located → Found
 toldOf (located.At start n) = found.Tape
-toldOf located.Missing = found.Missing
 toldOf (located.Refused r) = found.Refused r
 
 -- the bytes of the buffer that it tells of, and where they end
 unfoldable pub partAt : Located → List ℕ → List ℕ
 partAt (located.At start n) buffer = take n (drop start buffer)
-partAt located.Missing buffer = []
 partAt (located.Refused r) buffer = []
 
 unfoldable pub endOf : Located → ℕ
 endOf (located.At start n) = start + n
-endOf located.Missing = 0
 endOf (located.Refused r) = 0
 
-pub record LocatePromise (buffer : List ℕ) (used n : ℕ) (r : Located) : Type 0 where
-  pub answer : r ≡ locateAnswer (readBook (bookIn buffer used)) n
-  pub tape : partAt r buffer ≡ tapeAfter (readBook (bookIn buffer used)) n []
+pub record LocatePromise (l : Listener) (buffer : List ℕ) (used n : ℕ) (r : Located) : Type 0 where
+  pub answer : r ≡ locateAnswer l (readBook (bookIn buffer used)) n
+  pub tape : partAt r buffer ≡ tapeAfter l (readBook (bookIn buffer used)) n []
   pub inside : endOf r ≤ length buffer
 
 -- What the lookup hands back are the tape's own bytes: in memory they stand in the buffer, from that start on. Where there is none to hand back the lent place refers to what it did before.
 unfoldable pub standsAfter : Located → ℕ × ℕ → ℕ × ℕ → ℕ × ℕ
 standsAfter (located.At start n) buffer old = (buffer .0, start + buffer .1)
-standsAfter located.Missing buffer old = old
 standsAfter (located.Refused r) buffer old = old
 
--- Slip 6, the writer. The least number that is above the last one's
+-- Slip 6, the writer. First of all 17, for any listener but dispatch (slip 7)
+unfoldable pub afterListener : Listener → Answer → Answer
+afterListener l a = cond (mayWrite l) a (answer.Refused withheld)
+
+-- the least number that is above the last one's
 unfoldable pub leastAfter : ℕ → List Phrase → ℕ
 leastAfter least [] = least
 leastAfter least (f ∷ fs) = leastAfter (suc (f .number)) fs
@@ -200,27 +222,29 @@ unfoldable pub afterBook : Reading → ℕ → ℕ → Answer → Answer
 afterBook (holds fs) n bookEnd a = cond (leb (leastAfter 0 fs) n) a (answer.Refused (refusal 16 bookEnd))
 afterBook (unsound r) n bookEnd a = answer.Refused r
 
--- the book with the addition, the message's tape
-abbrev pub phraseOf : ℕ → List ℕ → Phrase
-phraseOf n m = record { number = n; codes = tape m }
+-- the book with the addition, the message's tape under its number, for this set of listeners
+abbrev pub phraseOf : ℕ → ℕ → List ℕ → Phrase
+phraseOf n set m = record { number = n; set = set; codes = tape m }
 
-unfoldable pub withAddition : List ℕ → ℕ → List ℕ → List ℕ
-withAddition book n m = book ++ recordOf (phraseOf n m)
+unfoldable pub withAddition : List ℕ → ℕ → ℕ → List ℕ → List ℕ
+withAddition book n set m = book ++ recordOf (phraseOf n set m)
 
--- the message's own refusals, then the book's, then 11 for a buffer of this room
-unfoldable pub addAnswer : List ℕ → ℕ → List ℕ → ℕ → Answer
-addAnswer book n m room =
-    afterCheck (checkOf m)
+-- 17, then the message's own refusals, then the book's, then 11 for a buffer of this room
+unfoldable pub addAnswer : Listener → List ℕ → ℕ → ℕ → List ℕ → ℕ → Answer
+addAnswer l book n set m room =
+    afterListener l
+    (afterCheck (checkOf m)
     (afterBook (readBook book) n (length book)
-    (within room (length (withAddition book n m)) 0))
+    (within room (length (withAddition book n set m)) 0)))
 
--- The addition of message m under number n. The output is the buffer, and the length that is answered is the new used count.
-abbrev pub AddPromise : List ℕ → ℕ → ℕ → List ℕ → List ℕ → Answer → Type 0
-AddPromise buffer used n m buffer′ r = Promise (addAnswer (bookIn buffer used) n m (length buffer)) (withAddition (bookIn buffer used) n m) buffer buffer′ r
+-- The addition of message m under number n, for a set of listeners, by listener l. The output is the buffer, and the length that is answered is the new used count.
+abbrev pub AddPromise : Listener → List ℕ → ℕ → ℕ → ℕ → List ℕ → List ℕ → Answer → Type 0
+AddPromise l buffer used n set m buffer′ r = Promise (addAnswer l (bookIn buffer used) n set m (length buffer)) (withAddition (bookIn buffer used) n set m) buffer buffer′ r
 
--- Numbers that rise strictly, from a least one on; number and length have two bytes each.
+-- Numbers that rise strictly, from a least one on; number and length have two bytes each, and the set is a byte.
 pub record Fits (f : Phrase) : Type 0 where
   pub number : f .number < 65536
+  pub set : f .set < 256
   pub length : length (f .codes) < 65536
 
 abbrev pub RisingFrom : ℕ → List Phrase → Type 0

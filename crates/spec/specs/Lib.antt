@@ -15,6 +15,7 @@ pub mod Editing
 pub mod Utf8
 pub mod LevelSteps
 pub mod SpokenLevels
+pub mod Listeners
 pub mod Book
 pub mod Demands
 pub mod Printed

@@ -42,16 +42,21 @@ pub enum Answer {
     Refused(Refusal),
 }
 
-// What a lookup in the phrase book tells: the tape was handed back, or there is none under the number.
+// Who calls the phrase book (paper 02, slip 7).
+pub enum Listener {
+    Pump,
+    Road,
+    Dispatch,
+}
+
+// What a lookup in the phrase book tells: the tape was handed back, or why not.
 pub enum Found {
     Tape,
-    Missing,
     Refused(Refusal),
 }
 
 // The same with the tape's place in the lent buffer, for callers in C.
 pub enum Located {
     At { start: usize, length: usize },
-    Missing,
     Refused(Refusal),
 }

@@ -1,21 +1,60 @@
-//! Books of phrases: sound ones, and others that are damaged in a known manner or in any.
+//! Books of phrases: sound ones, and others that are damaged in a known manner or in any; and who
+//! looks into them.
 
 use super::{message, noise, Rng};
 use crate::book::{record, HEAD, MARK};
 use crate::refusals::Refusal;
 use crate::transcription::transcribe;
+use crate::unit::LISTENERS;
 
-/// A phrase of a book, its number and its tape. In a book that came from elsewhere the tape may be
-/// any bytes.
-pub type Phrase = (u16, Vec<u8>);
+/// A phrase of a book. In a book that came from elsewhere the tape may be any bytes.
+#[derive(Clone, Debug, PartialEq, Eq)]
+pub struct Phrase {
+    pub number: u16,
+    pub set: u8,
+    pub tape: Vec<u8>,
+}
+
+impl Phrase {
+    pub fn new(number: u16, set: u8, tape: &[u8]) -> Self {
+        Phrase {
+            number,
+            set,
+            tape: tape.to_vec(),
+        }
+    }
+}
+
+/// The mark of an earlier kind of record, which had no set.
+const EARLIER_MARK: [u8; 2] = [0x52, 0x9E];
 
 /// The mark of a later kind of record.
-const LATER_MARK: [u8; 2] = [0x52, 0x9F];
+const LATER_MARK: [u8; 2] = [0x52, 0xA0];
+
+/// Numbers that mean no listener. A narrower number would take most of them for one, and a set has
+/// bits at some.
+#[rustfmt::skip]
+pub const NOBODY: [u32; 15] = [
+    3, 4, 5, 7, 8, 254, 255, 256, 257, 258, 65_536, 65_538, 1 << 31, (1 << 31) + 2, u32::MAX,
+];
+
+/// One of the three listeners, and now and then nobody.
+pub fn any_listener(rng: &mut Rng) -> u32 {
+    match rng.below(8) {
+        0 => rng.pick(&NOBODY),
+        _ => rng.pick(&LISTENERS),
+    }
+}
+
+/// A set of listeners: each of the eight alike, half of them with bits that stand for nobody.
+pub fn any_set(rng: &mut Rng) -> u8 {
+    rng.bits() as u8 & rng.pick(&[0b111, 0xFF])
+}
 
 /// The book that holds these phrases.
 pub fn laid(phrases: &[Phrase]) -> Vec<u8> {
-    let records = phrases.iter().map(|(number, tape)| record(*number, tape));
-    records.flatten().collect()
+    let record = |phrase: &Phrase| record(phrase.number, phrase.set, &phrase.tape);
+    phrases.iter().flat_map(record).collect()
 }
 
 /// Up to so many phrases with rising numbers, and at least one; fewer where the numbers end.
@@ -23,7 +62,8 @@ pub fn phrases(rng: &mut Rng, most: usize) -> Vec<Phrase> {
     let mut number = rng.pick(&[0, 0, 1, 250, 60_000, 65_530, 65_535]);
     let mut phrases = Vec::new();
     while phrases.len() < most && number <= usize::from(u16::MAX) {
-        phrases.push((number as u16, any_tape(rng)));
+        let (set, tape) = (any_set(rng), any_tape(rng));
+        phrases.push(Phrase::new(number as u16, set, &tape));
         number += rng.pick(&[1, 1, 1, 2, 3, 255, 256, 257]);
     }
     phrases
@@ -37,7 +77,7 @@ pub fn any_tape(rng: &mut Rng) -> Vec<u8> {
         0 | 1 => Vec::new(),
         2 => noise::bytes(rng, length),
         3 => MARK.repeat(length),
-        4 => record(length as u16, &noise::bytes(rng, length)),
+        4 => record(length as u16, any_set(rng), &noise::bytes(rng, length)),
         5 => vec![0; length],
         6 if rng.one_in(20) => noise::bytes(rng, usize::from(u16::MAX) - length + 1),
         6 => noise::bytes(rng, 245 + length),
@@ -50,7 +90,9 @@ pub fn any_tape(rng: &mut Rng) -> Vec<u8> {
 pub enum Damage {
     /// A byte of its mark is another one.
     Mark,
-    /// It has the mark of a later kind of record.
+    /// It is of the earlier kind.
+    Earlier,
+    /// It has the mark of the later kind.
     Later,
     /// The book ends within it.
     CutShort,
@@ -66,8 +108,9 @@ pub enum Damage {
     Twice,
 }
 
-pub const DAMAGES: [Damage; 8] = [
+pub const DAMAGES: [Damage; 9] = [
     Damage::Mark,
+    Damage::Earlier,
     Damage::Later,
     Damage::CutShort,
     Damage::TooLong,
@@ -85,9 +128,9 @@ pub fn damaged(rng: &mut Rng, phrases: &[Phrase], damage: Damage) -> Option<(Vec
         _ => rng.below(phrases.len()),
     };
     match damage {
-        Damage::Mark | Damage::Later | Damage::CutShort | Damage::TooLong => {
+        Damage::Mark | Damage::Earlier | Damage::Later | Damage::CutShort | Damage::TooLong => {
             let start = laid(&phrases[..chosen]).len();
-            let length = phrases[chosen].1.len();
+            let length = phrases[chosen].tape.len();
             let book = with_bad_bytes(rng, laid(phrases), start, length, damage)?;
             Some((book, Refusal::new(15, start)))
         }
@@ -109,12 +152,16 @@ fn with_bad_bytes(
 ) -> Option<Vec<u8>> {
     match damage {
         Damage::Mark => book[start + rng.below(2)] ^= 1 << rng.below(8),
+        Damage::Earlier => {
+            book[start..][..2].copy_from_slice(&EARLIER_MARK);
+            book.remove(start + 4);
+        }
         Damage::Later => book[start..][..2].copy_from_slice(&LATER_MARK),
         Damage::CutShort => book.truncate(start + rng.between(1, HEAD + length - 1)),
         _ => {
             let more = rng.pick(&[1, 1, 2, 255, 256, 30_000]);
             let length = u16::try_from(length + more).ok()?;
-            book[start + 4..][..2].copy_from_slice(&length.to_le_bytes());
+            book[start + 5..][..2].copy_from_slice(&length.to_le_bytes());
         }
     }
     Some(book)
@@ -135,8 +182,8 @@ fn with_bad_number(
         }
         Damage::Exchanged => phrases.swap(chosen.checked_sub(1)?, chosen),
         _ => {
-            let before = phrases[chosen.checked_sub(1)?].0;
-            phrases[chosen].0 = match damage {
+            let before = phrases[chosen.checked_sub(1)?].number;
+            phrases[chosen].number = match damage {
                 Damage::Equal => before,
                 _ if before == 0 => return None,
                 _ => rng.below(before.into()) as u16,
@@ -146,8 +193,8 @@ fn with_bad_number(
     Some((phrases, chosen))
 }
 
-/// Changes a book in any manner: a byte, a number or a length by one; bytes cut off, put in, taken
-/// out, put in another place.
+/// Changes a book in any manner: a byte, a number, a set or a length by one; bytes cut off, put in,
+/// taken out, put in another place.
 pub fn muddle(rng: &mut Rng, book: &mut Vec<u8>) {
     let place = rng.below(book.len() + 1);
     let count = rng.between(1, 8).min(book.len() - place);
@@ -164,13 +211,13 @@ pub fn muddle(rng: &mut Rng, book: &mut Vec<u8>) {
             book.splice(place..place, noise::bytes(rng, length));
         }
         4 => {
-            let byte = rng.pick(&[0, 1, 0x52, 0x9E, 0x9F, 0xFF]);
+            let byte = rng.pick(&[0, 1, 0x52, 0x9E, 0x9F, 0xA0, 0xFF]);
             change(book, place, |_| byte);
         }
         _ => {
             let starts = places_of_mark(book);
             let start = starts.get(rng.below(starts.len() + 1));
-            let low = start.unwrap_or(&place) + rng.pick(&[2, 4, 4]);
+            let low = start.unwrap_or(&place) + rng.pick(&[2, 4, 5, 5]);
             let step = rng.pick(&[1, u8::MAX]);
             change(book, low, |byte| byte.wrapping_add(step));
         }

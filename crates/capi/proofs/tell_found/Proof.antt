@@ -9,7 +9,6 @@ unfolding numberFound placeFound isFound startFound lengthFound
 tell-found-spec =
     tie.close
     (tie.spec
-    (λ c. search needs) (λ c. search needs) (λ c. search needs) (λ c. search needs)
+    (λ c. search needs) (λ c. search needs) (λ c. search needs)
     (λ c. rw (c .before .a .given .1) (record { number = refl; place = refl; found = refl; start = refl; length = refl }))
-    (λ c. rw (c .enum-told .given .1) (record { number = refl; place = refl; found = refl; start = refl; length = refl }))
     (λ c. rw (c .before .before .a2 .given .1) (record { number = refl; place = refl; found = refl; start = refl; length = refl })))

@@ -1,9 +1,9 @@
 -- The walk over the book tells where the tape stands.
 use Rattle.laws.proofs.Kit.{_≡_, sym, _∙_, arith, length-take-le, needs}
-use Rattle.spec.specs.{Book.readBook, Book.bookIn, declared.Answer.the-variants.Written}
-use Rattle.laws.proofs.Lookup.{locate-promised}
-use Rattle.book.specs.{Walking.walkedOf}
-use Rattle.book.proofs.Walks.{walked-sound, walked-unsound}
+use Rattle.spec.specs.{Book.readBook, Book.bookIn, Book.locateAnswer, declared.Answer.the-variants.Written}
+use Rattle.laws.proofs.{Book.Bytes, Book.bytes-in, Lookup.locate-promised}
+use Rattle.book.specs.{Walking.walkedOf, Walking.PlaceIn, Walking.toldAt}
+use Rattle.book.proofs.Walks.{told-walked, walked-unsound}
 use Rattle.book.proofs.lookup.locate.Statement.{statement}
 use Rattle.book.proofs.lookup.locate.Tie as tie
 
@@ -11,16 +11,30 @@ use Rattle.book.proofs.lookup.locate.Tie as tie
 walked : (c : tie.After-walk) → let s = c .before .before .before .before in c .walk .result ≡ walkedOf (readBook (bookIn (s .args .buffer .now) (s .args .used))) (s .args .wanted)
 walked c = let b = c .before .before in rw (← b .book-end .ensures .book) (c .walk .ensures)
 
+-- in a buffer of bytes
+known : (c : tie.After-walk) → Bytes (c .before .before .before .before .args .buffer .now)
+known c j = omega (arith, c .before .before .before .shared-slice-known .given j)
+
+-- and what it comes to tells the listener what he must be told
+told : (c : tie.After-place) → let s = c .before .before .before .before .before .before in
+    let book = bookIn (s .args .buffer .now) (s .args .used) in
+    PlaceIn book (c .place .given .0 .1 .0) × (toldAt (s .args .listener) book (c .place .given .0 .1 .0) ≡ locateAnswer (s .args .listener) (readBook book) (s .args .wanted))
+told c =
+    let w = c .before .before in
+    let s = w .before .before .before .before in
+    told-walked (s .args .listener) (bookIn (s .args .buffer .now) (s .args .used)) (s .args .wanted) (bytes-in (s .args .buffer .now) (s .args .used) (known w)) (sym (walked w) ∙ c .place .given .1)
+
 pub locate-spec : {M : Type 1} → statement M
 locate-spec =
     tie.close
     (tie.spec
     (λ c κs. search needs)
     (λ c. sym (length-take-le _ _ (c .before .book-end .ensures .inside)))
-    (λ c κs. search needs) (λ c. search needs) (λ c. search needs)
+    (λ c κs. search needs) (λ c. search needs)
+    (λ c κs. let d = c .before in rw (d .before .before .before .before .book-end .ensures .book) (told d .0))
+    (λ c. search needs)
     (λ c.
-    let w = c .before .before .before in
-    locate-promised _ _ _ (λ j. omega (arith, w .before .before .before .shared-slice-known .given j)) (sym (walked-sound _ _ 0 (Written 0 0) (sym (walked w) ∙ c .before .c .given .1) .0)))
-    (λ c.
-    let w = c .before .before .before in
-    locate-promised _ _ _ (λ j. omega (arith, w .before .before .before .shared-slice-known .given j)) (sym (walked-unsound _ _ 0 (Written 0 0) (sym (walked w) ∙ c .before .r .given .1) .0))))
+    let d = c .before .before in
+    let w = d .before .before in
+    locate-promised _ _ _ _ (known w) (c .tell .ensures ∙ rw (w .before .before .book-end .ensures .book) (told d .1)))
+    (λ c. let w = c .before .before .before in locate-promised _ _ _ _ (known w) (sym (walked-unsound _ _ _ 0 (Written 0 0) (sym (walked w) ∙ c .before .r .given .1) .0))))

@@ -1,7 +1,7 @@
--- Mark, number and length are put one behind the other.
-use Rattle.laws.proofs.Kit.{arith, needs}
+-- Mark, number, set and length are put one behind the other.
+use Rattle.laws.proofs.Kit.{_∷_, _++_, [], arith, needs}
 use Rattle.spec.specs.Book.{recordMark, twoBytes, headOf}
-use Rattle.laws.proofs.Putting.{put-behind, put-length}
+use Rattle.laws.proofs.Putting.{Put, put-behind, put-length}
 use Rattle.book.proofs.records.put_head.Statement.{statement}
 use Rattle.book.proofs.records.put_head.Tie as tie
 
@@ -12,20 +12,31 @@ put-head-spec =
     (tie.spec
     (λ c κs. search needs)
     (λ c κs.
-    let s = c .before .before .before .before .before .before in
-    let p = c .before .before .before .put-pair .ensures in
-    (s .pre .number, omega (arith, p .place, s .pre .room, put-length _ _ _ _ _ (omega (arith, p .place, s .pre .room)) p)))
+    let p = c .before .before .before in
+    let s = p .before .before .before in
+    let mark = p .put-pair .ensures in
+    (s .pre .number, omega (arith, mark .place, s .pre .room, put-length _ _ _ _ _ (omega (arith, mark .place, s .pre .room)) mark)))
     (λ c κs.
-    let s = c .before .before .before .before .before .before .before .before .before .before in
-    let p = c .before .before .before .before .before .before .before .put-pair .ensures in
-    let q = c .before .before .before .put-pair2 .ensures in
-    let both = put-behind (omega (arith, p .place, q .place, s .pre .room)) p q in
-    (s .pre .codes, omega (arith, both .place, s .pre .room, put-length _ _ _ _ _ (omega (arith, both .place, s .pre .room)) both)))
+    let q = c .before .before .before in
+    let p = q .before .before .before .before in
+    let s = p .before .before .before in
+    let n = put-behind (omega (arith, p .put-pair .ensures .place, q .put-pair2 .ensures .place, s .pre .room)) (p .put-pair .ensures) (q .put-pair2 .ensures) in
+    omega (arith, n .place, s .pre .room, put-length _ _ _ _ _ (omega (arith, n .place, s .pre .room)) n))
+    (λ c κs.
+    let b = c .before .before .before in
+    let q = b .before .before .before .before in
+    let p = q .before .before .before .before in
+    let s = p .before .before .before in
+    let n = put-behind (omega (arith, p .put-pair .ensures .place, q .put-pair2 .ensures .place, s .pre .room)) (p .put-pair .ensures) (q .put-pair2 .ensures) in
+    let t = put-behind (omega (arith, n .place, b .put-byte .ensures .place, s .pre .room)) n (b .put-byte .ensures) in
+    (s .pre .codes, omega (arith, t .place, s .pre .room, put-length _ _ _ _ _ (omega (arith, t .place, s .pre .room)) t)))
     (λ c. search needs)
     (λ c.
-    let s = c .before .before .before .before .before .before .before .before .before .before .before .before .before in
-    let p = c .before .before .before .before .before .before .before .before .before .before .put-pair .ensures in
-    let q = c .before .before .before .before .before .before .put-pair2 .ensures in
-    let r = c .before .before .put-pair3 .ensures in
-    let room = s .pre .room in
-    put-behind (omega (arith, p .place, q .place, r .place, room)) (put-behind (omega (arith, p .place, q .place, room)) p q) r))
+    let l = c .before .before in
+    let b = l .before .before .before .before in
+    let q = b .before .before .before .before in
+    let p = q .before .before .before .before in
+    let s = p .before .before .before in
+    let n = put-behind (omega (arith, p .put-pair .ensures .place, q .put-pair2 .ensures .place, s .pre .room)) (p .put-pair .ensures) (q .put-pair2 .ensures) in
+    let t = put-behind (omega (arith, n .place, b .put-byte .ensures .place, s .pre .room)) n (b .put-byte .ensures) in
+    put-behind (omega (arith, t .place, l .put-pair3 .ensures .place, s .pre .room)) t (l .put-pair3 .ensures)))
