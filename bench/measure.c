@@ -575,7 +575,7 @@ static uint16_t number_of(size_t record)
     return (uint16_t)(NUMBER_STEP * record);
 }
 
-/* Road crews may hear each phrase and pump crews none; all other bits come by turns. */
+/* Road crews may hear each phrase and pump crews none; the other bits go through all their values. */
 static uint8_t set_of(size_t record)
 {
     return (uint8_t)(record << 2 | GOVORUN_FOR_ROAD);

@@ -318,7 +318,7 @@ fn answers(rng: &mut Rng, lent: Lent, listener: u32, asked: &[u16]) -> Vec<Answe
     asked.iter().map(ask).collect()
 }
 
-/// Neither those that are accepted nor those that are refused. One for the listener, too, does.
+/// Neither an accepted one nor a refused one; but one that is for the listener, too, does.
 #[test]
 fn additions_for_others_change_no_answer() {
     let mut rng = Rng::for_test(162);

@@ -1,7 +1,7 @@
 -- The walk over a book, place by place: what is read at a place of the bytes is what stands at the start of the bytes from there on.
-use Rattle.laws.proofs.Kit.{ℕ, suc, _+_, _-_, _*_, _<_, _≤_, _≡_, refl, sym, ap, _∙_, true, false, ⊎-elim, cond, _&&_, and-true, List, [], _∷_, add-one, arith, eqb, leb, length, drop, length-append, getD, getD-drop, length-drop, length-take-le, take-all, drop-of-length-le, drop-drop, le-leb, lt-leb, eqb-true, eqb-false, ne-eqb, eq-eqb}
-use Rattle.spec.specs.Book.{Phrase, recordOf, records, headSize, recordMark, pairAt, numberIn, lengthIn, spanIn, phraseIn, hasRecordMark, isWhole, isRecord, row15, row16, bookIn, Reading, holds, unsound, _then_, readFrom, readBook, Search, none, entry, search, recordAt, startOf, heard, placed, locateAnswer, leastAfter, afterBook, RisingFrom}
-use Rattle.spec.specs.{Listeners.mayHear, declared.Listener.Listener, declared.Located.Located, Utf8.same, Refusals.refusal, declared.Refusal.Refusal, declared.Answer.Answer, declared.Answer.the-variants.Refused}
+use Rattle.laws.proofs.Kit.{ℕ, suc, _+_, _*_, _<_, _≤_, _≡_, refl, sym, ap, _∙_, true, false, ⊎-elim, cond, _&&_, and-true, List, [], _∷_, add-one, arith, eqb, leb, length, drop, length-append, getD, getD-drop, length-drop, length-take-le, take-all, drop-of-length-le, drop-drop, le-leb, lt-leb, eqb-true, eqb-false, ne-eqb, eq-eqb}
+use Rattle.spec.specs.Book.{Phrase, recordOf, records, headSize, recordMark, pairAt, numberIn, lengthIn, spanIn, phraseIn, hasRecordMark, isWhole, isRecord, row15, row16, bookIn, Reading, holds, unsound, _then_, readFrom, readBook, Search, none, entry, search, recordAt, startOf, heard, placed, locateAnswer, unheard, leastAfter, afterBook, RisingFrom}
+use Rattle.spec.specs.{Listeners.mayHear, Listeners.withheld, declared.Listener.Listener, declared.Located.Located, Utf8.same, Refusals.refusal, declared.Refusal.Refusal, declared.Answer.Answer, declared.Answer.the-variants.Refused}
 use Rattle.spec.specs.declared.Located.the-variants as located
 use Rattle.laws.proofs.{Classes.either, Classes.refuted, Classes.below-or, Book.Stands, Book.record-stands, Book.stands-15, Book.read-15, Book.read-16, Book.read-record, Book.Bytes, Book.Judged, Book.isSound, Book.isRefused, Book.judge, Book.record-size, Book.written-reads, Lookup.found-stands, Lookup.record-there, Lookup.tape-inside}
 use Rattle.book.specs.Walking.{EndOf, walkedOf, noted, PlaceIn, toldAt}
@@ -144,16 +144,16 @@ module _ {book : List ℕ} {n i : ℕ} {s : Seen} (g : Going book n i s) where
         }
 
 -- What the walk over a book that is not sound tells, for lookups and additions,
-pub walked-unsound : (l : Listener) (r : Reading) (n bookEnd : ℕ) (a : Answer) {x : Refusal} → walkedOf r n ≡ Unsound x → (locateAnswer l r n ≡ located.Refused x) × (afterBook r n bookEnd a ≡ Refused x)
-unfolding walkedOf locateAnswer afterBook
+pub walked-unsound : (l : Listener) (r : Reading) (n bookEnd : ℕ) (a : Answer) {x : Refusal} → walkedOf r n ≡ Unsound x → (locateAnswer l r n ≡ located.Refused x) × (afterBook r n bookEnd a ≡ Refused x) × (unheard r ≡ x)
+unfolding walkedOf locateAnswer afterBook unheard
 walked-unsound l (holds fs) n bookEnd a h = absurd (let z : _≡_ {A = ℕ} 0 1 = cc in omega (arith, z))
-walked-unsound l (unsound y) n bookEnd a {x} h = let e : y ≡ x = (cc) in rw e (refl, refl)
+walked-unsound l (unsound y) n bookEnd a {x} h = let e : y ≡ x = (cc) in rw e (refl, refl, refl)
 
--- and over a sound one, for an addition
-pub walked-least : (r : Reading) (n bookEnd : ℕ) (a : Answer) {least place : ℕ} → walkedOf r n ≡ Sound least place → afterBook r n bookEnd a ≡ cond (leb least n) a (Refused (refusal 16 bookEnd))
-unfolding walkedOf afterBook
-walked-least (holds fs) n bookEnd a {least} h = let e : least ≡ leastAfter 0 fs = (cc) in rw e refl
-walked-least (unsound x) n bookEnd a h = absurd (let z : _≡_ {A = ℕ} 0 1 = cc in omega (arith, z))
+-- and over a sound one, for an addition, and for one who may hear nothing
+pub walked-sound : (r : Reading) (n bookEnd : ℕ) (a : Answer) {least place : ℕ} → walkedOf r n ≡ Sound least place → (afterBook r n bookEnd a ≡ cond (leb least n) a (Refused (refusal 16 bookEnd))) × (unheard r ≡ withheld)
+unfolding walkedOf afterBook unheard
+walked-sound (holds fs) n bookEnd a {least} h = let e : least ≡ leastAfter 0 fs = (cc) in rw e (refl, refl)
+walked-sound (unsound x) n bookEnd a h = absurd (let z : _≡_ {A = ℕ} 0 1 = cc in omega (arith, z))
 
 -- and for a lookup: the record there, or the book's end, tells a listener what he must be told.
 none-at : (n : ℕ) (fs : List Phrase) → search fs n ≡ none → recordAt fs n ≡ length (records fs)
@@ -171,12 +171,12 @@ module _ (l : Listener) (book : List ℕ) (n : ℕ) (b : Bytes book) {least plac
   told-search fs r e none h =
       let z : length book ≤ recordAt fs n = omega (arith, ap length e, none-at n fs h) in
       (λ more. absurd (omega (arith, z, more)), rw (le-leb (length book) (recordAt fs n) z) refl)
-  told-search fs r e (entry set t) h =
-      let w = found-stands 0 n set t fs r h in
+  told-search fs r e (entry g) h =
+      let w = found-stands 0 n g fs r h in
       let d = rw (← e) at (record-there w) in
-      let f = written-reads (record { number = n; set = set; codes = t }) (w .behind) (w .fits) in
-      let z : recordAt fs n + headSize + length t ≤ length book = omega (arith, tape-inside w, ap length e) in
-      (λ more. omega (arith, z), rw (lt-leb (length book) (recordAt fs n) (omega (arith, z)), d, f .set, f .length) (either (mayHear l set) (λ m. rw m refl) (λ m. rw m refl)))
+      let f = written-reads g (w .behind) (w .fits) in
+      let z : recordAt fs n + headSize + length (g .codes) ≤ length book = omega (arith, tape-inside w, ap length e) in
+      (λ more. omega (arith, z), rw (lt-leb (length book) (recordAt fs n) (omega (arith, z)), d, f .set, f .length) (either (mayHear l (g .set)) (λ m. rw m refl) (λ m. rw m refl)))
 
   pub told-walked : Told place (locateAnswer l (readBook book) n)
   unfolding walkedOf locateAnswer

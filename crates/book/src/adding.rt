@@ -75,7 +75,7 @@ fn append(buffer: &mut [u8], used: usize, number: u16, set: u8, m: &[u8]) -> Ans
     Answer::Written { length, live: 0 }
 }
 
-// The writer: adds the tape of a message, under a number and for a set of listeners, at the end of the book. Only dispatch may add phrases; anyone else is turned away before all other checks.
+// The writer: adds the tape of a message, under a number and for a set of listeners, at the end of the book. That is for dispatch alone; anyone else is turned away before all other checks.
 pub fn add(
     listener: Listener,
     buffer: &mut [u8],

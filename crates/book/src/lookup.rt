@@ -1,6 +1,6 @@
 // Lookups (paper 02, requests 6 and 7).
 ghost use mathlib.Core.Path.{_≡_};
-ghost use Rattle.spec.specs.Book.{readBook, bookIn, locateAnswer, standsAfter, FindPromise, LocatePromise};
+ghost use Rattle.spec.specs.Book.{readBook, bookIn, locateAnswer, unheard, standsAfter, FindPromise, LocatePromise};
 ghost use Rattle.book.specs.Walking.{PlaceIn, toldAt};
 use crate::Walked;
 use crate::listeners::may_hear;
@@ -12,6 +12,7 @@ use crate::records::pair_at;
 use spec::Found;
 use spec::Listener;
 use spec::Located;
+use spec::Refusal;
 
 // What a listener is told of the record at a place, or of the book's end, where none begins.
 fn tell(listener: Listener, book: &[u8], i: usize) -> Located
@@ -39,6 +40,17 @@ pub fn locate(listener: Listener, buffer: &[u8], used: usize, wanted: u16) -> Lo
     match walk(book, wanted as usize) {
         Walked::Sound { least: _, place } => tell(listener, book, place),
         Walked::Unsound(r) => Located::Refused(r),
+    }
+}
+
+// Why someone who is no listener is turned away: the book is not sound, or nothing in it is for him.
+pub fn refuse(buffer: &[u8], used: usize) -> Refusal
+    ensures { λ r. ⌜ r ≡ unheard (readBook (bookIn (now (buffer .entry)) used)) ⌝ }
+{
+    let end = book_end(buffer, used);
+    match walk(&buffer[..end], 0) {
+        Walked::Sound { least: _, place: _ } => not_for_listener(),
+        Walked::Unsound(r) => r,
     }
 }
 

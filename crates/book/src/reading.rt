@@ -8,6 +8,7 @@ use crate::Walked;
 use crate::records;
 use crate::records::is_record;
 use crate::records::pair_at;
+use crate::records::record_end;
 use spec::Refusal;
 
 // Where the book ends in a buffer: at the used count, or at the buffer's end where the count is above that.
@@ -53,7 +54,7 @@ pub fn walk(book: &[u8], wanted: usize) -> Walked
             });
         }
         s = note(s, wanted, number, i);
-        i = i + records::HEAD_SIZE + pair_at(book, i + records::LENGTH);
+        i = record_end(book, i);
     }
     if i < book.len() {
         return Walked::Unsound(Refusal {

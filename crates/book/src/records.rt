@@ -36,7 +36,7 @@ fn is_marked(x: &[u8], i: usize) -> bool
 }
 
 // Where the record at place i ends by its head.
-fn record_end(x: &[u8], i: usize) -> usize
+pub fn record_end(x: &[u8], i: usize) -> usize
     requires { ⌜ i + headSize ≤ length (now x) ⌝ }
     ensures { λ r. ⌜ r ≡ i + spanIn (drop i (now (x .entry))) ⌝ }
 {

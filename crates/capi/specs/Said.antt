@@ -5,9 +5,11 @@ use mathlib.Core.Path.{_≡_}
 use mathlib.Core.Bool.{cond}
 use mathlib.Core.List.{List, []}
 use lib.Dec.{eqb}
-use Rattle.spec.specs.Answers.{numberOf, placeOf, lengthOf, liveOf, checkedNumber, checkedPlace, checkedCodes, checkedNames, Promise}
+use lib.ListN.{take, drop}
+use Rattle.spec.specs.Answers.{numberOf, placeOf, lengthOf, liveOf, checkedNumber, checkedPlace, checkedCodes, checkedNames, Promise, Carried}
 use Rattle.spec.specs.Listeners.{withheld}
-use Rattle.spec.specs.Book.{Reading, holds, unsound, readBook, bookIn, LocatePromise, AddPromise}
+use Rattle.spec.specs.Book.{readBook, bookIn, unheard, LocatePromise, AddPromise}
+use Rattle.spec.specs.Demands.{BothSound, AgreeFor}
 use Rattle.spec.specs.declared.Listener.the-variants.{Pump, Road, Dispatch}
 use Rattle.spec.specs.declared.Answer.{Answer}
 use Rattle.spec.specs.declared.Answer.the-variants as answer
@@ -20,7 +22,7 @@ use Rattle.capi.specs.declared.GovorunText.{GovorunText}
 use Rattle.capi.specs.declared.GovorunAdded.{GovorunAdded}
 use Rattle.capi.specs.declared.GovorunFound.{GovorunFound}
 use Rattle.capi.specs.declared.Named.{Named}
-use Rattle.capi.specs.declared.Named.the-variants.{Known, Nobody}
+use Rattle.capi.specs.declared.Named.the-variants.{Known, Other}
 
 -- the four numbers of an answer
 pub record Said (a : Answer) (r : GovorunAnswer) : Type 0 where
@@ -76,28 +78,36 @@ pub record SaidFound (a : Located) (r : GovorunFound) : Type 0 where
   pub start : r .start ≡ startFound a
   pub length : r .length ≡ lengthFound a
 
--- whom a number names: 0 pump crews, 1 road crews, 2 dispatch, any other nobody
+-- whom a number names: 0 pump crews, 1 road crews, 2 dispatch, and any other number someone who is no listener
 abbrev pub named : ℕ → Named
 named n =
     cond (eqb n 0) (Known Pump)
     (cond (eqb n 1) (Known Road)
-    (cond (eqb n 2) (Known Dispatch) Nobody))
+    (cond (eqb n 2) (Known Dispatch) Other))
 
--- A lookup by him. Nobody may hear anything, so where the book is sound he meets 17.
-unfoldable pub unheard : Reading → Located
-unheard (holds fs) = Refused withheld
-unheard (unsound r) = Refused r
-
--- that is what any listener is told, but of no tape
-abbrev pub hushed : Located → Located
-hushed (At start n) = Refused withheld
-hushed (Refused r) = Refused r
-
+-- A lookup by him. Who is no listener may hear nothing.
 abbrev pub FindsFor : Named → List ℕ → ℕ → ℕ → Located → Type 0
 FindsFor (Known l) buffer used n r = LocatePromise l buffer used n r
-FindsFor Nobody buffer used n r = r ≡ unheard (readBook (bookIn buffer used))
+FindsFor Other buffer used n r = r ≡ Refused (unheard (readBook (bookIn buffer used)))
 
--- An addition by him. Nobody may add anything, and meets 17 with every byte left.
+-- An addition by him. Who is no listener may add nothing, and meets 17 with every byte left.
 abbrev pub AddsFor : Named → List ℕ → ℕ → ℕ → ℕ → List ℕ → List ℕ → Answer → Type 0
 AddsFor (Known l) buffer used n set m buffer′ r = AddPromise l buffer used n set m buffer′ r
-AddsFor Nobody buffer used n set m buffer′ r = Promise (answer.Refused withheld) [] buffer buffer′ r
+AddsFor Other buffer used n set m buffer′ r = Promise (answer.Refused withheld) [] buffer buffer′ r
+
+-- Slip 7, the law of silence in C. Two sound books agree in what the one who is named may hear, of whom nothing more is asked where he is no listener.
+abbrev pub AgreeIn : Named → List ℕ → List ℕ → Type 0
+AgreeIn (Known l) book book₂ = AgreeFor l book book₂
+AgreeIn Other book book₂ = BothSound book book₂
+
+-- Then what is said to him of a number is the same, but for the start, and so are the bytes that it tells of.
+pub record SaidAlike (buffer buffer₂ : List ℕ) (r r₂ : GovorunFound) : Type 0 where
+  pub bytes : take (r .length) (drop (r .start) buffer) ≡ take (r₂ .length) (drop (r₂ .start) buffer₂)
+  pub number : r .number ≡ r₂ .number
+  pub place : r .place ≡ r₂ .place
+  pub found : r .found ≡ r₂ .found
+  pub length : r .length ≡ r₂ .length
+
+abbrev pub SilenceInC : ℕ → List ℕ → ℕ → List ℕ → ℕ → Type 0
+SilenceInC listener buffer used buffer₂ used₂ = AgreeIn (named listener) (bookIn buffer used) (bookIn buffer₂ used₂) → (n : ℕ) (r r₂ : GovorunFound)
+    → Carried (FindsFor (named listener) buffer used n) SaidFound r → Carried (FindsFor (named listener) buffer₂ used₂ n) SaidFound r₂ → SaidAlike buffer buffer₂ r r₂

@@ -5,10 +5,11 @@ ghost use Rattle.spec.specs.Utf8.{ReadPromise, WritePromise};
 ghost use Rattle.spec.specs.SpokenLevels.{LevelPromise};
 ghost use mathlib.Core.Path.{_≡_};
 ghost use Rattle.laws.proofs.Bounds.{Small, SmallCheck};
-ghost use Rattle.capi.specs.Said.{Said, Counted, Told, SaidAdded, SaidFound, named, hushed, FindsFor, AddsFor};
+ghost use Rattle.capi.specs.Said.{Said, Counted, Told, SaidAdded, SaidFound, named, FindsFor, AddsFor};
 use book::adding::add;
 use book::listeners::not_for_listener;
 use book::lookup::locate;
+use book::lookup::refuse;
 use editor::edit;
 use joiner::join::join;
 use levels::speak_level;
@@ -189,13 +190,13 @@ fn tell_added(a: Answer) -> GovorunAdded
     }
 }
 
-// Whom a caller in C names as the listener.
+// Whom a caller in C names: a listener, or someone who is none.
 pub enum Named {
     Known(Listener),
-    Nobody,
+    Other,
 }
 
-// The listeners are numbered; any other number is nobody's.
+// The listeners are numbered; no other number is a listener's.
 fn named_by(number: u32) -> Named
     ensures { λ r. ⌜ r ≡ named number ⌝ }
 {
@@ -203,7 +204,7 @@ fn named_by(number: u32) -> Named
         0 => Named::Known(Listener::Pump),
         1 => Named::Known(Listener::Road),
         2 => Named::Known(Listener::Dispatch),
-        _ => Named::Nobody,
+        _ => Named::Other,
     }
 }
 
@@ -220,7 +221,7 @@ pub extern "C" fn govorun_book_add(
 {
     match named_by(listener) {
         Named::Known(l) => tell_added(add(l, book, used, phrase, set, m)),
-        Named::Nobody => tell_added(Answer::Refused(not_for_listener())),
+        Named::Other => tell_added(Answer::Refused(not_for_listener())),
     }
 }
 
@@ -246,19 +247,6 @@ fn tell_found(a: Located) -> GovorunFound
     }
 }
 
-// What nobody is told where a listener is told this: the book's refusals alike, and never of a tape.
-fn hush(a: Located) -> Located
-    ensures { λ r. ⌜ r ≡ hushed a ⌝ }
-{
-    match a {
-        Located::At {
-            start: _,
-            length: _,
-        } => Located::Refused(not_for_listener()),
-        Located::Refused(r) => Located::Refused(r),
-    }
-}
-
 #[no_mangle]
 pub extern "C" fn govorun_book_find(
     listener: u32,
@@ -270,6 +258,6 @@ pub extern "C" fn govorun_book_find(
 {
     match named_by(listener) {
         Named::Known(l) => tell_found(locate(l, book, used, phrase)),
-        Named::Nobody => tell_found(hush(locate(Listener::Dispatch, book, used, phrase))),
+        Named::Other => tell_found(Located::Refused(refuse(book, used))),
     }
 }

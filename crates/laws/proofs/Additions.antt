@@ -1,5 +1,5 @@
 -- Additions to a phrase book: each ends in one of the ways that its numbers tell, and one after the other, from an empty book on, they leave just the records of those that were accepted.
-use Rattle.laws.proofs.Kit.{ℕ, suc, _+_, _<_, _≤_, _≡_, refl, sym, ap, _∙_, true, _⊎_, inl, inr, ⊎-elim, List, [], _∷_, _++_, append-assoc, append-nil, arith, length, take, drop, take-append-drop, take-at, le-leb, lt-leb}
+use Rattle.laws.proofs.Kit.{ℕ, suc, _+_, _≤_, _≡_, refl, sym, ap, _∙_, true, _⊎_, inl, inr, ⊎-elim, List, [], _∷_, _++_, append-assoc, append-nil, arith, length, take, drop, take-append-drop, take-at, le-leb, lt-leb}
 use Rattle.spec.specs.Book.{Phrase, recordOf, records, readBook, unsound, bookIn, findAnswer, tapeAfter, locateAnswer, leastAfter, afterListener, afterBook, phraseOf, withAddition, addAnswer, Fits, RisingFrom, Sound}
 use Rattle.spec.specs.Demands.{BookDemands, MayAdd, AddDue, notDispatch, ofMessage, ofBook, notAboveLast, noRoomBehind, Addition, AddedTo, usedAfter, addedBy, OneByOne, lastBuffer, lastUsed, accepted, HoldsJust, AdditionsKept}
 use Rattle.spec.specs.Answers.{within, afterCheck, outputAfter}
@@ -111,7 +111,7 @@ module _ {buffer : List ℕ} {used : ℕ} {a : Addition} (kept : AddedTo buffer 
   unfolding outputAfter
   refused-next x e = record { refusal = x; answer = kept .promise .answer ∙ e; after = kept .promise .output ∙ rw e refl }
 
-  -- so it is unless dispatch adds an accepted message, where the book tells
+  -- so it is unless dispatch adds an accepted message; then the book decides
   unless-accepted : {P : Type 0} → (AsBefore buffer a → P) → (mayWrite (a .listener) ≡ true → Passes (a .message) → P) → P
   unfolding addAnswer afterListener afterCheck
   unless-accepted refused follows = either (mayWrite (a .listener))

@@ -1,14 +1,11 @@
 -- Lookups in a phrase book: numbers rise, so what is found under a number is the one phrase that the book has there, and it stands where the records before it end; a listener hears just the phrases that are for him.
-use Rattle.laws.proofs.Kit.{ℕ, suc, _+_, _≤_, _≡_, refl, sym, ap, _∙_, true, _⊎_, _↔_, inl, inr, ⊎-elim, List, [], _∷_, _++_, append-assoc, arith, eqb, length, take, drop, length-append, length-take, take-append-drop, take-at, drop-at, drop-append-add, eqb-true, eq-eqb, ne-eqb}
+use Rattle.laws.proofs.Kit.{ℕ, suc, _+_, _≤_, _≡_, refl, sym, ap, _∙_, _⊎_, _↔_, inl, inr, ⊎-elim, List, [], _∷_, _++_, append-assoc, arith, eqb, length, take, drop, length-append, length-take, take-append-drop, take-at, drop-at, drop-append-add, eqb-true, eq-eqb, ne-eqb}
 use Rattle.spec.specs.Book.{Phrase, recordMark, twoBytes, headOf, recordOf, records, headSize, Reading, holds, unsound, readBook, bookIn, Search, none, entry, search, recordAt, startOf, Heard, nothing, aloud, heard, told, handed, findAnswer, tapeAfter, placed, locateAnswer, toldOf, partAt, endOf, Fits, RisingFrom, FindPromise, LocatePromise}
-use Rattle.spec.specs.Demands.{Listed, IsFor, Has, HasNone, FindDue, ofRecords, notForHim, LooksUp}
+use Rattle.spec.specs.Demands.{Listed, IsFor, Has, FindDue, ofRecords, notForHim, LooksUp}
 use Rattle.spec.specs.{Listeners.mayHear, Refusals.refusal, declared.Listener.Listener, declared.Found.Found, declared.Located.Located}
 use Rattle.spec.specs.declared.Found.the-variants.{Tape, Refused}
 use Rattle.spec.specs.declared.Located.the-variants as located
 use Rattle.laws.proofs.{Classes.either, Book.Bytes, Book.Judged, Book.isSound, Book.isRefused, Book.judge, Book.record-size, Book.sound-read, Book.due-read, Book.bytes-in}
-
-abbrev phrase : ℕ → ℕ → List ℕ → Phrase
-phrase n set t = record { number = n; set = set; codes = t }
 
 -- numbers from the least on
 listed-least : (least : ℕ) (f : Phrase) (fs : List Phrase) → RisingFrom least fs → Listed f fs → least ≤ f .number
@@ -17,7 +14,7 @@ listed-least least f (g ∷ fs) r h =
     ⊎-elim (λ e. omega (arith, r .1, ap (λ (x : Phrase). x .number) e)) (λ l. omega (arith, r .1, listed-least (suc (g .number)) f fs (r .2) l)) h
 
 -- a phrase of the list is found,
-listed-found : (least : ℕ) (f : Phrase) (fs : List Phrase) → RisingFrom least fs → Listed f fs → search fs (f .number) ≡ entry (f .set) (f .codes)
+listed-found : (least : ℕ) (f : Phrase) (fs : List Phrase) → RisingFrom least fs → Listed f fs → search fs (f .number) ≡ entry f
 unfolding search
 listed-found least f [] r h = absurd h
 listed-found least f (g ∷ fs) r h =
@@ -27,19 +24,18 @@ listed-found least f (g ∷ fs) r h =
     rw (ne-eqb (g .number) (f .number) (omega (arith, b))) (listed-found (suc (g .number)) f fs (r .2) l)) h
 
 -- and what is found is one of the list
-no-entry : {set : ℕ} {t : List ℕ} → none ≡ entry set t → ⊥
+no-entry : {f : Phrase} → none ≡ entry f → ⊥
 no-entry h = let z : _≡_ {A = ℕ} 0 1 = ap count h in omega (arith, z) where
   count : Search → ℕ
   count none = 0
-  count (entry s u) = 1
+  count (entry g) = 1
 
-found-here : (f : Phrase) (n set : ℕ) (t : List ℕ) → eqb (f .number) n ≡ true → entry (f .set) (f .codes) ≡ entry set t → phrase n set t ≡ f
-found-here f n set t q u = let s : set ≡ f .set = (cc) in let c : t ≡ f .codes = (cc) in rw (s, c, ← eqb-true (f .number) n q) refl
-
-found-listed : (n set : ℕ) (t : List ℕ) (fs : List Phrase) → search fs n ≡ entry set t → Listed (phrase n set t) fs
+found-listed : (n : ℕ) (f : Phrase) (fs : List Phrase) → search fs n ≡ entry f → Listed f fs × (f .number ≡ n)
 unfolding search
-found-listed n set t [] h = absurd (no-entry h)
-found-listed n set t (f ∷ fs) h = either (eqb (f .number) n) (λ q. inl (found-here f n set t q (rw q at h))) (λ q. inr (found-listed n set t fs (rw q at h)))
+found-listed n f [] h = absurd (no-entry h)
+found-listed n f (g ∷ fs) h = either (eqb (g .number) n)
+    (λ q. let u : entry g ≡ entry f = rw q at h in let e : f ≡ g = (cc) in (inl e, rw e (eqb-true (g .number) n q)))
+    (λ q. let w = found-listed n f fs (rw q at h) in (inr (w .0), w .1))
 
 -- The record of the phrase that is found stands in the book where recordAt tells.
 pub record StandsAt (book : List ℕ) (place : ℕ) (f : Phrase) : Type 0 where
@@ -49,18 +45,18 @@ pub record StandsAt (book : List ℕ) (place : ℕ) (f : Phrase) : Type 0 where
   pub there : place ≡ length before
   pub fits : Fits f
 
-pub found-stands : (least n set : ℕ) (t : List ℕ) (fs : List Phrase) → RisingFrom least fs → search fs n ≡ entry set t → StandsAt (records fs) (recordAt fs n) (phrase n set t)
+pub found-stands : (least n : ℕ) (f : Phrase) (fs : List Phrase) → RisingFrom least fs → search fs n ≡ entry f → StandsAt (records fs) (recordAt fs n) f
 unfolding search recordAt records
-found-stands least n set t [] r h = absurd (no-entry h)
-found-stands least n set t (f ∷ fs) r h = either (eqb (f .number) n)
-    (λ q. rw (q, found-here f n set t q (rw q at h)) (record { before = []; behind = records fs; bytes = refl; there = refl; fits = r .0 }))
+found-stands least n f [] r h = absurd (no-entry h)
+found-stands least n f (g ∷ fs) r h = either (eqb (g .number) n)
+    (λ q. let u : entry g ≡ entry f = rw q at h in let e : f ≡ g = (cc) in rw (q, e) (record { before = []; behind = records fs; bytes = refl; there = refl; fits = r .0 }))
     (λ q.
-    let w = found-stands (suc (f .number)) n set t fs (r .2) (rw q at h) in
+    let w = found-stands (suc (g .number)) n f fs (r .2) (rw q at h) in
     rw q (record {
-      before = recordOf f ++ w .before;
+      before = recordOf g ++ w .before;
       behind = w .behind;
-      bytes = ap (recordOf f ++_) (w .bytes) ∙ sym (append-assoc (recordOf f) (w .before) (recordOf (phrase n set t) ++ w .behind));
-      there = rw (w .there) (sym (length-append (recordOf f) (w .before)));
+      bytes = ap (recordOf g ++_) (w .bytes) ∙ sym (append-assoc (recordOf g) (w .before) (recordOf f ++ w .behind));
+      there = rw (w .there) (sym (length-append (recordOf g) (w .before)));
       fits = w .fits;
     }))
 
@@ -94,14 +90,14 @@ unfolding heard
 heard-for l n t fs h = which (search fs n) refl where
   which : (q : Search) → search fs n ≡ q → IsFor l fs n t
   which none e = absurd (not-aloud (rw e at h))
-  which (entry set u) e = either (mayHear l set)
-      (λ m. let k : aloud u ≡ aloud t = rw (e, m) at h in let c : u ≡ t = (cc) in record { set = set; listed = rw c at (found-listed n set u fs e); hears = m })
+  which (entry f) e = either (mayHear l (f .set))
+      (λ m. let k : aloud (f .codes) ≡ aloud t = rw (e, m) at h in let w = found-listed n f fs e in record { phrase = f; listed = w .0; number = w .1; tape = (cc); hears = m })
       (λ m. absurd (not-aloud (rw (e, m) at h)))
 
 -- and he hears it, since numbers rise: no other stands under its number.
 for-heard : (l : Listener) (n : ℕ) (t : List ℕ) (fs : List Phrase) → RisingFrom 0 fs → IsFor l fs n t → heard l (search fs n) ≡ aloud t
 unfolding heard
-for-heard l n t fs r h = rw (listed-found 0 (phrase n (h .set) t) fs r (h .listed), h .hears) refl
+for-heard l n t fs r h = rw (← h .number, listed-found 0 (h .phrase) fs r (h .listed), h .hears, h .tape) refl
 
 none-heard : (l : Listener) (n : ℕ) (fs : List Phrase) → ((t : List ℕ) → IsFor l fs n t → ⊥) → heard l (search fs n) ≡ nothing
 none-heard l n fs h = which (heard l (search fs n)) refl where
@@ -191,10 +187,10 @@ module _ (l : Listener) (buffer : List ℕ) (used n : ℕ) (b : Bytes buffer) wh
 
     which : (q : Search) → search fs n ≡ q → here (heard l (search fs n))
     which none f = rw f (refl, omega arith)
-    which (entry set t) f =
-        let w = found-stands 0 n set t fs (s .rising) f in
+    which (entry g) f =
+        let w = found-stands 0 n g fs (s .rising) f in
         let whole : records fs ++ drop used buffer ≡ buffer = ap (_++ drop used buffer) (sym (s .bytes)) ∙ take-append-drop used buffer in
-        rw f (either (mayHear l set)
+        rw f (either (mayHear l (g .set))
         (λ m. rw m (rw whole at (tape-there w (drop used buffer)), omega (arith, tape-inside w, ap length (s .bytes), length-take used buffer)))
         (λ m. rw m (refl, omega arith)))
   judged-located (isRefused k p range d e) = rw e (refl, omega arith)

@@ -1,7 +1,7 @@
 -- The law of silence: what a listener is told of a sound book is made of what he hears under the numbers he asks for, and where two books have the same for him he hears the same.
 use Rattle.laws.proofs.Kit.{ℕ, _≡_, refl, sym, ap, _∙_, false, true≢false, _⊎_, inl, inr, ⊎-elim, _↔_, List, [], _∷_, _++_, arith, length}
-use Rattle.spec.specs.Book.{Phrase, bookIn, readBook, search, heard, told, handed, findAnswer, tapeAfter, Sound}
-use Rattle.spec.specs.Demands.{Listed, IsFor, Addition, AddedTo, usedAfter, asked, AnswerAlike, Silence, UnheardAddition}
+use Rattle.spec.specs.Book.{Phrase, bookIn, readBook, findAnswer, tapeAfter, Sound}
+use Rattle.spec.specs.Demands.{Listed, IsFor, Addition, usedAfter, asked, AnswerAlike, Silence, UnheardAddition}
 use Rattle.spec.specs.{Listeners.mayHear, declared.Listener.Listener}
 use Rattle.laws.proofs.{Book.Bytes, Book.Judged, Book.isSound, Book.isRefused, Book.judge, Book.sound-read, Book.bytes-in, Lookup.heard-same}
 use Rattle.laws.proofs.Additions.{added, AsBefore, Next, asBefore, oneMore, sound-next, unsound-next}
@@ -23,13 +23,14 @@ module _ (l : Listener) (buffer : List ℕ) (used : ℕ) (buffer₂ : List ℕ) 
       let t : x .after ≡ y .after = k .0 .tape ∙ rw (n, b) (s .1) ∙ sym (k₂ .0 .tape) in
       rw (a, t, alike same xs ys (k .1) (k₂ .1) more) refl
 
+  -- The law of silence. What it does not cover stands with its statement: 15 and 16, time, and where in the book a tape stands.
   pub silence : Silence l buffer used buffer₂ used₂
   unfolding findAnswer tapeAfter
   silence g =
-      let e = sound-read (g .sound) in
-      let e₂ = sound-read (g .sound₂) in
+      let e = sound-read (g .both .sound) in
+      let e₂ = sound-read (g .both .sound₂) in
       alike (λ n old.
-      let h = heard-same l n (g .phrases) (g .phrases₂) (g .sound .rising) (g .sound₂ .rising) (g .same n) in
+      let h = heard-same l n (g .both .phrases) (g .both .phrases₂) (g .both .sound .rising) (g .both .sound₂ .rising) (g .same n) in
       rw (e, e₂, h) (refl, refl))
 
 -- A phrase behind the others that is not for a listener is none for him.
@@ -41,10 +42,10 @@ listed-or : (f g : Phrase) (fs : List Phrase) → Listed f (fs ++ (g ∷ [])) �
 listed-or f g [] h = ⊎-elim (λ e. inr e) (λ r. absurd r) h
 listed-or f g (x ∷ fs) h = ⊎-elim (λ e. inl (inl e)) (λ r. ⊎-elim (λ s. inl (inr s)) (λ e. inr e) (listed-or f g fs r)) h
 
-unheard : (l : Listener) (g : Phrase) (fs : List Phrase) → mayHear l (g .set) ≡ false → (n : ℕ) (t : List ℕ) → IsFor l fs n t ↔ IsFor l (fs ++ (g ∷ [])) n t
-unheard l g fs h n t = (
-  λ p. record { set = p .set; listed = listed-before _ g fs (p .listed); hears = p .hears },
-  λ p. ⊎-elim (λ q. record { set = p .set; listed = q; hears = p .hears })
+not-for-him : (l : Listener) (g : Phrase) (fs : List Phrase) → mayHear l (g .set) ≡ false → (n : ℕ) (t : List ℕ) → IsFor l fs n t ↔ IsFor l (fs ++ (g ∷ [])) n t
+not-for-him l g fs h n t = (
+  λ p. record { phrase = p .phrase; listed = listed-before _ g fs (p .listed); number = p .number; tape = p .tape; hears = p .hears },
+  λ p. ⊎-elim (λ q. record { phrase = p .phrase; listed = q; number = p .number; tape = p .tape; hears = p .hears })
       (λ e. absurd (true≢false (sym (p .hears) ∙ ap (λ (f : Phrase). mayHear l (f .set)) e ∙ h))) (listed-or _ g fs (p .listed)),
 )
 
@@ -57,7 +58,7 @@ unheard-addition l buffer used b a kept not-his = of (judge (bookIn buffer used)
 
   next : (fs : List Phrase) → Sound (bookIn buffer used) fs → Next buffer fs a → AnswerAlike l buffer used (a .after) (usedAfter (a .answer) used)
   next fs s (asBefore k) = left k
-  next fs s (oneMore k r z t) = rw r (silence l buffer used (a .after) k (record { phrases = fs; phrases₂ = fs ++ (added a ∷ []); sound = s; sound₂ = t; same = unheard l (added a) fs not-his }))
+  next fs s (oneMore k r z t) = rw r (silence l buffer used (a .after) k (record { both = record { phrases = fs; phrases₂ = fs ++ (added a ∷ []); sound = s; sound₂ = t }; same = not-for-him l (added a) fs not-his }))
 
   of : Judged (bookIn buffer used) → AnswerAlike l buffer used (a .after) (usedAfter (a .answer) used)
   of (isSound fs s e) = next fs s (sound-next kept s)

@@ -126,14 +126,14 @@ readBook book = readFrom 0 0 0 book
 unfoldable pub bookIn : List ℕ → ℕ → List ℕ
 bookIn buffer used = take used buffer
 
--- Slip 6, the lookup. What stands under a number: a tape with its set of listeners, or none
+-- Slip 6, the lookup. What stands under a number: a phrase, or none
 pub data Search : Type 0 where
   none : Search
-  entry : ℕ → List ℕ → Search
+  entry : Phrase → Search
 
 unfoldable pub search : List Phrase → ℕ → Search
 search [] n = none
-search (f ∷ fs) n = cond (eqb (f .number) n) (entry (f .set) (f .codes)) (search fs n)
+search (f ∷ fs) n = cond (eqb (f .number) n) (entry f) (search fs n)
 
 -- and where in the book its record begins, and its tape
 unfoldable pub recordAt : List Phrase → ℕ → ℕ
@@ -150,7 +150,7 @@ pub data Heard : Type 0 where
 
 unfoldable pub heard : Listener → Search → Heard
 heard l none = nothing
-heard l (entry set t) = cond (mayHear l set) (aloud t) nothing
+heard l (entry f) = cond (mayHear l (f .set)) (aloud (f .codes)) nothing
 
 -- what is told of it, and what is handed back: the tape, and else what was there before
 unfoldable pub told : Heard → Found
@@ -207,6 +207,11 @@ pub record LocatePromise (l : Listener) (buffer : List ℕ) (used n : ℕ) (r : 
 unfoldable pub standsAfter : Located → ℕ × ℕ → ℕ × ℕ → ℕ × ℕ
 standsAfter (located.At start n) buffer old = (buffer .0, start + buffer .1)
 standsAfter (located.Refused r) buffer old = old
+
+-- What someone who is no listener is told, as a caller in C can be, since he may hear nothing: the book's own refusal, or 17 where it is sound.
+unfoldable pub unheard : Reading → Refusal
+unheard (holds fs) = withheld
+unheard (unsound r) = r
 
 -- Slip 6, the writer. First of all 17, for any listener but dispatch (slip 7)
 unfoldable pub afterListener : Listener → Answer → Answer

@@ -1,6 +1,6 @@
 -- The operator's three demands (paper 00) as statements over what the operations promise. Each operation's contract is its promise, and `demand1`, `demand2` and `demand3` of crate laws prove these of it.
 -- A dispatcher's text is covered by them through its edited form (paper 02, slip 1): `edited-demands`; one in UTF-8 (slip 2) through the bytes that are read: `read-demands`; a level (slip 5) through its words: `level-demands`;
--- what holds of a phrase book (slip 6) is `book-demands`, and `additions-kept` over lists of additions; that a listener learns nothing of what is not for him (slip 7) is `silence`, and `unheard-addition` of one addition.
+-- what holds of a phrase book (slip 6) is `book-demands`, and `additions-kept` over lists of additions; that a listener learns nothing of what is not for him (slip 7) is `silence`, and for one addition `unheard-addition`.
 -- That no step goes outside the lent memory and that every step ends is no statement over values: it is proved of each function by the language.
 -- Assumes nothing: these are definitions.
 use Prim.Native.Nat.{ℕ, _*_, _<_, _≤_}
@@ -239,9 +239,11 @@ Listed f (g ∷ gs) = (f ≡ g) ⊎ Listed f gs
 
 -- one of these phrases has this number and this tape, and is for this listener
 pub record IsFor (l : Listener) (fs : List Phrase) (n : ℕ) (t : List ℕ) : Type 0 where
-  pub set : ℕ
-  pub listed : Listed (record { number = n; set = set; codes = t }) fs
-  pub hears : mayHear l set ≡ true
+  pub phrase : Phrase
+  pub listed : Listed phrase fs
+  pub number : phrase .number ≡ n
+  pub tape : phrase .codes ≡ t
+  pub hears : mayHear l (phrase .set) ≡ true
 
 -- a sound book has this tape under this number for a listener; it has none for him
 pub record Has (l : Listener) (book : List ℕ) (n : ℕ) (t : List ℕ) : Type 0 where
@@ -375,17 +377,22 @@ gotten xs = map (λ (x : Lookup). (x .answer, x .after)) xs
 abbrev pub AnswerAlike : Listener → List ℕ → ℕ → List ℕ → ℕ → Type 0
 AnswerAlike l buffer used buffer₂ used₂ = (xs ys : List Lookup) → LookedUp l buffer used xs → LookedUp l buffer₂ used₂ ys → asked xs ≡ asked ys → gotten xs ≡ gotten ys
 
--- Two sound books agree in what a listener may hear: the same numbers, with the same tapes.
-pub record AgreeFor (l : Listener) (book book₂ : List ℕ) : Type 0 where
+-- Two sound books, and what they hold,
+pub record BothSound (book book₂ : List ℕ) : Type 0 where
   pub phrases : List Phrase
   pub phrases₂ : List Phrase
   pub sound : Sound book phrases
   pub sound₂ : Sound book₂ phrases₂
-  pub same : (n : ℕ) (t : List ℕ) → IsFor l phrases n t ↔ IsFor l phrases₂ n t
 
--- Slip 7, the law of silence. Two sound books that agree in what a listener may hear answer him alike, whatever else they hold, whatever else is in the sets, and wherever the records stand. It is one for pump crews, road crews and dispatch.
--- An answer is what is handed back: a refusal's number and place, or the tape's bytes. Where in the book these stand is no part of it.
--- What it does not cover: 15 and 16, which tell of the state of the whole book, so both must be sound; the time that a lookup takes, since it goes through every record; and the start that a caller in C is told, who has the whole book at hand.
+-- that agree in what a listener may hear: the same numbers, with the same tapes.
+pub record AgreeFor (l : Listener) (book book₂ : List ℕ) : Type 0 where
+  pub both : BothSound book book₂
+  pub same : (n : ℕ) (t : List ℕ) → IsFor l (both .phrases) n t ↔ IsFor l (both .phrases₂) n t
+
+-- Slip 7, the law of silence, which the field calls noninterference. Two sound books that agree in what a listener may hear answer him alike, whatever else they hold, whatever else is in the sets, and wherever the records stand. It is one theorem for pump
+-- crews, road crews and dispatch. An answer is what is handed back: a refusal's number and place, or the tape's bytes. Where in the book these stand is no part of it.
+-- What it does not cover: 15 and 16, which tell of the state of the whole book, so both must be sound; time, since a lookup goes through every record, and takes a few instructions more for a phrase that is not for him than for one that is not there; and the
+-- start that a caller in C is told, who has the whole book at hand.
 abbrev pub Silence : Listener → List ℕ → ℕ → List ℕ → ℕ → Type 0
 Silence l buffer used buffer₂ used₂ = AgreeFor l (bookIn buffer used) (bookIn buffer₂ used₂) → AnswerAlike l buffer used buffer₂ used₂
 

@@ -8,13 +8,13 @@ use Rattle.spec.specs.declared.Refusal.{Refusal}
 use Rattle.spec.specs.declared.Listener.{Listener}
 use Rattle.spec.specs.declared.Listener.the-variants.{Pump, Road, Dispatch}
 
--- Is this listener in the set? Bit 0 is for pump crews, bit 1 for road crews, bit 2 for dispatch; bits 3 to 7 are passed over.
+-- Is this listener in the set? Bit 0 is for pump crews, bit 1 for road crews, bit 2 for dispatch; the other five say nothing.
 abbrev pub mayHear : Listener → ℕ → Bool
 mayHear Pump set = eqb (set % 2) 1
 mayHear Road set = eqb (set / 2 % 2) 1
 mayHear Dispatch set = eqb (set / 4 % 2) 1
 
--- Only dispatch may add phrases.
+-- Who may add phrases: dispatch and nobody else.
 abbrev pub mayWrite : Listener → Bool
 mayWrite Pump = false
 mayWrite Road = false

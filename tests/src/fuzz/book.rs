@@ -126,7 +126,7 @@ fn free_bytes(free: u8) -> usize {
 }
 
 /// One of the three listeners or 3, with one more bit changed if the byte is not below 4: most
-/// numbers that mean nobody look like a listener to a narrower one.
+/// numbers that mean nobody would be a listener if they were cut to fewer bits.
 fn written_listener(byte: u8) -> u32 {
     let low = u32::from(byte % 4);
     match byte / 4 {

@@ -31,8 +31,8 @@ const EARLIER_MARK: [u8; 2] = [0x52, 0x9E];
 /// The mark of a later kind of record.
 const LATER_MARK: [u8; 2] = [0x52, 0xA0];
 
-/// Numbers that mean no listener. A narrower number would take most of them for one, and a set has
-/// bits at some.
+/// Numbers that mean no listener. Cut to fewer bits, some of them would be one; and at some a set
+/// has a bit.
 #[rustfmt::skip]
 pub const NOBODY: [u32; 15] = [
     3, 4, 5, 7, 8, 254, 255, 256, 257, 258, 65_536, 65_538, 1 << 31, (1 << 31) + 2, u32::MAX,

@@ -1,4 +1,4 @@
--- A listener's addition is carried on, and nobody is turned away.
+-- A listener's addition is carried on, and who is no listener is turned away.
 use Rattle.laws.proofs.Kit.{refl, sym, _∙_, needs}
 use Rattle.spec.specs.Answers.{outputAfter}
 use Rattle.laws.proofs.Promises.{promised}

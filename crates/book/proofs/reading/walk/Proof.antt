@@ -1,6 +1,6 @@
 -- At each place what is left to read makes of what was told what is due.
-use Rattle.laws.proofs.Kit.{_+_, _-_, _≤_, _≡_, sym, _∙_, arith, length, drop, length-drop, needs}
-use Rattle.spec.specs.Book.{headSize, numberPlace, numberIn, lengthPlace, spanIn}
+use Rattle.laws.proofs.Kit.{_+_, _-_, _≤_, _≡_, sym, _∙_, arith, length, drop, length-drop}
+use Rattle.spec.specs.Book.{numberPlace, numberIn, spanIn}
 use Rattle.laws.proofs.Book.{Stands, record-stands}
 use Rattle.book.proofs.Walks.{pair-behind, Going, going-start, going-15, going-16, going-more, going-all}
 use Rattle.book.proofs.reading.walk.Statement.{statement}
@@ -26,13 +26,6 @@ inside c =
 number-there : (c : tie.After-pair-at Inv-loop μ-loop) → let l = c .before .before .before in c .pair-at .result ≡ numberIn (drop (l .loop .i) (l .before .before .args .book .now))
 number-there c = let l = c .before .before .before in c .pair-at .ensures .0 ∙ pair-behind (l .before .before .args .book .now) (l .loop .i) numberPlace
 
--- and it ends where its head tells
-ends : (c : tie.After-pair-at2 Inv-loop μ-loop)
-    → let l = c .before .before .before .before .before .before .before in l .loop .i + headSize + c .pair-at2 .result ≡ l .loop .i + spanIn (drop (l .loop .i) (l .before .before .args .book .now))
-ends c =
-    let l = c .before .before .before .before .before .before .before in
-    omega (arith, c .pair-at2 .ensures .0 ∙ pair-behind (l .before .before .args .book .now) (l .loop .i) lengthPlace)
-
 pub walk-spec : {M : Type 1} → statement M
 walk-spec =
     tie.close
@@ -43,13 +36,10 @@ walk-spec =
     (λ c κs. omega (arith, inside c))
     (λ c. let p = c .before .before in going-16 (p .before .before .before .loop .inv) (there (p .before)) (number-there p) (c .if2 .taken))
     (λ c κs. c .before .before .pair-at .ensures .1)
-    (λ c. omega (arith, inside (c .before .before .before .before)))
-    (λ c. omega (arith, inside (c .before .before .before .before)))
     (λ c κs. omega (arith, inside (c .before .before .before .before)))
-    (λ c. omega (arith, ends c, inside (c .before .before .before .before .before)))
-    (λ c. omega (arith, ends c, inside (c .before .before .before .before .before)))
+    (λ c. omega (arith, c .record-end .ensures, inside (c .before .before .before .before .before)))
     (λ c.
     let p = c .before .before .before .before in
-    going-more (p .before .before .before .loop .inv) (there (p .before)) (number-there p) (ends c) (c .before .before .if2 .left) (c .before .note .ensures))
+    going-more (p .before .before .before .loop .inv) (there (p .before)) (number-there p) (c .record-end .ensures) (c .before .before .if2 .left) (c .before .note .ensures))
     (λ c. let r = c .before .before in going-15 (r .before .loop .inv) (c .if3 .taken) (sym (r .is-record .ensures) ∙ c .before .if1 .left))
     (λ c. going-all (c .before .before .before .loop .inv) (c .if3 .left)))

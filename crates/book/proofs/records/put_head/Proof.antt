@@ -1,7 +1,7 @@
 -- Mark, number, set and length are put one behind the other.
-use Rattle.laws.proofs.Kit.{_∷_, _++_, [], arith, needs}
+use Rattle.laws.proofs.Kit.{arith, needs}
 use Rattle.spec.specs.Book.{recordMark, twoBytes, headOf}
-use Rattle.laws.proofs.Putting.{Put, put-behind, put-length}
+use Rattle.laws.proofs.Putting.{put-behind, put-length}
 use Rattle.book.proofs.records.put_head.Statement.{statement}
 use Rattle.book.proofs.records.put_head.Tie as tie
 
