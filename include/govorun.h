@@ -164,7 +164,8 @@ typedef struct {
  * Two books that are sound, so that neither 15 nor 16 is met, and agree in the numbers and tapes of the phrases that a listener may hear
  * give him the same answers, however often he asks: number, place, found, length and the tape's bytes. This is not said of start, which
  * tells where in the book the tape stands, and so how much stands before it: hand a crew the bytes and not the place. Nor is it said of
- * 15 and 16, which tell of the book's state, nor of the time of a call, which grows with the whole book and is a little more for a phrase that is not for him than for none.
+ * 15 and 16, which tell of the book's state, nor of the time of a call, which grows with the whole book and is a little more for a phrase
+ * that is not for him than for none.
  */
 govorun_found govorun_book_find(uint32_t listener, const uint8_t *book, size_t size, size_t used, uint16_t phrase);
 

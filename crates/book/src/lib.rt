@@ -12,7 +12,7 @@ pub struct Seen {
     pub place: usize,
 }
 
-// What the walk over a whole book comes to: the same, or why the book is not sound.
+// What the walk over a whole book comes to: the same, or why the book is not sound. Plain numbers, and not the struct: with that in it the compiler takes one of the loop's numbers apart at each record.
 pub enum Walked {
     Sound { least: usize, place: usize },
     Unsound(Refusal),

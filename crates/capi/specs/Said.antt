@@ -95,7 +95,7 @@ abbrev pub AddsFor : Named → List ℕ → ℕ → ℕ → ℕ → List ℕ →
 AddsFor (Known l) buffer used n set m buffer′ r = AddPromise l buffer used n set m buffer′ r
 AddsFor Other buffer used n set m buffer′ r = Promise (answer.Refused withheld) [] buffer buffer′ r
 
--- Slip 7, the law of silence in C. Two sound books agree in what the one who is named may hear, of whom nothing more is asked where he is no listener.
+-- Slip 7, the law of silence in C. Two sound books agree in what the one who is named may hear; where he is no listener, it is enough that both are sound.
 abbrev pub AgreeIn : Named → List ℕ → List ℕ → Type 0
 AgreeIn (Known l) book book₂ = AgreeFor l book book₂
 AgreeIn Other book book₂ = BothSound book book₂
