@@ -1,7 +1,7 @@
 -- The law of silence in C: a listener hears the same in both books, so he is told the same but for its place; and who is no listener gets 17 from every sound book.
 use Rattle.laws.proofs.Kit.{ℕ, _≡_, refl, sym, _∙_, List, take, drop}
 use Rattle.spec.specs.Book.{bookIn, Heard, nothing, aloud, tapeAfter, placed, locateAnswer, partAt, unheard, LocatePromise}
-use Rattle.spec.specs.{Answers.Carried, Demands.AgreeFor, declared.Listener.Listener, declared.Located.Located, declared.Located.the-variants.At, declared.Located.the-variants.Refused}
+use Rattle.spec.specs.{Answers.Carried, BookDemands.AgreeFor, declared.Listener.Listener, declared.Located.Located, declared.Located.the-variants.At, declared.Located.the-variants.Refused}
 use Rattle.laws.proofs.{Book.sound-read, Lookup.heard-same}
 use Rattle.capi.specs.Said.{SaidFound, numberFound, placeFound, isFound, startFound, lengthFound, named, FindsFor, AgreeIn, SaidAlike, SilenceInC}
 use Rattle.capi.specs.{declared.GovorunFound.GovorunFound, declared.Named.Named, declared.Named.the-variants.Known, declared.Named.the-variants.Other}

@@ -9,7 +9,7 @@ use lib.ListN.{take, drop}
 use Rattle.spec.specs.Answers.{numberOf, placeOf, lengthOf, liveOf, checkedNumber, checkedPlace, checkedCodes, checkedNames, Promise, Carried}
 use Rattle.spec.specs.Listeners.{withheld}
 use Rattle.spec.specs.Book.{readBook, bookIn, unheard, LocatePromise, AddPromise}
-use Rattle.spec.specs.Demands.{BothSound, AgreeFor}
+use Rattle.spec.specs.BookDemands.{BothSound, AgreeFor}
 use Rattle.spec.specs.declared.Listener.the-variants.{Pump, Road, Dispatch}
 use Rattle.spec.specs.declared.Answer.{Answer}
 use Rattle.spec.specs.declared.Answer.the-variants as answer

@@ -1,7 +1,7 @@
 -- Additions to a phrase book: each ends in one of the ways that its numbers tell, and one after the other, from an empty book on, they leave just the records of those that were accepted.
 use Rattle.laws.proofs.Kit.{ℕ, suc, _+_, _≤_, _≡_, refl, sym, ap, _∙_, true, _⊎_, inl, inr, ⊎-elim, List, [], _∷_, _++_, append-assoc, append-nil, arith, length, take, drop, take-append-drop, take-at, le-leb, lt-leb}
 use Rattle.spec.specs.Book.{Phrase, recordOf, records, readBook, unsound, bookIn, findAnswer, tapeAfter, locateAnswer, leastAfter, afterListener, afterBook, phraseOf, withAddition, addAnswer, Fits, RisingFrom, Sound}
-use Rattle.spec.specs.Demands.{BookDemands, MayAdd, AddDue, notDispatch, ofMessage, ofBook, notAboveLast, noRoomBehind, Addition, AddedTo, usedAfter, addedBy, OneByOne, lastBuffer, lastUsed, accepted, HoldsJust, AdditionsKept}
+use Rattle.spec.specs.BookDemands.{BookDemands, MayAdd, AddDue, notDispatch, ofMessage, ofBook, notAboveLast, noRoomBehind, Addition, AddedTo, usedAfter, addedBy, OneByOne, lastBuffer, lastUsed, accepted, HoldsJust, AdditionsKept}
 use Rattle.spec.specs.Answers.{within, afterCheck, outputAfter}
 use Rattle.spec.specs.{Listeners.mayWrite, declared.Listener.Listener, Tape.tape, Refusals.refusal, Refusals.NoneFits, declared.Answer.Answer, declared.Answer.the-variants.Written, declared.Answer.the-variants.Refused, declared.Refusal.Refusal}
 use Rattle.laws.proofs.Accepted.{Passes, check-finds, passes-none, passes-accepted, none-accepted, given-refused, given-range}

@@ -3,7 +3,10 @@ use Rattle.laws.proofs.Kit.{ℕ, _≤_, _≡_, refl, sym, ap, _∙_, co
 use lib.IntN.{ℤ, natAbs}
 use Rattle.spec.specs.Joints.{Rising, joined, liveCount, badCutFrom, badCut}
 use Rattle.spec.specs.Answers.{numberOf, placeOf, lengthOf, liveOf, checkedNumber, checkedPlace, checkedCodes, checkedNames, within, afterCheck, outputAfter, nameAnswer, tapeAnswer, joinAnswer, Promise}
-use Rattle.spec.specs.Demands.{Due, turnedAway, wrongCut, tooShort, CarriedOut, Settled, Exactly, Demand1, Demand2, Demand3, EditDue, EditedDemands, ReadDue, unreadable, noRoom, ReadDemands, WriteDemands, LevelDue, outside, noRoomFor, LevelDemands}
+use Rattle.spec.specs.Demands.{Due, turnedAway, wrongCut, tooShort, CarriedOut, Settled, Exactly, Demand1, Demand2, Demand3}
+use Rattle.spec.specs.EditDemands.{EditDue, EditedDemands}
+use Rattle.spec.specs.Utf8Demands.{ReadDue, unreadable, noRoom, ReadDemands, WriteDemands}
+use Rattle.spec.specs.LevelDemands.{LevelDue, outside, noRoomFor, LevelDemands}
 use Rattle.spec.specs.Editing.{edited, editAnswer}
 use Rattle.spec.specs.Utf8.{encoded, decoded, readTo, readAnswer, writeAnswer, Readable, ReadPromise}
 use Rattle.spec.specs.SpokenLevels.{spoken, levelAnswer, InRange}

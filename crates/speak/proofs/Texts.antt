@@ -4,7 +4,7 @@ use Rattle.spec.specs.Answers.{numberOf, placeOf, within, tapeAnswer}
 use Rattle.spec.specs.Editing.{edited, editAnswer, EditPromise}
 use Rattle.spec.specs.Utf8.{decoded, readTo, readAnswer, ReadPromise}
 use Rattle.spec.specs.Printed.{printedAnswer, afterWriting, textAnswer}
-use Rattle.spec.specs.Demands.{ReadDue, unreadable, noRoom}
+use Rattle.spec.specs.Utf8Demands.{ReadDue, unreadable, noRoom}
 use Rattle.spec.specs.{Refusals.refusal, declared.Refusal.Refusal, declared.Answer.Answer, declared.Answer.the-variants.Written, declared.Answer.the-variants.Refused}
 use Rattle.laws.proofs.{Classes.below-or, Utf8.read-most, Demands.edited-demands, Demands.read-demands}
 use Rattle.console.proofs.Room.{room-for-all}

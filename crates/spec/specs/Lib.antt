@@ -18,4 +18,8 @@ pub mod SpokenLevels
 pub mod Listeners
 pub mod Book
 pub mod Demands
+pub mod EditDemands
+pub mod Utf8Demands
+pub mod LevelDemands
+pub mod BookDemands
 pub mod Printed
