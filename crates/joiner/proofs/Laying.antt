@@ -1,7 +1,7 @@
 -- The second tape is laid from the right over the whole message's: a part's codes there are as many as its own, and they are its own where no cut changes the first or the last of them.
 use Rattle.laws.proofs.Kit.{ℕ, zero, suc, _+_, _-_, _<_, _≤_, _≡_, refl, sym, ap, _∙_, Bool, true, false, cond, _||_, inl, inr, ⊎-elim, List, [], _∷_, _++_, append-nil, append-assoc, arith, add-one, length, take, drop, getD, length-append, length-take, length-drop, List·getD-append, List·getD-eq-default, take-all, take-length, take-at, take-suc, take-take, take-append-le, drop-at, drop-length, drop-cons, append-snoc, getD-take, length-take-le}
 use Rattle.spec.specs.Joints.{RisingFrom, joinedFrom, joined, liveCount, markIndex, leastAt}
-use Rattle.spec.specs.{Tape.tape, Refusals.checkOf, declared.Checked.the-variants.Accepted}
+use Rattle.spec.specs.{Tape.sounds, Tape.tape, Refusals.checkOf, declared.Checked.the-variants.Accepted}
 use Rattle.message.specs.Places.{Steady}
 use Rattle.message.proofs.Steadiness.{accepted-steady}
 use Rattle.laws.proofs.Parts.{part, Begins, changedAfter, or-false, live-here, mark-there, part-first, first-own}
@@ -13,7 +13,7 @@ use Rattle.joiner.proofs.Looking.{whole-less}
 use mir.Val.{boolByte}
 
 -- the second tape from a place on: the first part's, and what follows it
-joined-part : (m : List ℕ) (a : ℕ) (cuts : List ℕ) → joinedFrom m a cuts ≡ tape (part m a (endOf m cuts)) ++ restOf m cuts
+joined-part : (m : List ℕ) (a : ℕ) (cuts : List ℕ) → joinedFrom sounds m a cuts ≡ tape (part m a (endOf m cuts)) ++ restOf m cuts
 unfolding joinedFrom
 joined-part m a [] = rw (append-nil (tape (part m a (length m))), take-all (length m - a) (drop a m) (omega (arith, length-drop a m)))
 joined-part m a (c ∷ cuts) = refl
@@ -123,7 +123,7 @@ module _ {m cuts out : List ℕ} {k : ℕ} {q : Progress} (l : Laid m cuts k out
   }
 
   -- and with it the second tape stands from its place on
-  next-laid : {out′ : List ℕ} → PutBefore (own next) out out′ (q .at) → out′ ≡ take (markIndex m a) (tape m) ++ joinedFrom m a (drop k cuts)
+  next-laid : {out′ : List ℕ} → PutBefore (own next) out out′ (q .at) → out′ ≡ take (markIndex m a) (tape m) ++ joinedFrom sounds m a (drop k cuts)
   next-laid p = p .bytes ∙ rw (kept, past, joined-part m a (drop k cuts), ← l .ends)
 
   -- which is as long as the whole one

@@ -7,7 +7,7 @@ use mathlib.Core.List.{List, [], _∷_, _++_}
 use lib.ListN.{length, take, drop, getD}
 use Rattle.spec.specs.Letters.{between, isBreak}
 use Rattle.spec.specs.Codes.{markOf}
-use Rattle.spec.specs.Tape.{tape}
+use Rattle.spec.specs.Tape.{sounds, tape}
 use Rattle.message.specs.Places.{Steady}
 use Rattle.spec.specs.Refusals.{checkOf}
 use Rattle.spec.specs.Joints.{Rising, joinedFrom, markIndex, liveCount}
@@ -91,7 +91,7 @@ endOf m (c ∷ cuts) = c
 -- what follows its tape on the second tape
 abbrev pub restOf : List ℕ → List ℕ → List ℕ
 restOf m [] = []
-restOf m (c ∷ cuts) = markOf (getD m c 0) ∷ joinedFrom m (suc c) cuts
+restOf m (c ∷ cuts) = markOf (getD m c 0) ∷ joinedFrom sounds m (suc c) cuts
 
 -- All cuts but the first k are passed: before the mark of the last one of them, or the message's end, the whole tape stands in the output, and from there on the second one.
 pub record Laid (m cuts : List ℕ) (k : ℕ) (out : List ℕ) (p : Progress) : Type 0 where

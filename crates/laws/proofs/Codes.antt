@@ -6,7 +6,7 @@ use Rattle.spec.specs.Codes.{Б, З', J, Ц1, Ч1, markOf, isMarkCode, isSound,
 use Rattle.spec.specs.Syllables.{Facts, factsOf, syllableOf, nameIn, nameOf, isName, incomplete, namesFrom}
 use Rattle.spec.specs.Vowels.{Phone, vowelSound, writtenCode, phonesFrom, endsHard}
 use Rattle.spec.specs.Voicing.{Tone, voiced, voiceless, asWritten, voicedCode, voicelessCode, voices, toneOf, toned, codesOf, voiceOne, voice}
-use Rattle.spec.specs.Tape.{wordTape, segment, tape, wordNames, namesOf, names}
+use Rattle.spec.specs.Tape.{wordTape, segment, sounds, wordNames, namesOf, names}
 use Rattle.spec.specs.Refusals.{consonantByte, signByte, vowelByte, letterByte, row3, rows, fitsIn, NoneFits}
 use Rattle.spec.specs.Joints.{joinedFrom, joined, marksOf, breakMarks}
 use Rattle.spec.specs.{Tables.among, Elision.elides, Elision.elideFrom, Elision.elide, Palatalization.isSoft, Palatalization.palatalize, declared.Cover.Cover, declared.Cover.the-variants.Bare, declared.Cover.the-variants.Covered, declared.Syllable.Syllable, declared.Level.Level, declared.Level.the-variants.Stressed, declared.Level.the-variants.First, declared.Level.the-variants.Second}
@@ -238,14 +238,14 @@ segment-codes h n (more w x r) s =
 
 -- the codes of each tape of an accepted message, whole or in parts
 module _ (m : List ℕ) (p : Passes m) where
-  stretch-codes : (a n : ℕ) → Each isCode (tape (take n (drop a m)))
-  unfolding tape
+  stretch-codes : (a n : ℕ) → Each isCode (sounds (take n (drop a m)))
+  unfolding sounds
   stretch-codes a n = segment-codes false false (read (take n (drop a m))) (part-spells m p a n)
 
-  joined-codes : (a : ℕ) (cuts : List ℕ) → Each isCode (joinedFrom m a cuts)
+  joined-codes : (a : ℕ) (cuts : List ℕ) → Each isCode (joinedFrom sounds m a cuts)
   unfolding joinedFrom
   joined-codes a [] = rw (take-length (drop a m)) at (stretch-codes a (length (drop a m)))
-  joined-codes a (c ∷ cuts) = each-append isCode (tape (take (c - a) (drop a m))) _ (stretch-codes a (c - a)) (mark-code (getD m c 0), joined-codes (suc c) cuts)
+  joined-codes a (c ∷ cuts) = each-append isCode (sounds (take (c - a) (drop a m))) _ (stretch-codes a (c - a)) (mark-code (getD m c 0), joined-codes (suc c) cuts)
 
 -- Every code that the joiner writes for an accepted message is a sound or a mark, and with no cuts that is the transcriber's tape.
 pub codes-written : (m cuts : List ℕ) (i : ℕ) → NoneFits m → i < length (joined m cuts) → isCode (getD (joined m cuts) i 0) ≡ true

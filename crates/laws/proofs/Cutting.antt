@@ -1,7 +1,7 @@
 -- The two tapes of a message, for every list of cuts: each cut splits both tapes at one index, and a cut is live just when a bit from over it changes a code beside its mark.
 use Rattle.laws.proofs.Kit.{ℕ, zero, suc, _+_, _-_, _≤_, _&&_, _++_, append-assoc, length-append, _<_, _≡_, refl, sym, ap, _∙_, true, false, true≢false, inl, inr, ⊎-elim, _≢_, _↔_, List, [], _∷_, arith, length, getD, take, drop}
 use Rattle.spec.specs.Joints.{RisingFrom, Rising, joinedFrom, marksOf, breakMarks, wordAfter, CutOf, DiffersAt, joined, isLive, NoneLive, liveCount, markIndex}
-use Rattle.spec.specs.{Letters.isBreak, Letters.read, Letters.firstByte, Tape.tape, Refusals.NoneFits, Codes.markOf, Palatalization.firstCode, Demands.TwoTapes}
+use Rattle.spec.specs.{Letters.isBreak, Letters.read, Letters.firstByte, Tape.sounds, Refusals.NoneFits, Codes.markOf, Palatalization.firstCode, Demands.TwoTapes}
 use Rattle.laws.proofs.Codes.{Spells, bytes-marks, part-spells, marks-mark, marks-append, breaks-append}
 use Rattle.laws.proofs.Beside.{segment-ends, isVoiced, isHigh, isIOrE, mark-unvoiced}
 use Rattle.laws.proofs.Parts.{onward, voicedAt, changedBefore, part, Begins, part-split, part-first, last-at, after-mark, joined-low, tape-cut, mark-index, live-here, onward-first, first-own, joined-length, joined-dead}
@@ -19,7 +19,7 @@ counts-none m (d ∷ cuts) =
     )
 
 -- The two tapes are equally long, whatever the list.
-pub equal-lengths : (m cuts : List ℕ) → Rising m cuts → length (joined m cuts) ≡ length (tape m)
+pub equal-lengths : (m cuts : List ℕ) → Rising m cuts → length (joined m cuts) ≡ length (sounds m)
 unfolding joined
 equal-lengths m cuts r = joined-length m 0 cuts tt r ∙ ap length (onward-first m)
 
@@ -44,15 +44,15 @@ module _ (m : List ℕ) (f : NoneFits m) where
   spells = part-spells m (none-passes m f)
 
   -- as many codes as a part has of its own stand on the tape between its two ends
-  part-size : (a c : ℕ) → Begins m a → a ≤ c → isBreak (getD m c 0) ≡ true → markIndex m a + length (tape (part m a c)) ≡ markIndex m c
+  part-size : (a c : ℕ) → Begins m a → a ≤ c → isBreak (getD m c 0) ≡ true → markIndex m a + length (sounds (part m a c)) ≡ markIndex m c
   part-size a c b le e = omega (arith, own-length m a c b le (inl e), placed m a c b le (inl e) .size)
 
   -- at the first cut
-  cut-first : (a c : ℕ) (cuts : List ℕ) → Begins m a → RisingFrom m a (c ∷ cuts) → CutAt m a c (joinedFrom m a (c ∷ cuts))
-  unfolding joinedFrom tape wordAfter
+  cut-first : (a c : ℕ) (cuts : List ℕ) → Begins m a → RisingFrom m a (c ∷ cuts) → CutAt m a c (joinedFrom sounds m a (c ∷ cuts))
+  unfolding joinedFrom sounds wordAfter
   cut-first a c cuts b r = record {
-    front = tape (part m a c);
-    back = joinedFrom m (suc c) cuts;
+    front = sounds (part m a c);
+    back = joinedFrom sounds m (suc c) cuts;
     split = refl;
     size = part-size a c b (r .0) (r .1);
     own = bytes-marks false false (part m a c) (spells a (c - a));
@@ -61,11 +61,11 @@ module _ (m : List ℕ) (f : NoneFits m) where
   }
 
   -- at a later one
-  cut-later : (a c d : ℕ) (cuts : List ℕ) → Begins m a → RisingFrom m a (d ∷ cuts) → suc d ≤ c → CutAt m (suc d) c (joinedFrom m (suc d) cuts)
-      → CutAt m a c (joinedFrom m a (d ∷ cuts))
-  unfolding joinedFrom tape breakMarks
+  cut-later : (a c d : ℕ) (cuts : List ℕ) → Begins m a → RisingFrom m a (d ∷ cuts) → suc d ≤ c → CutAt m (suc d) c (joinedFrom sounds m (suc d) cuts)
+      → CutAt m a c (joinedFrom sounds m a (d ∷ cuts))
+  unfolding joinedFrom sounds breakMarks
   cut-later a c d cuts b r lt k = record {
-    front = tape (part m a d) ++ (markOf (getD m d 0) ∷ k .front);
+    front = sounds (part m a d) ++ (markOf (getD m d 0) ∷ k .front);
     back = k .back;
     split = rw (k .split, append-assoc);
     size = simp length-append (omega (arith, k .size, part-size a d b (r .0) (r .1), mark-next m d (r .1)));
@@ -75,7 +75,7 @@ module _ (m : List ℕ) (f : NoneFits m) where
   }
 
   -- at each cut of the list
-  cut-at : (a c : ℕ) (cuts : List ℕ) → Begins m a → RisingFrom m a cuts → CutOf c cuts → CutAt m a c (joinedFrom m a cuts)
+  cut-at : (a c : ℕ) (cuts : List ℕ) → Begins m a → RisingFrom m a cuts → CutOf c cuts → CutAt m a c (joinedFrom sounds m a cuts)
   cut-at a c [] b r i = absurd i
   cut-at a c (d ∷ cuts) b r i =
       ⊎-elim (λ e. rw e (cut-first a d cuts b r)) (λ j. cut-later a c d cuts b r (cut-good m (suc d) cuts (r .2) j .0) (cut-at (suc d) c cuts (r .1) (r .2) j)) i
@@ -95,9 +95,9 @@ module _ (m : List ℕ) (f : NoneFits m) where
     size = omega (arith, here .size, mark-first m)
 
     -- the code before the mark was voiced from over the cut, or the code after it made by a hard boundary there
-    differs : isLive m c ≡ true → DiffersAt (tape m) (joined m cuts) (markIndex m c)
+    differs : isLive m c ≡ true → DiffersAt (sounds m) (joined m cuts) (markIndex m c)
     differs l = either (changedBefore m c)
-        (λ e. inl (apart (tape m) (joined m cuts) (markIndex m c) (λ q.
+        (λ e. inl (apart (sounds m) (joined m cuts) (markIndex m c) (λ q.
         true≢false (sym e ∙ sym (before-told m (none-accepted m f) c break) ∙ rw (q, here .split, last-at 0 (here .front) _ _ size) (here .unvoiced 0 refl)))))
         (λ e. inr (λ q. true≢false (sym (rw e at (sym (live-here m c break) ∙ l)) ∙ sym (after-told m c break) ∙ rw (q, here .split, after-mark (here .front) _ _ _ size) (here .low))))
 

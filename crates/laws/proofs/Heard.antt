@@ -2,7 +2,7 @@
 use Rattle.laws.proofs.Kit.{ℕ, _<_, _≡_, sym, _∙_, Bool, false, and-true, true≢false, List, [], _∷_, arith, length, length-append}
 use Rattle.spec.specs.Letters.{Letter, Message, last, more, read, putLetter, isSign}
 use Rattle.spec.specs.Refusals.{none, first, signByte, row4, row5, row6, rows, fitsIn, beforeAt}
-use Rattle.spec.specs.{Elision.elideFrom, Elision.elide, Syllables.factsOf, Vowels.phonesFrom, Tape.wordTape, Tape.segment, Tape.tape}
+use Rattle.spec.specs.{Elision.elideFrom, Elision.elide, Syllables.factsOf, Vowels.phonesFrom, Tape.wordTape, Tape.segment, Tape.sounds}
 use Rattle.laws.proofs.{Accepted.Passes, Word.first-kept, Word.phones-cases, Word.sounds-length}
 
 -- a word that begins with a letter that is no sign; its first letter is not elided
@@ -20,8 +20,8 @@ segment-heard h n l (last w) s = word-heard h n l w s
 segment-heard h n l (more w x r) s = simp length-append (omega arith)
 
 -- Numbers 4, 5 and 6 leave a letter that is no sign as the first byte, so an accepted message has a code.
-pub tape-heard : (m : List ℕ) → Passes m → 0 < length (tape m)
-unfolding tape read beforeAt fitsIn rows row4 row5 row6 none first signByte
+pub tape-heard : (m : List ℕ) → Passes m → 0 < length (sounds m)
+unfolding sounds read beforeAt fitsIn rows row4 row5 row6 none first signByte
 tape-heard [] p = absurd (omega (arith, p .some))
 tape-heard (b ∷ m) p =
     let c = p .rows 0 (omega arith) in

@@ -3,7 +3,7 @@
 use Rattle.laws.proofs.Kit.{ℕ, suc, _+_, _-_, _<_, _≤_, _≡_, refl, sym, ap, _∙_, Bool, true, false, not, _&&_, and-eq-true-iff, true≢false, _⊎_, ⊎-elim, List, [], _∷_, _++_, append-nil, arith, leb, length, take, drop, getD, length-append, length-drop, List·getD-append, List·getD-eq-default, take-all, getD-append-add, leb-true, le-leb}
 use Rattle.spec.specs.Letters.{between, read, firstByte, isGap, isBreak}
 use Rattle.spec.specs.Codes.{А*, Щ, markOf, isSound}
-use Rattle.spec.specs.{Tape.segment, Tape.tape, Refusals.checkOf, Joints.markIndex, Joints.wordBefore, Joints.wordAfter, declared.Counts.Counts, declared.Checked.the-variants.Accepted}
+use Rattle.spec.specs.{Tape.segment, Tape.sounds, Refusals.checkOf, Joints.markIndex, Joints.wordBefore, Joints.wordAfter, declared.Counts.Counts, declared.Checked.the-variants.Accepted}
 use Rattle.laws.proofs.Codes.{Each, part-spells, read-marks, segment-sounds, unbroken, each-at}
 use Rattle.laws.proofs.Parts.{part, Begins, hardAt, onward, voicedAt, changedAfter, changedBefore, last-at, onward-cut, part-own, tape-cut, mark-index, mark-there, code-after, onward-alone}
 use Rattle.laws.proofs.Beside.{isVoiced, isHigh, isIOrE, segment-ends, segment-starts}
@@ -40,7 +40,7 @@ stretch m a e = segment (hardAt m a) (voicedAt m e) (read (part m a e))
 pub record Placed (m : List ℕ) (a e : ℕ) : Type 0 where
   pub front : List ℕ
   pub rest : List ℕ
-  pub split : tape m ≡ front ++ (stretch m a e ++ rest)
+  pub split : sounds m ≡ front ++ (stretch m a e ++ rest)
   pub start : length front ≡ markIndex m a
   pub size : markIndex m a + length (stretch m a e) ≡ markIndex m e
 
@@ -73,14 +73,14 @@ module _ (m : List ℕ) where
         rw k (record { front = f .front; rest = []; split = t; start = f .size; size = omega (arith, f .size, n, mark-last m (length m) refl) })) ends
 
     -- they are as many as the part's own
-    pub own-length : length (tape (part m a e)) ≡ length (stretch m a e)
-    unfolding tape
+    pub own-length : length (sounds (part m a e)) ≡ length (stretch m a e)
+    unfolding sounds
     own-length = segment-length false (hardAt m a) false (voicedAt m e) (read (part m a e))
 
     -- and they are its own where no break changes the first or the last of them
-    pub own-codes : changedAfter m a ≡ false → changedBefore m e ≡ false → tape (part m a e) ≡ stretch m a e
+    pub own-codes : changedAfter m a ≡ false → changedBefore m e ≡ false → sounds (part m a e) ≡ stretch m a e
     own-codes q o = ⊎-elim (λ k. part-own m a e begins le k q o)
-        (λ k. rw k (ap tape (take-all (length m - a) (drop a m) (omega (arith, length-drop a m))) ∙ onward-alone m a q ∙ last-stretch a)) ends
+        (λ k. rw k (ap sounds (take-all (length m - a) (drop a m) (omega (arith, length-drop a m))) ∙ onward-alone m a q ∙ last-stretch a)) ends
 
 -- a code within sounds that stand on a tape
 inside : (front s rest : List ℕ) (j : ℕ) → Each isSound s → length front ≤ j → j < length front + length s → isSound (getD (front ++ (s ++ rest)) j 0) ≡ true
@@ -107,7 +107,7 @@ module _ (m : List ℕ) where
         rw (part-at m (suc b) e i j) (l .past (suc b + i) (omega arith) (omega arith))))
 
     -- The last mark before that of a place is the mark of the last break before it, since every code between them is a sound.
-    pub last-mark : (b e : ℕ) → e ≤ length m → Ends m e → Last isBreak m e b → Last isNoSound (tape m) (markIndex m e) (markIndex m b)
+    pub last-mark : (b e : ℕ) → e ≤ length m → Ends m e → Last isBreak m e b → Last isNoSound (sounds m) (markIndex m e) (markIndex m b)
     last-mark b e within ends l =
         let s = placed m (suc b) e (l .here) (l .below) ends in
         let n = mark-next m b (l .here) in
@@ -120,7 +120,7 @@ module _ (m : List ℕ) where
         }
 
     -- A voiced code before the mark of a break, on the whole tape, is one that a cut there changes.
-    pub before-told : (c : ℕ) → isBreak (getD m c 0) ≡ true → isVoiced (getD (0 ∷ tape m) (markIndex m c) 0) ≡ changedBefore m c
+    pub before-told : (c : ℕ) → isBreak (getD m c 0) ≡ true → isVoiced (getD (0 ∷ sounds m) (markIndex m c) 0) ≡ changedBefore m c
     unfolding changedBefore wordBefore
     before-told c b =
         let s = segment false (voicedAt m c) (read (take c m)) in
@@ -128,6 +128,6 @@ module _ (m : List ℕ) where
         (segment-ends false (voicedAt m c) 0 (read (take c m)) refl (part-spells m (accepted-passes m counts accepted) 0 c))
 
   -- And Ы after it, where the next word begins with и or э, is too.
-  pub after-told : (c : ℕ) → isBreak (getD m c 0) ≡ true → (isHigh (getD (tape m) (suc (markIndex m c)) 0) && isIOrE (firstByte (wordAfter m c))) ≡ changedAfter m (suc c)
+  pub after-told : (c : ℕ) → isBreak (getD m c 0) ≡ true → (isHigh (getD (sounds m) (suc (markIndex m c)) 0) && isIOrE (firstByte (wordAfter m c))) ≡ changedAfter m (suc c)
   unfolding changedAfter wordAfter onward
   after-told c b = rw (code-after m c b) (rw append-nil at (segment-starts (hardAt m (suc c)) false (read (drop (suc c) m)) []))

@@ -1,6 +1,6 @@
 -- How many codes stand before a place of a message: those that the bytes before it make, since neither bit from over a break changes their number.
 use Rattle.laws.proofs.Kit.{ℕ, zero, suc, _≡_, refl, sym, _∙_, true, false, _&&_, List, [], _∷_, _++_, append-assoc, arith, length, take, getD, length-append, take-suc, take-length}
-use Rattle.spec.specs.{Letters.read, Letters.isGap, Letters.isBreak, Codes.markOf, Voicing.voices, Tape.segment, Tape.tape, Joints.markIndex}
+use Rattle.spec.specs.{Letters.read, Letters.isGap, Letters.isBreak, Codes.markOf, Voicing.voices, Tape.segment, Tape.sounds, Joints.markIndex}
 use Rattle.spec.proofs.Computed.{everything}
 use Rattle.laws.proofs.Parts.{Begins, onward, voicedAt, onward-first, tape-cut, mark-index}
 use Rattle.laws.proofs.{Cuts.break-within, Stretch.read-join, Stretch.segment-join, Stretch.segment-length}
@@ -8,7 +8,7 @@ use Rattle.laws.proofs.{Cuts.break-within, Stretch.read-join, Stretch.s
 -- The tape of a message at place a: as many codes as counted stand before it.
 pub record Stands (m : List ℕ) (a : ℕ) : Type 0 where
   pub front : List ℕ
-  pub split : tape m ≡ front ++ onward m a
+  pub split : sounds m ≡ front ++ onward m a
   pub size : length front ≡ markIndex m a
 
 module _ (m : List ℕ) where
@@ -26,7 +26,7 @@ module _ (m : List ℕ) where
       (simp length-append (omega (arith, segment-length false false (isGap x && voices []) false (read (take c m)))))
 
   -- all codes stand before the message's end
-  pub mark-last : (e : ℕ) → e ≡ length m → markIndex m e ≡ length (tape m)
+  pub mark-last : (e : ℕ) → e ≡ length m → markIndex m e ≡ length (sounds m)
   unfolding markIndex
   mark-last e q = rw (q, take-length)
 

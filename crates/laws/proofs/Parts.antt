@@ -2,7 +2,7 @@
 use Rattle.laws.proofs.Kit.{ℕ, zero, suc, _+_, _-_, _<_, _≤_, _≡_, refl, sym, ap, _∙_, Bool, true, false, _&&_, _||_, and-comm, and-or-distrib-left, inl, inr, List, [], _∷_, _++_, append-nil, arith, length, take, drop, getD, length-append, take-append-drop, drop-cons, drop-drop, drop-append-add, take-add, getD-at}
 use Rattle.spec.specs.Letters.{read, firstByte, firstWord, lastWord, isGap, isBreak}
 use Rattle.spec.specs.Joints.{RisingFrom, joinedFrom, markIndex, wordBefore, wordAfter, endsInObstruent, beginsWithIOrE, liveByVoice, liveByHardness, isLive, NoneLive}
-use Rattle.spec.specs.{Codes.markOf, Voicing.voices, Vowels.endsHard, Palatalization.firstCode, Tape.segment, Tape.tape}
+use Rattle.spec.specs.{Codes.markOf, Voicing.voices, Vowels.endsHard, Palatalization.firstCode, Tape.segment, Tape.sounds}
 use Rattle.laws.proofs.Stretch.{meet, first-meet, last-meet, read-join, segment-join, segment-length, segment-quiet, segment-firm}
 use Rattle.laws.proofs.{Word.isHigh, Word.isIOrE, Word.lastCodeFrom, Beside.segment-starts, Cuts.break-within}
 pub use Rattle.laws.proofs.Classes.{or-false}
@@ -99,8 +99,8 @@ module _ (m : List ℕ) where
     onward-cut = rw (read-rest, segment-join, word-before a c begins le (break-within m c break))
 
     -- a part whose first and last codes nothing changes has its own tape in the whole
-    pub part-own : changedAfter m a ≡ false → changedBefore m c ≡ false → tape (part m a c) ≡ segment (hardAt m a) (voicedAt m c) (read (part m a c))
-    unfolding tape changedAfter changedBefore
+    pub part-own : changedAfter m a ≡ false → changedBefore m c ≡ false → sounds (part m a c) ≡ segment (hardAt m a) (voicedAt m c) (read (part m a c))
+    unfolding sounds changedAfter changedBefore
     part-own q o =
         let p = read (part m a c) in
         let left : (hardAt m a && beginsWithIOrE (firstWord p)) ≡ false = rw first-word at q in
@@ -109,28 +109,28 @@ module _ (m : List ℕ) where
 
   module _ (c : ℕ) (break : isBreak (getD m c 0) ≡ true) where
     -- the same from the message's start on
-    pub tape-cut : tape m ≡ segment false (voicedAt m c) (read (take c m)) ++ (markOf (getD m c 0) ∷ onward m (suc c))
-    unfolding hardAt onward tape
+    pub tape-cut : sounds m ≡ segment false (voicedAt m c) (read (take c m)) ++ (markOf (getD m c 0) ∷ onward m (suc c))
+    unfolding hardAt onward sounds
     tape-cut = rw (part-first c) at (onward-cut 0 c tt (omega arith) break)
 
     -- the mark's index counts the codes before it
     pub mark-index : length (segment false (voicedAt m c) (read (take c m))) ≡ markIndex m c
-    unfolding markIndex tape
+    unfolding markIndex sounds
     mark-index = segment-length false false (voicedAt m c) false (read (take c m))
 
     -- where the break's mark stands
-    pub mark-there : getD (tape m) (markIndex m c) 0 ≡ markOf (getD m c 0)
+    pub mark-there : getD (sounds m) (markIndex m c) 0 ≡ markOf (getD m c 0)
     mark-there = rw tape-cut (getD-at (segment false (voicedAt m c) (read (take c m))) _ _ 0 (markIndex m c) mark-index)
 
     -- the sounds after the cut in the whole message's tape
-    pub codes-after : drop (suc (markIndex m c)) (tape m) ≡ onward m (suc c)
+    pub codes-after : drop (suc (markIndex m c)) (sounds m) ≡ onward m (suc c)
     codes-after =
         let s = segment false (voicedAt m c) (read (take c m)) in
         let e : suc (markIndex m c) ≡ length s + 1 = omega (arith, mark-index) in
         rw (tape-cut, e, drop-append-add s)
 
     -- and the first of them
-    pub code-after : getD (tape m) (suc (markIndex m c)) 0 ≡ firstCode (onward m (suc c))
+    pub code-after : getD (sounds m) (suc (markIndex m c)) 0 ≡ firstCode (onward m (suc c))
     code-after = rw tape-cut (after-mark (segment false (voicedAt m c) (read (take c m))) (markOf (getD m c 0)) (onward m (suc c)) (markIndex m c) mark-index)
 
     -- a cut is live just when one of its two neighbours is changed from over the cut
@@ -144,8 +144,8 @@ module _ (m : List ℕ) where
   onward-open a = refl
 
   -- from the start on it is the whole tape
-  pub onward-first : onward m 0 ≡ tape m
-  unfolding onward hardAt tape
+  pub onward-first : onward m 0 ≡ sounds m
+  unfolding onward hardAt sounds
   onward-first = refl
 
   -- and nothing changes what stands there
@@ -154,13 +154,13 @@ module _ (m : List ℕ) where
   first-own = refl
 
   -- where nothing changes what stands at place a, the bytes from there on may be transcribed alone
-  pub onward-alone : (a : ℕ) → changedAfter m a ≡ false → tape (drop a m) ≡ onward m a
-  unfolding tape changedAfter
+  pub onward-alone : (a : ℕ) → changedAfter m a ≡ false → sounds (drop a m) ≡ onward m a
+  unfolding sounds changedAfter
   onward-alone a q = rw (onward-open a) (segment-firm (hardAt m a) false (read (drop a m)) q)
 
   -- The two tapes from place a on have equal length.
-  pub joined-length : (a : ℕ) (cuts : List ℕ) → Begins m a → RisingFrom m a cuts → length (joinedFrom m a cuts) ≡ length (onward m a)
-  unfolding joinedFrom tape
+  pub joined-length : (a : ℕ) (cuts : List ℕ) → Begins m a → RisingFrom m a cuts → length (joinedFrom sounds m a cuts) ≡ length (onward m a)
+  unfolding joinedFrom sounds
   joined-length a [] b r = rw (onward-open a) (segment-length false (hardAt m a) false false (read (drop a m)))
   joined-length a (c ∷ cuts) b r =
       rw (onward-cut a c b (r .0) (r .1))
@@ -169,7 +169,7 @@ module _ (m : List ℕ) where
 
   -- Without a live cut they are equal, if nothing changes what stands at place a.
   pub joined-dead : (a : ℕ) (cuts : List ℕ) → Begins m a → RisingFrom m a cuts → changedAfter m a ≡ false → NoneLive m cuts
-      → joinedFrom m a cuts ≡ onward m a
+      → joinedFrom sounds m a cuts ≡ onward m a
   unfolding joinedFrom
   joined-dead a [] b r q n = onward-alone a q
   joined-dead a (c ∷ cuts) b r q n =
@@ -177,7 +177,7 @@ module _ (m : List ℕ) where
       rw (onward-cut a c b (r .0) (r .1), part-own a c b (r .0) (r .1) q (o .0), joined-dead (suc c) cuts (r .1) (r .2) (o .1) (λ d i. n d (inr i)))
 
   -- The first code of the parts' tape tells no hard boundary at place a, whatever the cuts.
-  pub joined-low : (a : ℕ) (cuts : List ℕ) → Begins m a → RisingFrom m a cuts → (isHigh (firstCode (joinedFrom m a cuts)) && isIOrE (firstByte (firstWord (read (drop a m))))) ≡ false
-  unfolding joinedFrom tape
+  pub joined-low : (a : ℕ) (cuts : List ℕ) → Begins m a → RisingFrom m a cuts → (isHigh (firstCode (joinedFrom sounds m a cuts)) && isIOrE (firstByte (firstWord (read (drop a m))))) ≡ false
+  unfolding joinedFrom sounds
   joined-low a [] b r = rw append-nil at (segment-starts false false (read (drop a m)) [])
   joined-low a (c ∷ cuts) b r = rw (first-word a c b (r .0) (r .1)) (segment-starts false false (read (part m a c)) _)

@@ -1,7 +1,7 @@
 -- Two messages with a break between them: a pause splits the tape, any break the names, since nothing crosses them; and accepted messages with a break between, short enough, are an accepted one.
 use Rattle.laws.proofs.Kit.{ℕ, _<_, _≤_, _≡_, refl, sym, _∙_, true, false, List, [], _∷_, _++_, append-assoc, arith, length}
 use Rattle.spec.specs.Letters.{Message, last, more, read, isBreak}
-use Rattle.spec.specs.Tape.{tape, wordNames, namesOf, names}
+use Rattle.spec.specs.Tape.{sounds, wordNames, namesOf, names}
 use Rattle.spec.specs.Refusals.{letterByte, first, none, row3, row4, row5, row6, row7, row8, row9, row10, rows, fitsIn, beforeAt, NoneFits}
 use Rattle.spec.specs.Alphabet.{pause}
 use Rattle.spec.proofs.Computed.{everything}
@@ -11,7 +11,7 @@ use Rattle.laws.proofs.PartsAccepted.{Opens, rows-over, rows-after, cle
 use Rattle.laws.proofs.Stretch.{meet, read-join, segment-join}
 
 -- A pause splits a tape.
-pub tape-pause : (a b : List ℕ) → tape (a ++ (pause ∷ b)) ≡ tape a ++ (63 ∷ tape b)
+pub tape-pause : (a b : List ℕ) → sounds (a ++ (pause ∷ b)) ≡ sounds a ++ (63 ∷ sounds b)
 unfolding everything
 tape-pause a b = rw (read-join a b pause refl, segment-join false false (read a) pause (read b))
 

@@ -2,7 +2,7 @@
 use Rattle.laws.proofs.Kit.{ℕ, suc, _+_, _*_, _≤_, _≡_, refl, ap, Bool, true, false, _&&_, _||_, List, [], _∷_, _++_, arith, length, length-append}
 use Rattle.spec.specs.Letters.{Letter, Message, last, more, read, putLetter, isGap, isBreak, isMark, isSign, isVowel, isConsonant, plainVowels, softeningVowels}
 use Rattle.spec.specs.Syllables.{Facts, factsOf, incomplete, namesFrom}
-use Rattle.spec.specs.Tape.{wordTape, segment, tape, wordNames, namesOf, names}
+use Rattle.spec.specs.Tape.{wordTape, segment, sounds, wordNames, namesOf, names}
 use Rattle.spec.specs.{Elision.elides, Elision.elideFrom, Elision.elide, Vowels.phonesFrom, Vowels.endsHard, Voicing.voices}
 use Rattle.spec.proofs.Computed.{everything}
 use Rattle.laws.proofs.{Classes.cond-both, Classes.either, Classes.among-same, Word.phones-cases, Word.sounds-length}
@@ -55,8 +55,8 @@ segment-size hard next (more w x r) =
     simp length-append (omega (arith, word-size hard (isGap x && voices (segment k next r)) w, segment-size k next r))
 
 -- So a tape is at most twice as long as its message.
-pub tape-size : (m : List ℕ) → length (tape m) ≤ 2 * length m
-unfolding tape
+pub tape-size : (m : List ℕ) → length (sounds m) ≤ 2 * length m
+unfolding sounds
 tape-size m = omega (arith, segment-size false false (read m), read-size m)
 
 -- a word that ends in a vowel has no incomplete syllable

@@ -3,7 +3,7 @@ use Rattle.laws.proofs.Kit.{ℕ, suc, _<_, _≡_, refl, sym, ap, Bool, true, fa
 use Rattle.spec.specs.Letters.{Letter, Message, last, more, putLetter, read, firstWord, isMark, isBreak, isGap, isVowel}
 use Rattle.spec.specs.Syllables.{Facts, factsOf, hasMark, namesFrom, incomplete, nameOf, syllableOf}
 use Rattle.spec.specs.Voicing.{voiced, voiceless, voices, toneOf}
-use Rattle.spec.specs.Tape.{segment, tape, namesOf, names, wordNames}
+use Rattle.spec.specs.Tape.{segment, sounds, tape, namesOf, names, wordNames}
 use Rattle.spec.specs.{Elision.elide, Codes.markOf, Codes.isVoicing, Vowels.endsHardFrom, Vowels.endsHard, Palatalization.firstCode, Refusals.vowelByte}
 use Rattle.message.proofs.Left.{mark-within, word-put, afterLetter, begins-at, mark-first, read-letter, read-mark, read-break, read-end, left-letter, left-mark, left-break, unmarked-after}
 use Rattle.message.proofs.{Bytes.vowel-break, Bytes.vowel-mark, Fused.word-fused, Elided.names-elide}
@@ -140,7 +140,7 @@ module _ (m : List ℕ) (steady : Steady m) where
 
   -- the whole tape is the tape at the first place
   pub tape-start : tapeAt m 0 ≡ tape m
-  unfolding tapeAt tape leftAt markBefore wordAt
+  unfolding tapeAt sounds leftAt markBefore wordAt
   tape-start = rw (marked-first 0 refl (steady .first)) (sym (start-tape false (read m)))
 
   -- nothing is left at the end

@@ -12,7 +12,7 @@ use Rattle.spec.specs.Letters.{Letter, read, firstWord, lastWord, isGap,
 use Rattle.spec.specs.Codes.{markOf, isMarkCode}
 use Rattle.spec.specs.Voicing.{voices}
 use Rattle.spec.specs.Vowels.{endsHard}
-use Rattle.spec.specs.Tape.{tape}
+use Rattle.spec.specs.Tape.{sounds, tape}
 
 -- a strictly rising list of places of breaks of the message, none below the least
 abbrev pub RisingFrom : List ℕ → ℕ → List ℕ → Type 0
@@ -36,14 +36,14 @@ breaksFrom k (b ∷ m) = cond (isBreak b) (k ∷ breaksFrom (suc k) m) (breaksFr
 unfoldable pub breaks : List ℕ → List ℕ
 breaks m = breaksFrom 0 m
 
--- the tapes of the parts from place a on, as if nothing stood around each, and between two of them the mark of the cut that parts them
-unfoldable pub joinedFrom : List ℕ → ℕ → List ℕ → List ℕ
-joinedFrom m a [] = tape (drop a m)
-joinedFrom m a (c ∷ cuts) = tape (take (c - a) (drop a m)) ++ (markOf (getD m c 0) ∷ joinedFrom m (suc c) cuts)
+-- the parts from place a on, each read as if nothing stood around it, and between two of them the mark of the cut that parts them
+unfoldable pub joinedFrom : (List ℕ → List ℕ) → List ℕ → ℕ → List ℕ → List ℕ
+joinedFrom reading m a [] = reading (drop a m)
+joinedFrom reading m a (c ∷ cuts) = reading (take (c - a) (drop a m)) ++ (markOf (getD m c 0) ∷ joinedFrom reading m (suc c) cuts)
 
--- the second tape
+-- the second tape: the parts' tapes
 unfoldable pub joined : List ℕ → List ℕ → List ℕ
-joined m cuts = joinedFrom m 0 cuts
+joined m cuts = joinedFrom tape m 0 cuts
 
 -- a claim on each of these parts
 abbrev pub EachPartFrom : (List ℕ → Type 0) → List ℕ → ℕ → List ℕ → Type 0
@@ -55,7 +55,7 @@ EachPart P m cuts = EachPartFrom P m 0 cuts
 
 -- where the mark of a cut at place c stands on either tape: after the codes of what stands before the cut
 unfoldable pub markIndex : List ℕ → ℕ → ℕ
-markIndex m c = length (tape (take c m))
+markIndex m c = length (sounds (take c m))
 
 -- the marks of gaps and pauses on a tape, in order
 unfoldable pub marksOf : List ℕ → List ℕ
@@ -102,7 +102,7 @@ beginsWithIOrE (l ∷ w) = eqb (l .byte) «и» || (eqb (l .byte) «э» && not 
 
 -- (a): an obstruent before the cut, and sounds that voice it just after its mark in the whole message's tape
 unfoldable pub liveByVoice : List ℕ → ℕ → Bool
-liveByVoice m c = endsInObstruent (wordBefore m c) && voices (drop (suc (markIndex m c)) (tape m))
+liveByVoice m c = endsInObstruent (wordBefore m c) && voices (drop (suc (markIndex m c)) (sounds m))
 
 -- (b): и or unmarked э after the cut, and a hard boundary there
 unfoldable pub liveByHardness : List ℕ → ℕ → Bool

@@ -23,9 +23,13 @@ segment hard next (more w x r) =
     let rest = segment (isGap x && endsHard w) next r in
     wordTape hard (isGap x && voices rest) w ++ (markOf x ∷ rest)
 
--- the tape of a message, around which nothing stands
-unfoldable pub tape : List ℕ → List ℕ
-tape m = segment false false (read m)
+-- the sounds and marks that the passes make of a message, around which nothing stands
+unfoldable pub sounds : List ℕ → List ℕ
+sounds m = segment false false (read m)
+
+-- the tape of a message: these, each as its code
+abbrev pub tape : List ℕ → List ℕ
+tape m = sounds m
 
 -- the names of a word, through passes 1 and 2
 unfoldable pub wordNames : List Letter → List ℕ
