@@ -3,7 +3,7 @@
 use Rattle.laws.proofs.Kit.{ℕ, suc, _≡_, refl, sym, _∙_, Bool, true, false, cond, not, _&&_, and-true, and-false, and-eq-true-iff, true≢false, List, [], _∷_, _++_, append-assoc, not-true}
 use Rattle.spec.specs.Letters.{Letter, Message, last, more, firstByte, firstWord, lastWord, obstruents, isObstruent}
 use Rattle.spec.specs.Voicing.{voiced, voiceless, voicedCode, voicelessCode, toneOf, toned, voiceOne, voice}
-use Rattle.spec.specs.{Codes.markOf, Codes.isSound, Vowels.Phone, Palatalization.isSoft, Palatalization.firstCode, Palatalization.palatalize, Tape.wordTape, Tape.segment, Joints.endsInObstruent, Joints.beginsWithIOrE}
+use Rattle.spec.specs.{Codes.markOf, Codes.isSound, Phones.Phone, Palatalization.isSoft, Palatalization.firstCode, Palatalization.palatalize, Tape.wordTape, Tape.segment, Joints.endsInObstruent, Joints.beginsWithIOrE}
 use Rattle.spec.proofs.Computed.{everything}
 use Rattle.laws.proofs.Codes.{Spells, isVoiced, both, fine, Fine, word-fine, soft-both}
 use Rattle.laws.proofs.Word.{lastCodeFrom, endsToned, word-toned, word-starts}

@@ -4,7 +4,8 @@ use Rattle.laws.proofs.Kit.{ℕ, zero, suc, _+_, _-_, _<_, _≡_, refl,
 use Rattle.spec.specs.Letters.{Letter, Message, last, more, read, putLetter, hardOnly, paired, softOnly, plainVowels, softeningVowels, obstruents, between, isGap, isBreak, isMark, isPaired, isConsonant, isSign, isVowel, isObstruent}
 use Rattle.spec.specs.Codes.{Б, З', J, Ц1, Ч1, markOf, isMarkCode, isSound, isCode}
 use Rattle.spec.specs.Syllables.{Facts, factsOf, syllableOf, nameIn, nameOf, isName, incomplete, namesFrom}
-use Rattle.spec.specs.Vowels.{Phone, vowelSound, writtenCode, phonesFrom, endsHard}
+use Rattle.spec.specs.Vowels.{vowelSound, endsHard}
+use Rattle.spec.specs.Phones.{Phone, writtenCode, phonesFrom}
 use Rattle.spec.specs.Voicing.{Tone, voiced, voiceless, asWritten, voicedCode, voicelessCode, voices, toneOf, toned, codesOf, voiceOne, voice}
 use Rattle.spec.specs.Tape.{wordTape, segment, sounds, wordNames, namesOf, names}
 use Rattle.spec.specs.Refusals.{consonantByte, signByte, vowelByte, letterByte, row3, rows, fitsIn, NoneFits}

@@ -2,7 +2,7 @@
 use Rattle.laws.proofs.Kit.{ℕ, _<_, _≡_, sym, _∙_, Bool, false, and-true, true≢false, List, [], _∷_, arith, length, length-append}
 use Rattle.spec.specs.Letters.{Letter, Message, last, more, read, putLetter, isSign}
 use Rattle.spec.specs.Refusals.{none, first, signByte, row4, row5, row6, rows, fitsIn, beforeAt}
-use Rattle.spec.specs.{Elision.elideFrom, Elision.elide, Syllables.factsOf, Vowels.phonesFrom, Tape.wordTape, Tape.segment, Tape.sounds}
+use Rattle.spec.specs.{Elision.elideFrom, Elision.elide, Syllables.factsOf, Phones.phonesFrom, Tape.wordTape, Tape.segment, Tape.sounds}
 use Rattle.laws.proofs.{Accepted.Passes, Word.first-kept, Word.phones-cases, Word.sounds-length}
 
 -- a word that begins with a letter that is no sign; its first letter is not elided

@@ -3,7 +3,7 @@ use Rattle.laws.proofs.Kit.{ℕ, suc, _+_, _*_, _≤_, _≡_, refl, ap,
 use Rattle.spec.specs.Letters.{Letter, Message, last, more, read, putLetter, isGap, isBreak, isMark, isSign, isVowel, isConsonant, plainVowels, softeningVowels}
 use Rattle.spec.specs.Syllables.{Facts, factsOf, incomplete, namesFrom}
 use Rattle.spec.specs.Tape.{wordTape, segment, sounds, wordNames, namesOf, names}
-use Rattle.spec.specs.{Elision.elides, Elision.elideFrom, Elision.elide, Vowels.phonesFrom, Vowels.endsHard, Voicing.voices}
+use Rattle.spec.specs.{Elision.elides, Elision.elideFrom, Elision.elide, Phones.phonesFrom, Vowels.endsHard, Voicing.voices}
 use Rattle.spec.proofs.Computed.{everything}
 use Rattle.laws.proofs.{Classes.cond-both, Classes.either, Classes.among-same, Word.phones-cases, Word.sounds-length}
 

@@ -5,7 +5,8 @@ use Rattle.spec.specs.Alphabet.{«и», «н», «с», «ц», «ч», «ш»,
 use Rattle.spec.specs.Letters.{Letter, firstByte, signs, isSign, isVowel, isObstruent}
 use Rattle.spec.specs.Elision.{elidesT, elidesD, elides, elideFrom, elide, elidesAmong}
 use Rattle.spec.specs.Syllables.{Facts, factsOf, coverAfter, hasMark, nextStressed, levelOf, syllableOf}
-use Rattle.spec.specs.Vowels.{Phone, byStress, byLevel, glides, vowelSound, softens, writtenCode, vowelPhones, phonesOf, phonesFrom}
+use Rattle.spec.specs.Vowels.{byStress, byLevel, glides, vowelSound}
+use Rattle.spec.specs.Phones.{Phone, softens, writtenCode, vowelPhones, phonesOf, phonesFrom}
 use Rattle.spec.specs.{Tables.among, Tables.entry, Codes.Ы*, Codes.Ы1, Codes.J, Voicing.toneOf, Voicing.voiceOne, Voicing.voice, Palatalization.firstCode, Palatalization.palatalize, Tape.wordTape, Joints.endsInObstruent, Joints.endsInObstruentFrom, Joints.beginsWithIOrE, declared.Cover.Cover, declared.Level.the-variants.Stressed, declared.Level.the-variants.First, declared.Level.the-variants.Second}
 use Rattle.spec.proofs.Computed.{everything}
 use Rattle.laws.proofs.Classes.{cond-app, cond-both, either, or-false, among-same}

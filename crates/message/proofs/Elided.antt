@@ -4,7 +4,7 @@ use Rattle.spec.specs.Alphabet.{«д», «н», «с», «т», «ц», «ч»,
 use Rattle.spec.specs.Letters.{Letter, firstByte, isSign, isVowel}
 use Rattle.spec.specs.Elision.{elidesT, elidesD, elides, elideFrom, elidesAmong}
 use Rattle.spec.specs.Syllables.{Facts, levelOf, nextStressed, syllableOf, namesFrom}
-use Rattle.spec.specs.{Tables.among, Vowels.softens, Vowels.phonesOf, Vowels.phonesFrom}
+use Rattle.spec.specs.{Tables.among, Phones.softens, Phones.phonesOf, Phones.phonesFrom}
 use Rattle.laws.proofs.Classes.{among-same, among-none}
 use Rattle.message.proofs.Computed.{everything}
 

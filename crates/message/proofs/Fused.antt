@@ -3,7 +3,8 @@
 -- the letters around it go by (Elided.antt), and palatalization does not change whether a sound voices or devoices the one before it.
 use Rattle.laws.proofs.Kit.{ℕ, _≡_, refl, Bool, true, false, cond, List, [], _∷_, _++_}
 use Rattle.spec.specs.Letters.{Letter, paired, firstByte, isPaired, isSign, isVowel, isObstruent}
-use Rattle.spec.specs.Vowels.{Phone, glides, writtenCode, softens, vowelPhones, phonesOf, phonesFrom}
+use Rattle.spec.specs.Vowels.{glides}
+use Rattle.spec.specs.Phones.{Phone, writtenCode, softens, vowelPhones, phonesOf, phonesFrom}
 use Rattle.spec.specs.Voicing.{Tone, voiced, voiceless, asWritten, voices, toneOf, toned, codesOf, voiceOne, voice}
 use Rattle.spec.specs.{Codes.palatalized, Elision.elideFrom, Elision.elide, Syllables.Facts, Syllables.factsOf, Syllables.syllableOf, Palatalization.isSoft, Palatalization.firstCode, Palatalization.palatalize, Tape.wordTape}
 use Rattle.message.specs.Fused.{toneBefore, vowelCodes, consonantCode, letterCodes, fusedFrom}

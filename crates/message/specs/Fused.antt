@@ -7,7 +7,8 @@ use Rattle.spec.specs.Letters.{Letter, firstByte, isSign, isVowel, isObstruent}
 use Rattle.spec.specs.Codes.{J, palatalized, isVoicing, isDevoicing}
 use Rattle.spec.specs.Elision.{elides}
 use Rattle.spec.specs.Syllables.{Facts, syllableOf}
-use Rattle.spec.specs.Vowels.{vowelSound, glides, writtenCode, softens}
+use Rattle.spec.specs.Vowels.{vowelSound, glides}
+use Rattle.spec.specs.Phones.{writtenCode, softens}
 use Rattle.spec.specs.Voicing.{Tone, voiced, voiceless, asWritten, toneOf, toned}
 use Rattle.spec.specs.Palatalization.{isSoft, firstCode}
 use Rattle.spec.specs.declared.Syllable.{Syllable}

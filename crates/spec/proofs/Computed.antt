@@ -5,7 +5,8 @@ use Rattle.spec.specs.Letters.{isGap, isBreak, isMark, small, isHardOnly
 use Rattle.spec.specs.Codes.{markOf, isVoicing, isDevoicing}
 use Rattle.spec.specs.Elision.{secondByte, elidesT, elidesD, elidesAmong, elides, elideFrom, elide}
 use Rattle.spec.specs.Syllables.{coverAfter, hasMark, nextStressed, levelOf, syllableOf, nameIn, nameOf, incomplete, namesFrom}
-use Rattle.spec.specs.Vowels.{hardEnd, endsHardFrom, endsHard, byStress, byLevel, initial, rowА, rowО, rowУ, rowЫ, rowЭ, rowЕ, rowЁ, rowЮ, rowЯ, rowИ, vowelSound, bare, glides, writtenCode, softens, vowelPhones, phonesOf, phonesFrom}
+use Rattle.spec.specs.Vowels.{hardEnd, endsHardFrom, endsHard, byStress, byLevel, initial, rowА, rowО, rowУ, rowЫ, rowЭ, rowЕ, rowЁ, rowЮ, rowЯ, rowИ, vowelSound, bare, glides}
+use Rattle.spec.specs.Phones.{writtenCode, softens, vowelPhones, phonesOf, phonesFrom}
 use Rattle.spec.specs.Voicing.{voicedCode, voicelessCode, voices, toneOf, toned, voiceOne, voice}
 use Rattle.spec.specs.Palatalization.{dentalBefore, nasalBefore, ownBefore, isSoft, firstCode, palatalize}
 use Rattle.spec.specs.Tape.{wordTape, segment, sounds, wordNames, namesOf, names}

@@ -7,7 +7,8 @@ use mathlib.Core.List.{List, [], _∷_, _++_, flatten, map}
 use lib.ListN.{length, replicate}
 use Rattle.spec.specs.Alphabet.{gap, pause, mark, «й», «а», «б», «в», «г», «д», «е», «ж», «з», «и», «к», «л», «м», «н», «о», «п», «р», «с», «т», «у», «ш», «ъ», «ы», «ь»}
 use Rattle.spec.specs.Codes.{J, И*, И1, А*, А1, А2, Б, Б', В, Г, Г', Д, Ж, З, З', К, Л, Л', М, М', Н, Н', О*, П, Р, С, С', Т, Т', У*, У1, Ш, Ы*, Ы1, Э*, Э2}
-use Rattle.spec.specs.Vowels.{rowО, vowelPhones}
+use Rattle.spec.specs.Vowels.{rowО}
+use Rattle.spec.specs.Phones.{vowelPhones}
 use Rattle.spec.specs.Voicing.{codesOf}
 use Rattle.spec.specs.Tape.{tape}
 use Rattle.spec.specs.Joints.{joined}

@@ -5,6 +5,7 @@ pub mod Codes
 pub mod Elision
 pub mod Syllables
 pub mod Vowels
+pub mod Phones
 pub mod Voicing
 pub mod Palatalization
 pub mod Tape

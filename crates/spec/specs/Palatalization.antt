@@ -8,7 +8,7 @@ use Rattle.spec.specs.Alphabet.{«д», «з», «н», «с», «т»}
 use Rattle.spec.specs.Tables.{among}
 use Rattle.spec.specs.Letters.{isPaired, isObstruent}
 use Rattle.spec.specs.Codes.{Д', Ж', З', Н', С', Т', Ч, Ч1, Щ, palatalized}
-use Rattle.spec.specs.Vowels.{Phone, writtenCode}
+use Rattle.spec.specs.Phones.{Phone, writtenCode}
 use Rattle.spec.specs.Voicing.{voicedCode, voicelessCode}
 
 -- т д с з н

@@ -7,7 +7,8 @@ use Rattle.spec.specs.Letters.{Letter, Message, last, more, read, isGap}
 use Rattle.spec.specs.Codes.{markOf}
 use Rattle.spec.specs.Elision.{elide}
 use Rattle.spec.specs.Syllables.{factsOf, namesFrom}
-use Rattle.spec.specs.Vowels.{phonesFrom, endsHard}
+use Rattle.spec.specs.Vowels.{endsHard}
+use Rattle.spec.specs.Phones.{phonesFrom}
 use Rattle.spec.specs.Voicing.{voices, voice}
 use Rattle.spec.specs.Palatalization.{palatalize}
 

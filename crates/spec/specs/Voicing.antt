@@ -7,7 +7,7 @@ use Rattle.spec.specs.Alphabet.{«б», «в», «г», «д», «ж», 
 use Rattle.spec.specs.Tables.{_gives_, entry}
 use Rattle.spec.specs.Letters.{isObstruent}
 use Rattle.spec.specs.Codes.{Б, В, Г, Х1, Д, Ж, Ж', З, К, П, С, Т, Ф, Х, Ц, Ц1, Ч, Ч1, Ш, Щ, isVoicing, isDevoicing}
-use Rattle.spec.specs.Vowels.{Phone}
+use Rattle.spec.specs.Phones.{Phone}
 
 -- the pairs, voiced: х ц ч щ give Х1 Ц1 Ч1 Ж'
 unfoldable pub voicedCode : ℕ → ℕ

@@ -1,14 +1,14 @@
--- Paper 01, pass 3, with paper 02, request 4: the sounds of vowels. The words here have been through pass 1.
+-- Paper 01, pass 3, with paper 02, request 4: the hard boundary, the sounds of vowels, and which have a glide. The words here have
+-- been through pass 1.
 -- Assumes nothing: these are definitions.
 use Prim.Native.Nat.{ℕ}
 use mathlib.Core.Bool.{Bool, true, false, cond, _&&_, _||_}
-use mathlib.Core.List.{List, [], _∷_, _++_}
+use mathlib.Core.List.{List, [], _∷_}
 use lib.Dec.{eqb}
-use Rattle.spec.specs.Alphabet.{«а», «б», «в», «г», «д», «е», «ж», «з», «и», «й», «к», «л», «м», «н», «о», «п», «р», «с», «т», «у», «ф», «х», «ц», «ч», «ш», «щ», «ы», «ь», «э», «ю», «я», «ё»}
+use Rattle.spec.specs.Alphabet.{«а», «е», «и», «о», «у», «ы», «ь», «э», «ю», «я», «ё»}
 use Rattle.spec.specs.Tables.{among, _gives_, entry}
-use Rattle.spec.specs.Letters.{Letter, firstByte, isHardOnly, isPaired, isSoftOnly, isSign, isVowel, isSofteningVowel}
-use Rattle.spec.specs.Codes.{А*, О*, Э*, Ы*, И*, У*, А1, Э1, Ы1, И1, У1, А2, Э2, Б, В, Г, Д, Ж, J, З, К, Л, М, Н, П, Р, С, Т, Ф, Х, Ц, Ч, Ш, Щ}
-use Rattle.spec.specs.Syllables.{Facts, syllableOf}
+use Rattle.spec.specs.Letters.{Letter, isHardOnly, isPaired, isSoftOnly, isSign}
+use Rattle.spec.specs.Codes.{А*, О*, Э*, Ы*, И*, У*, А1, Э1, Ы1, И1, У1, А2, Э2}
 use Rattle.spec.specs.declared.Cover.{Cover}
 use Rattle.spec.specs.declared.Cover.the-variants.{Bare, Covered}
 use Rattle.spec.specs.declared.Level.{Level}
@@ -108,39 +108,3 @@ glides p cover b =
     (among iotated b && (bare cover || isSign p))
     || ((eqb b «и» && isSign p)
     || (eqb b «о» && eqb p «ь»))
-
--- What the passes know of a sound: its letter, whether the next letter palatalizes it (used in pass 5), and its code so far.
-pub record Phone : Type 0 where
-  pub letter : ℕ
-  pub softened : Bool
-  pub code : ℕ
-
--- a consonant's sound as written
-unfoldable pub writtenCode : ℕ → ℕ
-writtenCode b =
-    entry
-    ((«б» gives Б) ∷ («в» gives В) ∷ («г» gives Г) ∷ («д» gives Д) ∷ («ж» gives Ж) ∷ («з» gives З) ∷ («й» gives J)
-    ∷ («к» gives К) ∷ («л» gives Л) ∷ («м» gives М) ∷ («н» gives Н) ∷ («п» gives П) ∷ («р» gives Р) ∷ («с» gives С)
-    ∷ («т» gives Т) ∷ («ф» gives Ф) ∷ («х» gives Х) ∷ («ц» gives Ц) ∷ («ч» gives Ч) ∷ («ш» gives Ш) ∷ («щ» gives Щ) ∷ [])
-    b
-
--- pass 5, its first sentence: the next letter is ь or a softening vowel
-unfoldable pub softens : ℕ → Bool
-softens b = eqb b «ь» || isSofteningVowel b
-
-unfoldable pub vowelPhones : Bool → ℕ → ℕ → Syllable → List Phone
-vowelPhones hard p b s =
-    let v : Phone = record { letter = b; softened = false; code = vowelSound hard p s b } in
-    cond (glides p (s .cover) b) (record { letter = b; softened = false; code = J } ∷ v ∷ []) (v ∷ [])
-
--- pass 4, its first sentence: a sign makes no sound, each other letter one, with J two
-unfoldable pub phonesOf : Bool → Facts → ℕ → Letter → List Letter → List Phone
-phonesOf hard facts p l w =
-    cond (isSign (l .byte)) []
-    (cond (isVowel (l .byte)) (vowelPhones hard p (l .byte) (syllableOf facts p l w))
-    (record { letter = l .byte; softened = softens (firstByte w); code = writtenCode (l .byte) } ∷ []))
-
--- Pass 3, over w, the rest of a word whose letter before is p. Only a word's first letter can have a hard boundary before it.
-unfoldable pub phonesFrom : Bool → Facts → ℕ → List Letter → List Phone
-phonesFrom hard facts p [] = []
-phonesFrom hard facts p (l ∷ w) = phonesOf hard facts p l w ++ phonesFrom false facts (l .byte) w

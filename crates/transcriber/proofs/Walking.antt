@@ -2,7 +2,7 @@
 use Rattle.laws.proofs.Kit.{ℕ, suc, _+_, _%_, _<_, _≤_, arith, _≡_, refl, sym, ap, _∙_, Bool, true, false, cond, _&&_, not, true≢false, List, [], _∷_, _++_, map, eqb, length, getD, le-leb, lt-leb, ne-eqb}
 use Rattle.spec.specs.Letters.{small, firstByte, isBreak, isGap, isMark}
 use Rattle.spec.specs.Codes.{J, markOf, isSound, isVoicing}
-use Rattle.spec.specs.{Vowels.softens, Voicing.Tone, Voicing.voiced, Voicing.voiceless, Refusals.vowelByte, Refusals.signByte, Refusals.consonantByte, declared.Level.Level, declared.Syllable.Syllable}
+use Rattle.spec.specs.{Phones.softens, Voicing.Tone, Voicing.voiced, Voicing.voiceless, Refusals.vowelByte, Refusals.signByte, Refusals.consonantByte, declared.Level.Level, declared.Syllable.Syllable}
 use Rattle.message.specs.Classes.{classCount, classes, classOf, isBreakClass, isSignClass, isConsonantClass, isVowelClass, isSofteningClass, elidedAt}
 use Rattle.message.specs.Fused.{toneBefore, vowelCodes, consonantCode, letterCodes}
 use Rattle.message.specs.Places.{Steady, leftAt, letterOf, tapeAt, wordAt, toneAt, soundAt, codesAt, toneAfter, soundAfter}

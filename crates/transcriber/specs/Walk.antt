@@ -8,7 +8,8 @@ use lib.ListN.{length, getD}
 use Rattle.spec.specs.Letters.{small, firstByte, isBreak, isMark}
 use Rattle.spec.specs.Codes.{J, markOf}
 use Rattle.spec.specs.Syllables.{incomplete, nameOf, syllableOf}
-use Rattle.spec.specs.Vowels.{vowelSound, glides, softens}
+use Rattle.spec.specs.Vowels.{vowelSound, glides}
+use Rattle.spec.specs.Phones.{softens}
 use Rattle.spec.specs.Tape.{tape, names}
 use Rattle.spec.specs.Refusals.{vowelByte}
 use Rattle.laws.proofs.Putting.{Put}
