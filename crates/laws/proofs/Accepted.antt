@@ -1,9 +1,11 @@
 -- The message check gives a number exactly where its condition holds and none earlier does, and accepts exactly what no number fits: the scan goes on over a byte only where no row fits, and at a byte the first row of the list that fits is given.
 use Rattle.laws.proofs.Kit.{ℕ, zero, suc, _<_, _≤_, _≡_, refl, sym, ap, _∙_, _⊎_, inl, inr, ⊎-elim, true, false, cond, _&&_, and-eq-true-iff, and-false, or-true, true≢false, false≢true, List, [], _∷_, arith, eqb, leb, length, getD, drop, length-drop, drop-cons, eqb-true, eqb-false, eq-eqb, ne-eqb, leb-true, leb-false, le-leb, lt-leb}
 use Rattle.spec.specs.Refusals.{Row, _when_, rows, firstFit, faultAt, refusal, scan, checkOf, fitsIn, beforeAt, fits, indexIn, rank, NoneFits, Earlier, Given}
+use Rattle.spec.specs.Counting.{codeCount, nameCount}
 use Rattle.spec.specs.{Tape.tape, Tape.names, Tables.among, declared.Counts.Counts, declared.Checked.Checked, declared.Checked.the-variants.Accepted, declared.Checked.the-variants.Refused}
 use Rattle.spec.proofs.Computed.{everything}
 use Rattle.laws.proofs.Classes.{cond-app, cond-same, either, refuted, below-or, among-same, among-none}
+use Rattle.laws.proofs.Counting.{tape-count, names-count}
 
 -- the numbers of a list of rows
 unfoldable pub numbers : List Row → List ℕ
@@ -61,7 +63,7 @@ fault-clear before b after e k = refuted _ (λ f.
 
 -- what an accepted message's check answers
 abbrev pub countsOf : List ℕ → Counts
-countsOf m = record { codes = length (tape m); names = length (names m) }
+countsOf m = record { codes = codeCount m; names = nameCount m }
 
 -- no row fits at place i of a message
 abbrev pub ClearAt : List ℕ → ℕ → Type 0
@@ -272,4 +274,4 @@ accepted-counts m counts e =
     let p = accepted-passes m counts e in
     let q = passes-accepted m p in
     let s : counts ≡ countsOf m = cc in
-    (ap (λ (x : Counts). x .codes) s, ap (λ (x : Counts). x .names) s, p .short, p .some)
+    (ap (λ (x : Counts). x .codes) s ∙ sym (tape-count m), ap (λ (x : Counts). x .names) s ∙ sym (names-count m), p .short, p .some)

@@ -8,6 +8,7 @@ use Rattle.spec.specs.SpokenLevels.{spoken, levelAnswer}
 use Rattle.spec.specs.{Tape.tape, Tape.names, Refusals.checkOf, declared.Checked.Checked, declared.Answer.Answer}
 use Rattle.laws.proofs.Cuts.{judged, rising-to, bad-bound, rising-length}
 use Rattle.laws.proofs.{Accepted.check-finds, Accepted.given-range, Classes.cond-both, Classes.below-or, Cutting.equal-lengths, Sizes.tape-size, Sizes.names-size, Utf8.encoded-size, SpokenLevels.level-size}
+use Rattle.laws.proofs.Counting.{tape-count, names-count}
 use Rattle.spec.specs.declared.Answer.the-variants as answer
 
 -- the check's answer in numbers that are small
@@ -41,7 +42,12 @@ module _ (m : List ℕ) where
   pub check-small : SmallCheck (checkOf m)
   unfolding checkedNumber checkedPlace checkedCodes checkedNames
   check-small = ⊎-elim
-      (λ f. rw (f .0) (record { number = omega arith; place = omega arith; codes = omega (arith, f .1 .short, tape-size m); names = omega (arith, f .1 .short, names-size m) }))
+      (λ f. rw (f .0) (record {
+        number = omega arith;
+        place = omega arith;
+        codes = omega (arith, f .1 .short, tape-size m, tape-count m);
+        names = omega (arith, f .1 .short, names-size m, names-count m);
+      }))
       (λ f. rw (f .refused) (record { number = given-range (f .given) .1; place = f .within; codes = omega arith; names = omega arith })) (check-finds m)
 
   -- and so is an operation's, if it is after the check

@@ -16,6 +16,7 @@ use Rattle.laws.proofs.Edited.{edited-size, edited-twice, accepted-own,
 use Rattle.laws.proofs.Utf8.{read-most, whole-run, run-once, run-whole, stops-at, stops-once, read-back, run-formed, encoded-size, decoded-size, accepted-rows}
 use Rattle.laws.proofs.SpokenLevels.{level-size, level-equal, level-marks, level-accepted}
 use Rattle.laws.proofs.Cuts.{judged, first-bad, rising-to, full-rising, full-every}
+use Rattle.laws.proofs.Counting.{tape-count, names-count}
 use Rattle.laws.proofs.{Classes.below-or, Cutting.counts-none, Cutting.two-tapes}
 
 -- The ways in which an operation can end: what is due is its text where it accepts and there is room, and else a number, up to its last one, and its place.
@@ -132,7 +133,9 @@ demand2 m = record {
     λ e. ⊎-elim (λ f. absurd (omega (arith, e .0, kept .number ∙ ap checkedNumber (f .0)))) (λ f. rw (← e .0, ← e .1, kept .answer, f .refused) (f .given)) (check-finds m),
     λ g. let e = given-refused m n p g in (kept .number ∙ ap checkedNumber e, kept .place ∙ ap checkedPlace e),
   );
-  counts = λ r kept f. let e = none-accepted m f in (kept .codes ∙ ap checkedCodes e, kept .names ∙ ap checkedNames e);
+  counts = λ r kept f.
+      let e = none-accepted m f in
+      (kept .codes ∙ ap checkedCodes e ∙ sym (tape-count m), kept .names ∙ ap checkedNames e ∙ sym (names-count m));
   transcriber = λ out out′ r k. exactly (without-cuts m (tape m) out) k;
   naming = λ out out′ r k. exactly (without-cuts m (names m) out) k;
   joiner = λ cuts out out′ r k. exactly (with-cuts m cuts out) k;

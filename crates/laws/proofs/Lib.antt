@@ -1,6 +1,8 @@
-pub mod Accepted
 pub mod Classes
 pub mod Word
+pub mod Elided
+pub mod Counting
+pub mod Accepted
 pub mod Codes
 pub mod Cuts
 pub mod Stretch

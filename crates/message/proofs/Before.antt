@@ -3,8 +3,8 @@
 use Rattle.laws.proofs.Kit.{ℕ, zero, suc, _<_, _≤_, _≡_, refl, sym, _∙_, true, false, false≢true, List, [], _∷_, _++_, eqb, length, getD, eqb-true, arith}
 use Rattle.spec.specs.Letters.{small, hardOnly, paired, softOnly, signs, plainVowels, softeningVowels, isMark, isBreak, isVowel, isSign, isConsonant}
 use Rattle.spec.specs.{Alphabet.mark, Alphabet.«ь», Tables.among, Refusals.vowelByte}
-use Rattle.message.specs.{Classes.isConsonantClass, Steps.isSignKind, Steps.isSoftSignKind, Steps.kindAt, Places.leftAt, Places.letterOf, Places.Steady}
-use Rattle.message.proofs.{Bytes.by-class, Bytes.vowel-break, Bytes.vowel-mark, Faults.entry-at, Left.left-letter, Left.left-mark, Left.left-break, Computed.everything}
+use Rattle.message.specs.{Classes.isConsonantClass, Steps.isSignKind, Steps.isSoftSignKind, Steps.kindAt, Places.lastAt, Places.Steady}
+use Rattle.message.proofs.{Bytes.by-class, Bytes.vowel-break, Bytes.vowel-mark, Faults.entry-at, Left.last-letter, Left.last-mark, Left.last-break, Computed.everything}
 use Rattle.laws.proofs.Classes.{either, among-same, among-none, break-sign, break-consonant}
 
 -- no test of consonants tells two letters apart, 0 for none
@@ -45,31 +45,31 @@ alike-break b s = let n = break-consonant b s in let o = break-sign b s in alike
 
 module _ (m : List ℕ) (steady : Steady m) where
   -- the letter before a mark is a vowel
-  pub vowel-before : (i : ℕ) → i < length m → isMark (getD m i 0) ≡ true → isVowel (leftAt m i .p) ≡ true
-  unfolding vowelByte letterOf
+  pub vowel-before : (i : ℕ) → i < length m → isMark (getD m i 0) ≡ true → isVowel (lastAt m i) ≡ true
+  unfolding vowelByte
   vowel-before zero h k = absurd (false≢true (sym (steady .first) ∙ k))
   vowel-before (suc i) h k =
       let v = steady .marks i h k in
       let t = steady .bytes i in
-      rw (left-letter m i (omega arith) (vowel-break _ t v) (vowel-mark _ t v)) v
+      rw (last-letter m i (vowel-break _ t v) (vowel-mark _ t v)) v
 
   -- the last letter of the word after a byte, and the byte
-  pub alike-before : (i : ℕ) → i < length m → Alike (leftAt m (suc i) .p) (small (getD m i 0))
-  unfolding everything letterOf
-  alike-before i h = either (isBreak (getD m i 0)) (λ s. rw (left-break m i h s) (alike-break (getD m i 0) s))
-      (λ s. either (isMark (getD m i 0)) (λ k. rw (left-mark m i h k, eqb-true (getD m i 0) mark k)
-      (alike-other (leftAt m i .p) mark (among-same (λ x. isConsonant x ∷ isSign x ∷ []) (λ _. false ∷ false ∷ []) (plainVowels ++ softeningVowels) (leftAt m i .p) refl (vowel-before i h k)) refl))
-      (λ k. rw (left-letter m i h s k) (alike-same (small (getD m i 0)))))
+  pub alike-before : (i : ℕ) → i < length m → Alike (lastAt m (suc i)) (small (getD m i 0))
+  unfolding everything
+  alike-before i h = either (isBreak (getD m i 0)) (λ s. rw (last-break m i s) (alike-break (getD m i 0) s))
+      (λ s. either (isMark (getD m i 0)) (λ k. rw (last-mark m i k, eqb-true (getD m i 0) mark k)
+      (alike-other (lastAt m i) mark (among-same (λ x. isConsonant x ∷ isSign x ∷ []) (λ _. false ∷ false ∷ []) (plainVowels ++ softeningVowels) (lastAt m i) refl (vowel-before i h k)) refl))
+      (λ k. rw (last-letter m i s k) (alike-same (small (getD m i 0)))))
 
   -- The kind tells the same.
   pub record Kind (i : ℕ) : Type 0 where
-    pub consonant : isConsonant (leftAt m i .p) ≡ isConsonantClass (kindAt m i)
-    pub sign : isSign (leftAt m i .p) ≡ isSignKind (kindAt m i)
-    pub softSign : eqb (leftAt m i .p) «ь» ≡ isSoftSignKind (kindAt m i)
+    pub consonant : isConsonant (lastAt m i) ≡ isConsonantClass (kindAt m i)
+    pub sign : isSign (lastAt m i) ≡ isSignKind (kindAt m i)
+    pub softSign : eqb (lastAt m i) «ь» ≡ isSoftSignKind (kindAt m i)
 
   -- it does
   pub kind-at : (i : ℕ) → i ≤ length m → Kind i
-  unfolding everything leftAt
+  unfolding everything lastAt
   kind-at zero h = record { consonant = refl; sign = refl; softSign = refl }
   kind-at (suc i) h =
       let b = by-class (getD m i 0) (steady .bytes i) in

@@ -1,10 +1,11 @@
--- The left context of a place is the letters of the word before it, carried from the left; a letter, a mark and a break each change it in one way, as they change what is read from the place on.
--- All places of an accepted message are steady: a mark stands right after a vowel.
-use Rattle.laws.proofs.Kit.{ℕ, zero, suc, _<_, _≡_, refl, sym, ap, _∙_, ⊎-elim, Bool, true, false, true≢false, false≢true, cond, _&&_, _||_, not, List, [], _∷_, length, getD, drop, List·getD-eq-default, drop-cons, drop-length, eqb-true}
-use Rattle.spec.specs.Letters.{Letter, Message, last, more, putLetter, read, firstWord, small, isMark, isBreak, isGap, beginsWithMark}
-use Rattle.spec.specs.{Alphabet.mark, Syllables.hasMark, Vowels.hardEnd, Refusals.vowelByte}
+-- The last letter of the word before a place is carried from the left; a letter, a mark and a break each change it in one way, as they change
+-- what is read from the place on. All places of an accepted message are steady: a mark stands right after a vowel.
+use Rattle.laws.proofs.Kit.{ℕ, zero, suc, _<_, _≡_, refl, sym, ap, _∙_, ⊎-elim, true, false, true≢false, false≢true, List, [], _∷_, length, getD, drop}
+use Rattle.laws.proofs.Kit.{List·getD-eq-default, drop-cons, drop-length, eqb-true}
+use Rattle.spec.specs.Letters.{Letter, Message, last, more, putLetter, read, firstWord, small, isMark, isBreak, beginsWithMark}
+use Rattle.spec.specs.{Alphabet.mark, Refusals.vowelByte}
 use Rattle.laws.proofs.Classes.{refuted, below-or}
-use Rattle.message.specs.Places.{Left, stepLeft, leftAt, markFrom, letterOf, Steady}
+use Rattle.message.specs.Places.{lastAt, wordAt, letterOf, Steady}
 
 -- a mark is no break
 pub mark-within : (b : ℕ) → isMark b ≡ true → isBreak b ≡ false
@@ -17,10 +18,6 @@ unfolding firstWord putLetter
 word-put x (last w) = refl
 word-put x (more w y r) = refl
 
--- the left context after a letter
-abbrev pub afterLetter : Letter → Left → Left
-afterLetter x l = record { p = x .byte; q = l .p; hard = false }
-
 -- whether a mark follows is told by the next byte, 0 past the end
 pub begins-at : (m : List ℕ) (i : ℕ) → beginsWithMark (drop i m) ≡ isMark (getD m i 0)
 unfolding beginsWithMark isMark
@@ -28,22 +25,6 @@ begins-at [] zero = refl
 begins-at [] (suc i) = refl
 begins-at (b ∷ m) zero = refl
 begins-at (b ∷ m) (suc i) = begins-at m i
-
--- the marks of the first word are those of its letters, but for a mark at its start
-pub mark-first : (m : List ℕ) → (beginsWithMark m || hasMark (firstWord (read m))) ≡ markFrom m
-unfolding read firstWord hasMark markFrom beginsWithMark
-mark-first [] = refl
-mark-first (b ∷ m) = by (isBreak b) (isMark b) refl refl (mark-first m)
-  where
-    x : Letter
-    x = record { byte = small b; stressed = beginsWithMark m }
-
-    by : (t k : Bool) → isBreak b ≡ t → isMark b ≡ k → (beginsWithMark m || hasMark (firstWord (read m))) ≡ markFrom m
-        → (k || hasMark (firstWord (cond t (more [] b (read m)) (cond k (read m) (putLetter x (read m)))))) ≡ (not t && (k || markFrom m))
-    by true true d e r = sym d ∙ mark-within b e
-    by true false d e r = refl
-    by false true d e r = refl
-    by false false d e r = rw (word-put x (read m)) r
 
 module _ (m : List ℕ) (i : ℕ) (h : i < length m) where
   -- a letter is put before what is read after it
@@ -61,28 +42,50 @@ module _ (m : List ℕ) (i : ℕ) (h : i < length m) where
   unfolding read
   read-break b = rw (drop-cons m i 0 h, b)
 
-  -- a letter becomes the last one
-  pub left-letter : isBreak (getD m i 0) ≡ false → isMark (getD m i 0) ≡ false → leftAt m (suc i) ≡ afterLetter (letterOf m i) (leftAt m i)
-  unfolding leftAt stepLeft letterOf
-  left-letter b k = rw (b, k)
-
-  -- a mark changes nothing
-  pub left-mark : isMark (getD m i 0) ≡ true → leftAt m (suc i) ≡ leftAt m i
-  unfolding leftAt stepLeft
-  left-mark k = rw (mark-within (getD m i 0) k, k)
-
-  -- a break leaves only whether it is a hard boundary
-  pub left-break : isBreak (getD m i 0) ≡ true → leftAt m (suc i) ≡ record { p = 0; q = 0; hard = isGap (getD m i 0) && hardEnd (leftAt m i .q) (leftAt m i .p) }
-  unfolding leftAt stepLeft
-  left-break b = rw b
-
 -- past the last byte nothing is read
 pub read-end : (m : List ℕ) → read (drop (length m) m) ≡ last []
 unfolding read
 read-end m = rw (drop-length m)
 
--- no mark stands after a byte that is no vowel
-pub unmarked-after : (m : List ℕ) → Steady m → (i : ℕ) → vowelByte (getD m i 0) ≡ false → isMark (getD m (suc i) 0) ≡ false
-unfolding isMark
-unmarked-after m steady i v = refuted _ (λ k. ⊎-elim
-    (λ h. true≢false (sym (steady .marks i h k) ∙ v)) (λ o. false≢true (sym (ap isMark (List·getD-eq-default m 0 o)) ∙ k)) (below-or (suc i) (length m)))
+module _ (m : List ℕ) (i : ℕ) where
+  -- a letter becomes the last one
+  pub last-letter : isBreak (getD m i 0) ≡ false → isMark (getD m i 0) ≡ false → lastAt m (suc i) ≡ small (getD m i 0)
+  unfolding lastAt
+  last-letter b k = rw (b, k)
+
+  -- a mark changes nothing
+  pub last-mark : isMark (getD m i 0) ≡ true → lastAt m (suc i) ≡ lastAt m i
+  unfolding lastAt
+  last-mark k = rw (mark-within (getD m i 0) k, k)
+
+  -- after a break there is none
+  pub last-break : isBreak (getD m i 0) ≡ true → lastAt m (suc i) ≡ 0
+  unfolding lastAt
+  last-break b = rw b
+
+module _ (m : List ℕ) (steady : Steady m) where
+  -- no mark stands after a byte that is no vowel
+  pub unmarked-after : (i : ℕ) → vowelByte (getD m i 0) ≡ false → isMark (getD m (suc i) 0) ≡ false
+  unfolding isMark
+  unmarked-after i v = refuted _ (λ k. ⊎-elim
+      (λ h. true≢false (sym (steady .marks i h k) ∙ v)) (λ o. false≢true (sym (ap isMark (List·getD-eq-default m 0 o)) ∙ k)) (below-or (suc i) (length m)))
+
+  -- a letter is the first one of the word from its place on
+  pub word-letter : (i : ℕ) → i < length m → isBreak (getD m i 0) ≡ false → isMark (getD m i 0) ≡ false → wordAt m i ≡ letterOf m i ∷ wordAt m (suc i)
+  unfolding wordAt
+  word-letter i h b k = rw (read-letter m i h b k) (word-put (letterOf m i) (read (drop (suc i) m)))
+
+  -- a mark is none
+  pub word-mark : (i : ℕ) → i < length m → isMark (getD m i 0) ≡ true → wordAt m i ≡ wordAt m (suc i)
+  unfolding wordAt
+  word-mark i h k = rw (read-mark m i h k)
+
+  -- at a break no letter is left
+  pub word-break : (i : ℕ) → i < length m → isBreak (getD m i 0) ≡ true → wordAt m i ≡ []
+  unfolding wordAt firstWord
+  word-break i h b = rw (read-break m i h b)
+
+  -- nor at the end
+  pub word-end : wordAt m (length m) ≡ []
+  unfolding wordAt firstWord
+  word-end = rw (read-end m)

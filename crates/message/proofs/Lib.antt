@@ -2,12 +2,9 @@ pub mod Before
 pub mod Bytes
 pub mod Checking
 pub mod Computed
-pub mod Elided
 pub mod Faults
-pub mod Fused
 pub mod Left
 pub mod Lengths
 pub mod StepTable
 pub mod Silent
 pub mod Steadiness
-pub mod Tail

@@ -4,9 +4,9 @@ use Rattle.spec.specs.Alphabet.{«д», «з», «к», «н», «р», «с»,
 use Rattle.spec.specs.Letters.{read, firstWord, firstByte, small, hardOnly, paired, softOnly, isMark, isBreak, isConsonant}
 use Rattle.spec.specs.Elision.{secondByte, elides, elidesT, elidesD, elidesAmong}
 use Rattle.spec.specs.Tables.{among}
-use Rattle.message.specs.{Classes.letterAt, Classes.letterBefore, Classes.elidedAt, Places.leftAt, Places.wordAt, Places.letterOf, Places.Steady}
+use Rattle.message.specs.{Classes.letterAt, Classes.letterBefore, Classes.elidedAt, Places.lastAt, Places.wordAt, Places.letterOf, Places.Steady}
 use Rattle.message.proofs.Before.{Same, Alike, alike-same, alike-break, alike-before}
-use Rattle.message.proofs.{Bytes.consonant-vowel, Left.unmarked-after, Tail.word-letter, Tail.word-break, Computed.everything}
+use Rattle.message.proofs.{Bytes.consonant-vowel, Left.unmarked-after, Left.word-letter, Left.word-break, Computed.everything}
 use Rattle.laws.proofs.Classes.{either, below-or, among-none}
 
 -- a letter that is no consonant is never silent
@@ -33,8 +33,8 @@ module _ (m : List ℕ) (steady : Steady m) where
   unmarked i c = unmarked-after m steady i (consonant-vowel (getD m i 0) (steady .bytes i) c)
 
   -- the letter before a letter, and the byte before it
-  alike-left : (i : ℕ) → i ≤ length m → Alike (leftAt m i .p) (letterBefore m i)
-  unfolding leftAt letterBefore letterAt
+  alike-left : (i : ℕ) → i ≤ length m → Alike (lastAt m i) (letterBefore m i)
+  unfolding lastAt letterBefore letterAt
   alike-left zero h = alike-same 0
   alike-left (suc i) h = alike-before m steady i h
 
@@ -59,10 +59,10 @@ module _ (m : List ℕ) (steady : Steady m) where
       (λ o. absurd (false≢true (rw (past j o .0) at c))) (below-or j (length m))
 
   -- which letters are silent can be told from the bytes beside them
-  pub elided-at : (i : ℕ) → i < length m → isBreak (getD m i 0) ≡ false → isMark (getD m i 0) ≡ false → elides (leftAt m i .p) (small (getD m i 0)) (wordAt m (suc i)) ≡ elidedAt m i
+  pub elided-at : (i : ℕ) → i < length m → isBreak (getD m i 0) ≡ false → isMark (getD m i 0) ≡ false → elides (lastAt m i) (small (getD m i 0)) (wordAt m (suc i)) ≡ elidedAt m i
   unfolding elides elidedAt letterAt
   elided-at i h b k = either (isConsonant (small (getD m i 0))) (λ c.
       let two : i + 2 ≡ suc (suc i) = omega arith in
       let a = alike-left i (omega arith) in
       rw (add-one i, two) (alike-elides _ _ (small (getD m i 0)) _ _ _ _ (a .each) (alike-at (suc i) (unmarked i c) .each) (λ q. alike-second (suc i) (unmarked i c) q .each)))
-      (λ c. plain-stays (leftAt m i .p) (small (getD m i 0)) _ _ c ∙ sym (plain-stays (letterBefore m i) (small (getD m i 0)) (letterAt m (i + 1)) (letterAt m (i + 2)) c))
+      (λ c. plain-stays (lastAt m i) (small (getD m i 0)) _ _ c ∙ sym (plain-stays (letterBefore m i) (small (getD m i 0)) (letterAt m (i + 1)) (letterAt m (i + 2)) c))

@@ -4,8 +4,9 @@ use Rattle.spec.specs.Alphabet.{«з», «н», «р», «с»}
 use Rattle.spec.specs.{Tables.among, Letters.small, Elision.elidesT, Elision.elidesD, Elision.elidesAmong}
 use Rattle.message.specs.Classes.{classOf, classCount, classAt, isBreakClass, isConsonantClass, isSignClass, tabulate, classes, letterAt, letterBefore, elidedAt, silentAt}
 use Rattle.message.specs.Steps.{isSoftSignKind, isSignKind, nextKind, faultIn, widthIn, namesIn, askIn, stopIn, packed, pairs, kindAt, widthAt, nameUnit, askUnit, stopUnit}
-use Rattle.message.proofs.{Bytes.by-class, Bytes.not-both, Elided.other-stays, Elided.only-where, Computed.everything}
+use Rattle.message.proofs.{Bytes.by-class, Bytes.not-both, Computed.everything}
 use Rattle.laws.proofs.Classes.{among-none, either, below, pairs-same}
+use Rattle.laws.proofs.Elided.{other-stays, only-where}
 
 -- past the start, the letter before place i is the one at i - 1
 pub before-at : (m : List ℕ) (i : ℕ) → (i ≡ 0 → ⊥) → letterAt m (i - 1) ≡ letterBefore m i

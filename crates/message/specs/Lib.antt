@@ -1,4 +1,3 @@
 pub mod Classes
 pub mod Steps
-pub mod Fused
 pub mod Places

@@ -1,110 +1,36 @@
--- The tape and the names from a place of a message on, as a walk from the right leaves them, and what the bytes before a place say. These are not the paper's words: `proofs/` shows that they agree with them.
+-- What stands beside a place of a message: the last letter of the word before it, and the letters of
+-- the word from there on. These are not the paper's words: `proofs/` shows that they agree with them.
 -- Assumes nothing: these are definitions.
 use Prim.Native.Nat.{ℕ, zero, suc, _<_, _≤_}
 use mathlib.Core.Path.{_≡_}
-use mathlib.Core.Bool.{Bool, true, false, cond, _&&_, _||_, not}
-use mathlib.Core.List.{List, [], _∷_, _++_}
+use mathlib.Core.Bool.{true, false, cond}
+use mathlib.Core.List.{List}
 use lib.ListN.{length, getD, drop}
-use Rattle.spec.specs.Letters.{Letter, Message, last, more, read, firstWord, small, isMark, isBreak, isGap, beginsWithMark}
-use Rattle.spec.specs.Codes.{markOf}
-use Rattle.spec.specs.Syllables.{Facts, namesFrom}
-use Rattle.spec.specs.Vowels.{endsHardFrom, hardEnd}
-use Rattle.spec.specs.Voicing.{Tone, voices, toneOf}
-use Rattle.spec.specs.Palatalization.{firstCode}
-use Rattle.spec.specs.Tape.{segment, namesOf}
+use Rattle.spec.specs.Letters.{Letter, read, firstWord, small, isMark, isBreak, beginsWithMark}
 use Rattle.spec.specs.Refusals.{vowelByte}
 use Rattle.message.specs.Classes.{classOf}
-use Rattle.message.specs.Fused.{toneBefore, letterCodes, fusedFrom}
 
--- what the bytes before a place say: the last letter of the word, the one before it (0 for none), and whether a hard boundary stands right before the place
-pub record Left : Type 0 where
-  pub p : ℕ
-  pub q : ℕ
-  pub hard : Bool
+-- the last letter of the word before place i; 0 for none
+unfoldable pub lastAt : List ℕ → ℕ → ℕ
+lastAt m zero = 0
+lastAt m (suc i) =
+    let b = getD m i 0 in
+    cond (isBreak b) 0 (cond (isMark b) (lastAt m i) (small b))
 
-unfoldable pub stepLeft : ℕ → Left → Left
-stepLeft b l =
-    cond (isBreak b) (record { p = 0; q = 0; hard = isGap b && hardEnd (l .q) (l .p) })
-    (cond (isMark b) l (record { p = small b; q = l .p; hard = false }))
-
-unfoldable pub leftAt : List ℕ → ℕ → Left
-leftAt m zero = record { p = 0; q = 0; hard = false }
-leftAt m (suc i) = stepLeft (getD m i 0) (leftAt m i)
-
--- is there a mark among the bytes of this word before place i, or from there on?
-unfoldable pub markBefore : List ℕ → ℕ → Bool
-markBefore m zero = false
-markBefore m (suc i) = not (isBreak (getD m i 0)) && (isMark (getD m i 0) || markBefore m i)
-
-unfoldable pub markFrom : List ℕ → Bool
-markFrom [] = false
-markFrom (b ∷ m) = not (isBreak b) && (isMark b || markFrom m)
-
--- has the word at place i a mark?
-unfoldable pub markedAt : List ℕ → ℕ → Bool
-markedAt m i = markBefore m i || markFrom (drop i m)
-
--- the facts of the word at place i
-abbrev pub factsAt : List ℕ → ℕ → Facts
-factsAt m i = record { marked = markedAt m i }
-
--- the codes of the rest of a word, w, and of what follows it, after the letters of the left context
-unfoldable pub tailTape : Left → Facts → Message → List ℕ
-tailTape l facts (last w) = fusedFrom (l .hard) facts false (l .p) w
-tailTape l facts (more w x r) =
-    let rest = segment (isGap x && endsHardFrom (l .q) (l .p) w) false r in
-    fusedFrom (l .hard) facts (isGap x && voices rest) (l .p) w ++ (markOf x ∷ rest)
-
--- the bit of the word after, and the codes of this word's rest alone
-unfoldable pub tailNext : Left → Message → Bool
-tailNext l (last w) = false
-tailNext l (more w x r) = isGap x && voices (segment (isGap x && endsHardFrom (l .q) (l .p) w) false r)
-
-unfoldable pub tailWord : Left → Facts → Message → List ℕ
-tailWord l facts r = fusedFrom (l .hard) facts (tailNext l r) (l .p) (firstWord r)
-
--- At a place: the tape from there on, and what a letter before it would see: the rest of its word, the tone, and the first sound of that rest
-unfoldable pub tapeAt : List ℕ → ℕ → List ℕ
-tapeAt m i = tailTape (leftAt m i) (factsAt m i) (read (drop i m))
-
+-- the letters of the word from place i on
 unfoldable pub wordAt : List ℕ → ℕ → List Letter
 wordAt m i = firstWord (read (drop i m))
-
-unfoldable pub toneAt : List ℕ → ℕ → Tone
-toneAt m i = toneOf (tailNext (leftAt m i) (read (drop i m))) (tailWord (leftAt m i) (factsAt m i) (read (drop i m)))
-
-unfoldable pub soundAt : List ℕ → ℕ → ℕ
-soundAt m i = firstCode (tailWord (leftAt m i) (factsAt m i) (read (drop i m)))
 
 -- the letter at place i
 unfoldable pub letterOf : List ℕ → ℕ → Letter
 letterOf m i = record { byte = small (getD m i 0); stressed = beginsWithMark (drop (suc i) m) }
 
--- the codes that the letter at place i puts before the rest's
-unfoldable pub codesAt : List ℕ → ℕ → List ℕ
-codesAt m i = letterCodes (leftAt m i .hard) (factsAt m i) (leftAt m i .p) (letterOf m i) (wordAt m (suc i)) (toneAt m (suc i)) (soundAt m (suc i))
-
--- the tone and the first sound after codes have been put before a tape that had these
-abbrev pub toneAfter : List ℕ → Tone → Tone
-toneAfter [] t = t
-toneAfter (c ∷ cs) t = toneBefore c
-
-abbrev pub soundAfter : List ℕ → ℕ → ℕ
-soundAfter [] s = s
-soundAfter (c ∷ cs) s = c
-
--- the names of the rest of a word and of what follows it
-unfoldable pub tailNamesOf : Left → Facts → Message → List ℕ
-tailNamesOf l facts (last w) = namesFrom facts (l .p) w
-tailNamesOf l facts (more w x r) = namesFrom facts (l .p) w ++ namesOf r
-
-unfoldable pub namesAt : List ℕ → ℕ → List ℕ
-namesAt m i = tailNamesOf (leftAt m i) (factsAt m i) (read (drop i m))
-
--- Steady: no more than 4,096 bytes, each below 256 and named, and a mark stands right after a vowel. The check's acceptance gives it.
+-- Steady: no more than 4,096 bytes, each below 256 and named, and a mark stands right after a vowel.
+-- The check's acceptance gives it.
 pub record Steady (m : List ℕ) : Type 0 where
   pub short : length m ≤ 4096
   pub bytes : (i : ℕ) → getD m i 0 < 256
   pub named : (i : ℕ) → i < length m → classOf (getD m i 0) ≡ 0 → ⊥
-  pub marks : (i : ℕ) → suc i < length m → isMark (getD m (suc i) 0) ≡ true → vowelByte (getD m i 0) ≡ true
+  pub marks : (i : ℕ) → suc i < length m → isMark (getD m (suc i) 0) ≡ true
+      → vowelByte (getD m i 0) ≡ true
   pub first : isMark (getD m 0 0) ≡ false

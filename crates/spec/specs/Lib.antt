@@ -9,6 +9,7 @@ pub mod Phones
 pub mod Voicing
 pub mod Palatalization
 pub mod Tape
+pub mod Counting
 pub mod Refusals
 pub mod Joints
 pub mod Answers

@@ -10,7 +10,7 @@ use lib.Dec.{eqb, leb}
 use lib.ListN.{length, getD, drop}
 use Rattle.spec.specs.Alphabet.{«ъ»}
 use Rattle.spec.specs.Letters.{small, isBreak, isMark, isConsonant, isSign, isVowel}
-use Rattle.spec.specs.Tape.{tape, names}
+use Rattle.spec.specs.Counting.{codeCount, nameCount}
 use Rattle.spec.specs.declared.Refusal.{Refusal}
 use Rattle.spec.specs.declared.Checked.{Checked}
 use Rattle.spec.specs.declared.Checked.the-variants.{Accepted, Refused}
@@ -118,12 +118,13 @@ scan accepted before (b ∷ after) =
     let n = faultAt before b after in
     cond (eqb n 0) (scan accepted (b ∷ before) after) (Refused (refusal n (length before)))
 
--- The message check: number 1, no bytes; number 2, over 4,096 bytes; then 3 to 10. An accepted message has as many codes and names as its tape and its naming.
+-- The message check: number 1, no bytes; number 2, over 4,096 bytes; then 3 to 10. An accepted
+-- message has as many codes and names as its letters and breaks make.
 unfoldable pub checkOf : List ℕ → Checked
 checkOf m =
     cond (eqb (length m) 0) (Refused (refusal 1 0))
     (cond (leb (length m) 4096)
-    (scan (Accepted (record { codes = length (tape m); names = length (names m) })) [] m)
+    (scan (Accepted (record { codes = codeCount m; names = nameCount m })) [] m)
     (Refused (refusal 2 0)))
 
 -- Which numbers fit where, one by one. Does number k of the rows fit at a byte?

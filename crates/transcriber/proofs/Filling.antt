@@ -1,5 +1,5 @@
 -- The walks that write from the end: what a byte puts stands before what the bytes after it have put.
-use Rattle.laws.proofs.Kit.{ℕ, suc, _-_, _<_, _≤_, arith, _≡_, ap, _∙_, List, _++_, length, length-append}
+use Rattle.laws.proofs.Kit.{ℕ, zero, suc, _-_, _<_, _≤_, arith, _≡_, ap, _∙_, List, _++_, length, length-append}
 use Rattle.message.specs.Places.{Steady}
 use Rattle.transcriber.specs.Walk.{MayStep, DidStep}
 use Rattle.laws.proofs.Putting.{Put, put-over, put-length}
@@ -8,7 +8,12 @@ use Rattle.laws.proofs.Putting.{Put, put-over, put-length}
 pub record Pieces (m : List ℕ) (rest piece : ℕ → List ℕ) (all : ℕ) : Type 0 where
   pub steady : Steady m
   pub step : (i : ℕ) → i < length m → rest i ≡ piece i ++ rest (suc i)
-  pub part : (i : ℕ) → i < length m → length (rest i) ≤ all
+  pub whole : length (rest 0) ≤ all
+
+-- so no rest is longer than all
+pub pieces-part : {m : List ℕ} {rest piece : ℕ → List ℕ} {all : ℕ} → Pieces m rest piece all → (i : ℕ) → i ≤ length m → length (rest i) ≤ all
+pieces-part p zero h = p .whole
+pieces-part {rest = rest} {piece} p (suc i) h = omega (arith, pieces-part p i (omega arith), ap length (p .step i h) ∙ length-append (piece i) (rest (suc i)))
 
 -- the walk stands at place i: `rest i` stands right before place `end`, and there is room for all
 pub record Writing (Right : ℕ → Type 0) (m : List ℕ) (rest piece : ℕ → List ℕ) (all : ℕ) (out₀ out : List ℕ) (end i at : ℕ) : Type 0 where
@@ -38,7 +43,7 @@ module _ {Right : ℕ → Type 0} {m : List ℕ} {rest piece : ℕ → List ℕ}
         within = h;
         steady = w .pieces .steady;
         stands = rw e (w .stands);
-        room = omega (arith, s, w .pieces .part (i - 1) h, w .put .place, w .room);
+        room = omega (arith, s, pieces-part (w .pieces) (i - 1) (omega arith), w .put .place, w .room);
         place = omega (arith, writing-length, w .put .place, w .place);
       }
 

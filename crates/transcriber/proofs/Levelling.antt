@@ -4,13 +4,14 @@ use Rattle.laws.proofs.Kit.{ℕ, zero, suc, _<_, _≤_, _≡_, refl, sym, ap, _
 use Rattle.spec.specs.Letters.{between, isBreak, isMark, beginsWithMark}
 use Rattle.spec.specs.{Refusals.vowelByte, Syllables.nextStressed, Syllables.levelOf, LevelSteps.StepsSuffice}
 use Rattle.spec.specs.declared.Level.the-variants.{Stressed, First, Second}
-use Rattle.message.specs.{Classes.classes, Classes.classOf, Places.Steady, Places.letterOf, Places.wordAt, Places.markBefore, Places.markedAt}
-use Rattle.message.proofs.Tail.{word-letter, word-break, word-end, marked-within, marked-break, marked-end}
-use Rattle.message.proofs.{Bytes.vowel-break, Bytes.vowel-mark, Bytes.not-both, Computed.everything, Left.begins-at, Left.mark-within, Left.unmarked-after}
+use Rattle.message.specs.{Classes.classes, Classes.classOf, Places.Steady, Places.letterOf, Places.wordAt}
+use Rattle.message.proofs.Left.{mark-within, begins-at, unmarked-after, word-letter, word-break, word-end}
+use Rattle.message.proofs.{Bytes.vowel-break, Bytes.vowel-mark, Bytes.not-both, Computed.everything}
 use Rattle.laws.proofs.Classes.{break-mark, break-vowel, either}
 use Rattle.transcriber.specs.declared.LevelRun.{LevelRun}
+use Rattle.transcriber.specs.Places.{markBefore, markedAt}
 use Rattle.transcriber.specs.Levels.{levelAt, countedBy, numbered, nearly, sinceBy, endRun, overVowel, overMark, overBreak, overLetter, stepOver, StepDue, backAt, LookDue, Looked, LevelsAt}
-use Rattle.transcriber.proofs.Raw.{where-same}
+use Rattle.transcriber.proofs.{Raw.where-same, Tail.marked-within, Tail.marked-break, Tail.marked-end}
 
 -- a letter of these classes is no vowel, no break and no mark
 pub plain-letter : (b : ℕ) → b < 256 → between 4 9 (classOf b) ≡ true → (isBreak b ≡ false) × (isMark b ≡ false) × (vowelByte b ≡ false)

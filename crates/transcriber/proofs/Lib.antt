@@ -1,7 +1,10 @@
 pub mod Answering
 pub mod Filling
+pub mod Fused
+pub mod Left
 pub mod Levelling
 pub mod Namings
 pub mod Raw
 pub mod SoundTable
+pub mod Tail
 pub mod Walking

@@ -1,14 +1,15 @@
 -- The naming's walk from the right: each byte settles the names that the definition gives it, and what stands right of it is told by what stood right of the next one.
 use Rattle.laws.proofs.Kit.{ℕ, suc, _<_, _≡_, refl, ap, _∙_, Bool, true, false, List, [], _∷_, _++_, arith, length, getD}
 use Rattle.spec.specs.{Letters.isBreak, Refusals.vowelByte, Syllables.incomplete, Syllables.nameOf, declared.Level.Level}
-use Rattle.message.specs.{Classes.classOf, Classes.isVowelClass, Places.Steady, Places.leftAt, Places.namesAt}
-use Rattle.message.proofs.Tail.{names-end, names-vowel, names-other, names-break}
-use Rattle.message.proofs.{Bytes.by-class, Bytes.vowel-break, Lengths.names-from}
+use Rattle.message.specs.{Classes.classOf, Classes.isVowelClass, Places.Steady}
+use Rattle.message.proofs.Bytes.{by-class, vowel-break}
 use Rattle.laws.proofs.Putting.{Put, put-none, put-length, put-again}
+use Rattle.transcriber.specs.Places.{leftAt, namesAt}
 use Rattle.transcriber.specs.Walk.{namePiece, NameReady, Named, NamesDue, WordEnd}
 use Rattle.transcriber.specs.{declared.LevelRun.LevelRun, declared.NameState.NameState, Levels.countedBy, Levels.numbered, Levels.endRun, Levels.stepOver, Levels.Looked, Levels.LevelsAt, Sounds.classBefore, Sounds.syllableBy}
 use Rattle.transcriber.proofs.Levelling.{levels-found, levels-over, levels-break, levels-end}
-use Rattle.transcriber.proofs.{Filling.Writing, Raw.syllable-raw}
+use Rattle.transcriber.proofs.Tail.{names-start, names-end, names-vowel, names-other, names-break}
+use Rattle.transcriber.proofs.{Filling.Pieces, Filling.pieces-part, Filling.Writing, Raw.syllable-raw}
 
 -- the names from a place on are those that its byte settles and the rest's
 name-step : (m : List ℕ) → Steady m → (i : ℕ) → i < length m → namesAt m i ≡ namePiece m i ++ namesAt m (suc i)
@@ -57,12 +58,16 @@ module _ {m out : List ℕ} {i : ℕ} {v : NameState} (ready : NameReady m out i
     named-break p a = record { stands = levels-break m (ready .steady) i (ready .within) (ready .stands) b a; put = rw b p }
 
 module _ {m out : List ℕ} {n : ℕ} (due : NamesDue m out n) where
+  -- each byte's names stand before the rest's, and all are n
+  names-pieces : Pieces m (namesAt m) (namePiece m) n
+  names-pieces = let y = due .steady in record { steady = y; step = name-step m y; whole = omega (arith, ap length (names-start m y), due .total) }
+
   -- there is room for an incomplete syllable's name at the end
   pub end-ends : WordEnd m out (length m) n
   end-ends = record {
     within = omega arith;
     steady = due .steady;
-    room = omega (arith, names-from m (due .steady) (length m) (omega arith), ap length (names-end m (due .steady)), due .total);
+    room = omega (arith, pieces-part names-pieces (length m) (omega arith), ap length (names-end m (due .steady)));
     place = due .room;
   }
 
@@ -72,7 +77,7 @@ module _ {m out : List ℕ} {n : ℕ} (due : NamesDue m out n) where
   naming-none e p =
       let y = due .steady in
       record {
-        pieces = record { steady = y; step = name-step m y; part = λ i h. omega (arith, names-from m y i (omega arith), due .total) };
+        pieces = names-pieces;
         stands = levels-end y e;
         within = omega arith;
         room = omega arith;

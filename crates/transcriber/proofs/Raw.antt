@@ -5,12 +5,14 @@ use Rattle.spec.specs.Letters.{between, small, plainVowels, softeningVowels, is
 use Rattle.spec.specs.Syllables.{coverAfter, incomplete, syllableOf}
 use Rattle.spec.specs.{Tables.among, Vowels.initial, Vowels.hardEnd, Vowels.glides, declared.Cover.Cover}
 use Rattle.message.specs.Classes.{classOf, isBreakClass, isSignClass, isVowelClass, isLetterClass}
-use Rattle.message.specs.Places.{Steady, Left, stepLeft, leftAt, letterOf, wordAt, factsAt}
+use Rattle.message.specs.Places.{Steady, letterOf, wordAt}
 use Rattle.message.proofs.Bytes.{by-class, letter-class, not-both, vowel-break, vowel-mark}
-use Rattle.message.proofs.{Before.vowel-before, Left.left-letter, Computed.everything}
+use Rattle.message.proofs.{Before.vowel-before, Computed.everything}
 use Rattle.laws.proofs.Classes.{among-same, either, below, below-same}
 use Rattle.transcriber.specs.Sounds.{byteBefore, Before, classBefore, isHardOrPaired, Told, syllableBy, glideBy, hardBefore}
 use Rattle.transcriber.specs.Levels.{levelAt}
+use Rattle.transcriber.specs.Places.{Left, stepLeft, leftAt, factsAt}
+use Rattle.transcriber.proofs.Left.{left-last, left-letter}
 
 -- a number between two others
 pub between-true : (lo hi c : ℕ) → lo ≤ c → c ≤ hi → between lo hi c ≡ true
@@ -112,7 +114,7 @@ module _ (m : List ℕ) (steady : Steady m) where
       let b = getD m i 0 in
       let t = steady .bytes i in
       let P : Left → Type 0 = λ l. Told (classOf b) (l .p) in
-      cond-by P (isBreak b) (told-break b t) (λ s. cond-by P (isMark b) (λ k. told-mark b k _ (vowel-before m steady i h k)) (λ k. told-letter b t (letter-class b t s k (steady .named i h))))
+      cond-by P (isBreak b) (told-break b t) (λ s. cond-by P (isMark b) (λ k. told-mark b k _ (rw (left-last m i) (vowel-before m steady i h k))) (λ k. told-letter b t (letter-class b t s k (steady .named i h))))
 
   -- the classes of the two bytes before a place tell whether the word before it ends hard
   end-raw : (i : ℕ) → i ≤ length m → hardEnd (leftAt m i .q) (leftAt m i .p) ≡ cond (eqb (classBefore m i) 5) (eqb (classBefore m (i - 1)) 6) (between 6 8 (classBefore m i))

@@ -3,12 +3,13 @@ use Rattle.laws.proofs.Kit.{ℕ, _+_, _*_, _%_, _<_, _≤_, _≡_, refl, true, 
 use Rattle.laws.proofs.Classes.{below-same, pairs-same}
 use Rattle.spec.specs.{Letters.small, Letters.isConsonant, Refusals.consonantByte, Codes.isSound, Codes.isVoicing}
 use Rattle.message.proofs.Computed.{everything}
+use Rattle.transcriber.specs.Fused.{toneBefore, consonantCode}
 use Rattle.transcriber.specs.Sounds.{toneBy, codeBy, codeBefore, Heard, alike, rowIn, softRow, soundRow, codeRow, firstRows, soundTable}
 use Rattle.transcriber.proofs.Raw.{where-same}
 
 -- every definition of the table
 unfoldable pub table : Unit {0}
-unfolding everything isSound toneBy codeBy alike rowIn softRow soundRow codeRow firstRows soundTable
+unfolding everything isSound toneBefore consonantCode toneBy codeBy alike rowIn softRow soundRow codeRow firstRows soundTable
 table = tt
 
 -- a sound's row begins within the table

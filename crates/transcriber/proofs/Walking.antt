@@ -4,18 +4,21 @@ use Rattle.spec.specs.Letters.{small, firstByte, isBreak, isGap, isMark}
 use Rattle.spec.specs.Codes.{J, markOf, isSound, isVoicing}
 use Rattle.spec.specs.{Phones.softens, Voicing.Tone, Voicing.voiced, Voicing.voiceless, Refusals.vowelByte, Refusals.signByte, Refusals.consonantByte, declared.Level.Level, declared.Syllable.Syllable}
 use Rattle.message.specs.Classes.{classCount, classes, classOf, isBreakClass, isSignClass, isConsonantClass, isVowelClass, isSofteningClass, elidedAt}
-use Rattle.message.specs.Fused.{toneBefore, vowelCodes, consonantCode, letterCodes}
-use Rattle.message.specs.Places.{Steady, leftAt, letterOf, tapeAt, wordAt, toneAt, soundAt, codesAt, toneAfter, soundAfter}
-use Rattle.message.proofs.Tail.{tape-letter, tape-mark, tape-break, word-letter, word-mark, word-break, word-end, tone-letter, sound-letter, tone-mark, sound-mark, tone-break, sound-break, tone-end, sound-end}
-use Rattle.message.proofs.{Bytes.by-class, Computed.everything, Left.mark-within, StepTable.class-spoken, Silent.elided-at}
+use Rattle.message.specs.Places.{Steady, letterOf, wordAt}
+use Rattle.message.proofs.Left.{mark-within, word-letter, word-mark, word-break, word-end}
+use Rattle.message.proofs.{Bytes.by-class, Computed.everything, StepTable.class-spoken, Silent.elided-at}
 use Rattle.laws.proofs.{Classes.cond-same, Codes.vowel-sound, MarkIndex.sound-range, Putting.Put, Putting.put-none, Classes.below}
+use Rattle.transcriber.specs.Fused.{toneBefore, vowelCodes, consonantCode, letterCodes}
+use Rattle.transcriber.specs.Places.{leftAt, tapeAt, toneAt, soundAt, codesAt, toneAfter, soundAfter}
 use Rattle.transcriber.specs.Sounds.{classBefore, ByRow, rowOf, syllableBy, glideBy, hardBefore, toneBy, codeBy, Tells, codeBefore, Heard, soundTable}
 use Rattle.transcriber.specs.Walk.{VowelAt, syllableAt, Stands, Sung, sungCodes, pieceAt, Ready, ReadyFor, Stepped}
 use Rattle.transcriber.specs.Levels.{countedBy, numbered, endRun, stepOver, StepDue, LookDue, Looked}
 use Rattle.transcriber.specs.declared.{LevelRun.LevelRun, Right.Right, Vowel.Vowel}
 use Rattle.transcriber.proofs.Levelling.{levels-found, levels-due, levels-over, break-due, levels-break, levels-end}
 use Rattle.transcriber.proofs.Raw.{where-same, told-at, hard-raw, syllable-raw, glide-raw}
-use Rattle.transcriber.proofs.SoundTable.{code-read}
+use Rattle.transcriber.proofs.{Left.left-last, SoundTable.code-read}
+use Rattle.transcriber.proofs.Tail.{tape-letter, tape-mark, tape-break, tone-letter, sound-letter, tone-mark, sound-mark}
+use Rattle.transcriber.proofs.Tail.{tone-break, sound-break, tone-end, sound-end}
 
 -- 64 more can be told from less
 tells : (n : ℕ) (soft : Bool) → n < 64 → Tells (n + cond soft 64 0) soft (toneBy n) (codeBy n)
@@ -90,7 +93,7 @@ module _ (m : List ℕ) (steady : Steady m) (i : ℕ) (h : i < length m) where
   -- a silent letter puts nothing
   codes-silent : {s v x : Bool} → Spelt (getD m i 0) s v x → elidedAt m i ≡ true → codesAt m i ≡ []
   unfolding codesAt letterCodes letterOf
-  codes-silent p e = rw (elided-at m steady i h (p .break) (p .mark), e)
+  codes-silent p e = rw (left-last m i, elided-at m steady i h (p .break) (p .mark), e)
 
   -- nor does a sign
   codes-sign : {v x : Bool} → Spelt (getD m i 0) true v x → codesAt m i ≡ []
@@ -103,7 +106,7 @@ module _ (m : List ℕ) (steady : Steady m) (i : ℕ) (h : i < length m) where
       ≡ cond v (vowelCodes (leftAt m i .hard) (leftAt m i .p) (small (getD m i 0)) (syllableAt m i))
       (consonantCode (small (getD m i 0)) (softens (firstByte (wordAt m (suc i)))) (toneAt m (suc i)) (soundAt m (suc i)) ∷ [])
   unfolding codesAt letterCodes letterOf signByte vowelByte
-  codes-heard p e = rw (elided-at m steady i h (p .break) (p .mark), e, p .sounds, p .sings)
+  codes-heard p e = rw (left-last m i, elided-at m steady i h (p .break) (p .mark), e, p .sounds, p .sings)
 
 module _ {m out : List ℕ} {i : ℕ} {r : Right} (a : Ready m out i r) where
   -- there is room for a letter's codes

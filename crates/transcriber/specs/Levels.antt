@@ -11,9 +11,10 @@ use Rattle.spec.specs.Refusals.{vowelByte}
 use Rattle.spec.specs.LevelSteps.{Unmarked}
 use Rattle.spec.specs.Syllables.{nextStressed, levelOf}
 use Rattle.message.specs.Classes.{classes, classOf}
-use Rattle.message.specs.Places.{Steady, letterOf, wordAt, factsAt, markBefore, markedAt}
+use Rattle.message.specs.Places.{Steady, letterOf, wordAt}
 use Rattle.spec.specs.declared.Level.{Level}
 use Rattle.spec.specs.declared.Level.the-variants.{Stressed, First, Second}
+use Rattle.transcriber.specs.Places.{factsAt, markBefore, markedAt}
 use Rattle.transcriber.specs.declared.LevelRun.{LevelRun}
 
 -- the level of the vowel at place i, as pass 2 defines it

@@ -1,3 +1,5 @@
+pub mod Fused
+pub mod Places
 pub mod Levels
 pub mod Sounds
 pub mod Walk

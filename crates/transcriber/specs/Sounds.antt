@@ -12,13 +12,13 @@ use Rattle.spec.specs.Tables.{among}
 use Rattle.spec.specs.Letters.{between, isHardOnly, isPaired, isSoftOnly, isConsonant, isSign}
 use Rattle.spec.specs.Codes.{А*, Б, Б', В', Г, Г', Х1, Х1', Д, Д', Ж, Ж', З, З', К, К', Л', М', Н', П, П', Р', С, С', Т, Т', Ф, Ф', Х, Х', Ц, Ц1, Ч, Ч1, Ш, Щ}
 use Rattle.spec.specs.Vowels.{initial, vowelSound, bare}
-use Rattle.message.specs.Fused.{toneBefore, consonantCode}
 use Rattle.spec.specs.Voicing.{Tone, voiced, voiceless, asWritten}
 use Rattle.message.specs.Classes.{classOf, classes, isBreakClass, isSignClass, tabulate}
 use Rattle.spec.specs.declared.Cover.{Cover}
 use Rattle.spec.specs.declared.Cover.the-variants.{Bare, Covered}
 use Rattle.spec.specs.declared.Level.{Level}
 use Rattle.spec.specs.declared.Syllable.{Syllable}
+use Rattle.transcriber.specs.Fused.{toneBefore, consonantCode}
 
 -- the byte before place i; a pause at the start of the message
 unfoldable pub byteBefore : List ℕ → ℕ → ℕ

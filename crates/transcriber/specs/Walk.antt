@@ -13,10 +13,11 @@ use Rattle.spec.specs.Phones.{softens}
 use Rattle.spec.specs.Tape.{tape, names}
 use Rattle.spec.specs.Refusals.{vowelByte}
 use Rattle.laws.proofs.Putting.{Put}
-use Rattle.message.specs.Places.{Steady, leftAt, letterOf, wordAt, toneAt, soundAt, factsAt, codesAt}
+use Rattle.message.specs.Places.{Steady, letterOf, wordAt}
 use Rattle.message.specs.Classes.{classes, classOf, isBreakClass, isVowelClass}
 use Rattle.spec.specs.declared.Level.{Level}
 use Rattle.spec.specs.declared.Syllable.{Syllable}
+use Rattle.transcriber.specs.Places.{leftAt, toneAt, soundAt, factsAt, codesAt}
 use Rattle.transcriber.specs.Levels.{levelAt, stepOver, LevelsAt}
 use Rattle.transcriber.specs.Sounds.{soundTable, Tells}
 use Rattle.transcriber.specs.declared.LevelRun.{LevelRun}

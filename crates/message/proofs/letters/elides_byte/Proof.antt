@@ -2,8 +2,9 @@
 use Rattle.laws.proofs.Kit.{ℕ, _<_, _≡_, refl, sym, _∙_, or-false, _++_, map, arith, eqb, needs}
 use Rattle.spec.specs.{Alphabet.«д», Alphabet.«т», Tables.among, Letters.small, Letters.hardOnly, Letters.paired, Letters.softOnly, Elision.elidesAmong}
 use Rattle.laws.proofs.Classes.{among-same, below-same}
+use Rattle.laws.proofs.Elided.{before-other}
 use Rattle.message.specs.Classes.{foldOf}
-use Rattle.message.proofs.{Before.Same, Elided.before-other, Silent.alike-elides, Computed.everything}
+use Rattle.message.proofs.{Before.Same, Silent.alike-elides, Computed.everything}
 use Rattle.message.proofs.letters.elides_byte.Statement.{statement}
 use Rattle.message.proofs.letters.elides_byte.Tie as tie
 

@@ -1,9 +1,10 @@
 -- The bytes passed so far are letters, so what stands before them tells of the word's marks, and each was one step; a mark or a break, or the message's start, then tells all. The measure is j.
 use Rattle.laws.proofs.Kit.{ℕ, suc, _+_, _-_, _≤_, _≡_, refl, sym, _∙_, true, false, true≢false, false≢true, arith, needs, List, getD}
 use Rattle.spec.specs.Letters.{isBreak, isMark}
-use Rattle.message.specs.Places.{Steady, markBefore}
+use Rattle.message.specs.Places.{Steady}
 use Rattle.message.proofs.{Bytes.vowel-break, Bytes.vowel-mark, Left.mark-within}
 use Rattle.transcriber.specs.declared.LevelRun.{LevelRun}
+use Rattle.transcriber.specs.Places.{markBefore}
 use Rattle.transcriber.specs.Levels.{stepOver, endRun, backAt, Looked}
 use Rattle.transcriber.proofs.Levelling.{step-by, back-most, back-within, back-break}
 use Rattle.transcriber.proofs.levels.look_back.Statement.{statement}

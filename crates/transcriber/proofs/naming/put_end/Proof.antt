@@ -1,8 +1,8 @@
 -- A consonant or a sign before the place leaves a syllable incomplete, and the class before tells it.
 use Rattle.laws.proofs.Kit.{_≡_, ap, cond, [], _∷_, arith, length, needs}
 use Rattle.spec.specs.Syllables.{incomplete}
-use Rattle.message.specs.Places.{leftAt}
 use Rattle.laws.proofs.Putting.{put-none}
+use Rattle.transcriber.specs.Places.{leftAt}
 use Rattle.transcriber.proofs.Raw.{incomplete-raw}
 use Rattle.transcriber.proofs.naming.put_end.Statement.{statement}
 use Rattle.transcriber.proofs.naming.put_end.Tie as tie

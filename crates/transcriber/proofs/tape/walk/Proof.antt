@@ -1,12 +1,10 @@
 -- The walk so far is carried by one record, to which each step adds the piece of its byte; over the whole message it puts the tape. The measure is the place.
-use Rattle.laws.proofs.Kit.{_≡_, arith, length, needs}
+use Rattle.laws.proofs.Kit.{_≡_, ap, arith, length, needs}
 use Rattle.spec.specs.Tape.{tape}
 use Rattle.laws.proofs.Putting.{put-none}
-use Rattle.message.specs.Places.{tapeAt}
-use Rattle.message.proofs.{Lengths.codes-from, Tail.tape-start, Tail.tape-end}
-use Rattle.transcriber.specs.Walk.{Stands, pieceAt}
+use Rattle.transcriber.specs.{Places.tapeAt, Walk.Stands, Walk.pieceAt}
 use Rattle.transcriber.proofs.Filling.{Writing, writing-length, writing-ready, writing-more}
-use Rattle.transcriber.proofs.{Levelling.levels-done, Levelling.end-due, Walking.piece-step, Walking.stands-end}
+use Rattle.transcriber.proofs.{Levelling.levels-done, Levelling.end-due, Tail.tape-start, Tail.tape-end, Walking.piece-step, Walking.stands-end}
 use Rattle.transcriber.proofs.tape.walk.Statement.{statement}
 use Rattle.transcriber.proofs.tape.walk.Tie as tie
 
@@ -26,7 +24,7 @@ loop-holds c =
     let m = s .args .m .now in
     let y = s .pre .steady in
     record {
-      pieces = record { steady = y; step = piece-step m y; part = λ i h. omega (arith, codes-from m y i (omega arith)) };
+      pieces = record { steady = y; step = piece-step m y; whole = omega (arith, ap length (tape-start m y)) };
       stands = stands-end y (rw (c .before .at-word-end .ensures) at (c .look-back .ensures));
       within = omega arith;
       room = s .pre .room;

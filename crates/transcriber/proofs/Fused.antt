@@ -1,15 +1,16 @@
 -- All five passes of a word as one recursion over its letters as written, from the right: a letter's codes are settled by the letter before it,
 -- the letters after it as written, and the finished codes after it. Equal to the passes one after the other, because elision changes nothing that
--- the letters around it go by (Elided.antt), and palatalization does not change whether a sound voices or devoices the one before it.
+-- the letters around it go by (Elided.antt of crate `laws`), and palatalization does not change whether a sound voices or devoices the one before it.
 use Rattle.laws.proofs.Kit.{ℕ, _≡_, refl, Bool, true, false, cond, List, [], _∷_, _++_}
 use Rattle.spec.specs.Letters.{Letter, paired, firstByte, isPaired, isSign, isVowel, isObstruent}
 use Rattle.spec.specs.Vowels.{glides}
 use Rattle.spec.specs.Phones.{Phone, writtenCode, softens, vowelPhones, phonesOf, phonesFrom}
 use Rattle.spec.specs.Voicing.{Tone, voiced, voiceless, asWritten, voices, toneOf, toned, codesOf, voiceOne, voice}
 use Rattle.spec.specs.{Codes.palatalized, Elision.elideFrom, Elision.elide, Syllables.Facts, Syllables.factsOf, Syllables.syllableOf, Palatalization.isSoft, Palatalization.firstCode, Palatalization.palatalize, Tape.wordTape}
-use Rattle.message.specs.Fused.{toneBefore, vowelCodes, consonantCode, letterCodes, fusedFrom}
+use Rattle.transcriber.specs.Fused.{toneBefore, vowelCodes, consonantCode, letterCodes, fusedFrom}
 use Rattle.laws.proofs.Classes.{cond-app, cond-same, either, among-same, vowel-quiet, vowel-single}
-use Rattle.message.proofs.{Elided.elide-cases, Elided.soft-elide, Elided.syllable-elide, Elided.phones-free, Computed.everything}
+use Rattle.laws.proofs.Elided.{elide-cases, soft-elide, syllable-elide, phones-free}
+use Rattle.spec.proofs.Computed.{everything}
 
 -- the code of a consonant b after pass 4
 abbrev spoken : Tone → ℕ → ℕ
@@ -17,7 +18,7 @@ spoken tone b = cond (isObstruent b) (toned tone b (writtenCode b)) (writtenCode
 
 -- a palatalized sound voices or devoices what its hard sound does
 tone-kept : (tone : Tone) (b : ℕ) → isPaired b ≡ true → toneBefore (palatalized (spoken tone b)) ≡ toneBefore (spoken tone b)
-unfolding everything
+unfolding everything toneBefore
 tone-kept voiced b h = among-same (λ x. toneBefore (palatalized (spoken voiced x))) (λ x. toneBefore (spoken voiced x)) paired b refl h
 tone-kept voiceless b h = among-same (λ x. toneBefore (palatalized (spoken voiceless x))) (λ x. toneBefore (spoken voiceless x)) paired b refl h
 tone-kept asWritten b h = among-same (λ x. toneBefore (palatalized (spoken asWritten x))) (λ x. toneBefore (spoken asWritten x)) paired b refl h

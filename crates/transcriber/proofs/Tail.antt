@@ -5,11 +5,15 @@ use Rattle.spec.specs.Syllables.{Facts, factsOf, hasMark, namesFrom, incomplete
 use Rattle.spec.specs.Voicing.{voiced, voiceless, voices, toneOf}
 use Rattle.spec.specs.Tape.{segment, sounds, tape, namesOf, names, wordNames}
 use Rattle.spec.specs.{Elision.elide, Codes.markOf, Codes.isVoicing, Vowels.endsHardFrom, Vowels.endsHard, Palatalization.firstCode, Refusals.vowelByte}
-use Rattle.message.proofs.Left.{mark-within, word-put, afterLetter, begins-at, mark-first, read-letter, read-mark, read-break, read-end, left-letter, left-mark, left-break, unmarked-after}
-use Rattle.message.proofs.{Bytes.vowel-break, Bytes.vowel-mark, Fused.word-fused, Elided.names-elide}
-use Rattle.laws.proofs.{Classes.cond-app, Classes.either, Classes.break-vowel, Stretch.voices-over, Stretch.voices-first}
-use Rattle.message.specs.Places.{Left, leftAt, markBefore, markFrom, markedAt, factsAt, tailTape, tailNext, tailWord, tapeAt, wordAt, toneAt, soundAt, letterOf, codesAt, toneAfter, soundAfter, tailNamesOf, namesAt, Steady}
-use Rattle.message.specs.Fused.{toneBefore, letterCodes, fusedFrom}
+use Rattle.message.specs.Places.{wordAt, letterOf, Steady}
+use Rattle.message.proofs.Left.{mark-within, word-put, begins-at, read-letter, read-mark, read-break, read-end, unmarked-after}
+use Rattle.message.proofs.Bytes.{vowel-break, vowel-mark}
+use Rattle.laws.proofs.{Classes.cond-app, Classes.either, Classes.break-vowel, Elided.names-elide, Stretch.voices-over, Stretch.voices-first}
+use Rattle.transcriber.specs.Places.{Left, leftAt, markBefore, markFrom, markedAt, factsAt, tailTape, tailNext, tailWord, tapeAt}
+use Rattle.transcriber.specs.Places.{toneAt, soundAt, codesAt, toneAfter, soundAfter, tailNamesOf, namesAt}
+use Rattle.transcriber.specs.Fused.{toneBefore, letterCodes, fusedFrom}
+use Rattle.transcriber.proofs.Left.{afterLetter, mark-first, left-letter, left-mark, left-break}
+use Rattle.transcriber.proofs.Fused.{word-fused}
 
 -- the left context at the start of a word
 abbrev start : Bool → Left
@@ -93,26 +97,6 @@ voices-start hard r =
     rw (start-tape hard r, word-rest (start hard) (factsOf (firstWord r)) r, voices-word (start hard) w r) (voices-first w)
 
 module _ (m : List ℕ) (steady : Steady m) where
-  -- a letter is the first one of the word from its place on
-  pub word-letter : (i : ℕ) → i < length m → isBreak (getD m i 0) ≡ false → isMark (getD m i 0) ≡ false → wordAt m i ≡ letterOf m i ∷ wordAt m (suc i)
-  unfolding wordAt
-  word-letter i h b k = rw (read-letter m i h b k) (word-put (letterOf m i) (read (drop (suc i) m)))
-
-  -- a mark is none
-  pub word-mark : (i : ℕ) → i < length m → isMark (getD m i 0) ≡ true → wordAt m i ≡ wordAt m (suc i)
-  unfolding wordAt
-  word-mark i h k = rw (read-mark m i h k)
-
-  -- at a break no letter is left
-  pub word-break : (i : ℕ) → i < length m → isBreak (getD m i 0) ≡ true → wordAt m i ≡ []
-  unfolding wordAt firstWord
-  word-break i h b = rw (read-break m i h b)
-
-  -- nor at the end
-  pub word-end : wordAt m (length m) ≡ []
-  unfolding wordAt firstWord
-  word-end = rw (read-end m)
-
   -- whether the word has a mark does not change within it
   pub marked-within : (i : ℕ) → i < length m → isBreak (getD m i 0) ≡ false → markedAt m i ≡ markedAt m (suc i)
   unfolding markedAt markBefore markFrom

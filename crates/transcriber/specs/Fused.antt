@@ -1,4 +1,6 @@
--- All five passes of a word as one recursion over its letters as written, from the right, as the code goes. These are not the paper's words: `proofs/Fused.antt` shows that they agree with the passes one after the other.
+-- All five passes of a word as one recursion over its letters as written, from the right, as the
+-- code goes. These are not the paper's words: `proofs/Fused.antt` shows that they agree with the
+-- passes one after the other.
 -- Assumes nothing: these are definitions.
 use Prim.Native.Nat.{ℕ}
 use mathlib.Core.Bool.{Bool, false, cond}
@@ -23,7 +25,8 @@ vowelCodes hard p b s =
     let v = vowelSound hard p s b in
     cond (glides p (s .cover) b) (J ∷ v ∷ []) (v ∷ [])
 
--- the code of a consonant b: soft says that the next letter palatalizes it, tone and c come from the codes after it
+-- the code of a consonant b: soft says that the next letter palatalizes it, tone and c come from
+-- the codes after it
 unfoldable pub consonantCode : ℕ → Bool → Tone → ℕ → ℕ
 consonantCode b soft tone c =
     let k = cond (isObstruent b) (toned tone b (writtenCode b)) (writtenCode b) in

@@ -1,12 +1,12 @@
 -- Only т and д are elided, and only before с н ч ц ш: none of these is a vowel or a sign or softens, so elision changes no syllable and no softness.
 use Rattle.laws.proofs.Kit.{ℕ, _≡_, refl, sym, _∙_, Bool, true, false, cond, and-false, false≢true, List, [], _∷_, eqb}
 use Rattle.spec.specs.Alphabet.{«д», «н», «с», «т», «ц», «ч», «ш»}
 use Rattle.spec.specs.Letters.{Letter, firstByte, isSign, isVowel}
 use Rattle.spec.specs.Elision.{elidesT, elidesD, elides, elideFrom, elidesAmong}
 use Rattle.spec.specs.Syllables.{Facts, levelOf, nextStressed, syllableOf, namesFrom}
 use Rattle.spec.specs.{Tables.among, Phones.softens, Phones.phonesOf, Phones.phonesFrom}
 use Rattle.laws.proofs.Classes.{among-same, among-none}
-use Rattle.message.proofs.Computed.{everything}
+use Rattle.spec.proofs.Computed.{everything}
 
 -- the letters that can be elided
 abbrev pub silent : List ℕ
