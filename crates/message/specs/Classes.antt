@@ -32,6 +32,22 @@ classCount = 14
 unfoldable pub classOf : ℕ → ℕ
 classOf b = cond (isMark b) 1 (cond (eqb b gap) 2 (cond (eqb b pause) 3 (letterClass (small b))))
 
+-- those that are asked for by themselves
+abbrev pub pauseClass : ℕ
+pauseClass = 3
+
+abbrev pub softSignClass : ℕ
+softSignClass = 5
+
+abbrev pub vowelOClass : ℕ
+vowelOClass = 11
+
+abbrev pub iotatedClass : ℕ
+iotatedClass = 12
+
+abbrev pub vowelIClass : ℕ
+vowelIClass = 13
+
 abbrev pub isBreakClass : ℕ → Bool
 isBreakClass c = between 2 3 c
 
@@ -40,6 +56,10 @@ isSignClass c = between 4 5 c
 
 abbrev pub isConsonantClass : ℕ → Bool
 isConsonantClass c = between 6 9 c
+
+-- a consonant's or a sign's, which covers a syllable
+abbrev pub isCoveringClass : ℕ → Bool
+isCoveringClass c = between 4 9 c
 
 abbrev pub isVowelClass : ℕ → Bool
 isVowelClass c = between 10 13 c

@@ -9,19 +9,27 @@ pub const FIRST: u8 = 0x80; // letters are from here on, the other named bytes b
 
 pub const A: u8 = 0xE0; // а
 
+pub const BE: u8 = 0xE1; // б
+
 pub const DE: u8 = 0xE4; // д
 
 pub const IE: u8 = 0xE5; // е
 
+pub const ZHE: u8 = 0xE6; // ж
+
 pub const ZE: u8 = 0xE7; // з
 
 pub const I: u8 = 0xE8; // и
+
+pub const SHORT_I: u8 = 0xE9; // й
 
 pub const KA: u8 = 0xEA; // к
 
 pub const EN: u8 = 0xED; // н
 
 pub const O: u8 = 0xEE; // о
+
+pub const PE: u8 = 0xEF; // п
 
 pub const ER: u8 = 0xF0; // р
 
@@ -31,13 +39,21 @@ pub const TE: u8 = 0xF2; // т
 
 pub const U: u8 = 0xF3; // у
 
+pub const EF: u8 = 0xF4; // ф
+
+pub const HA: u8 = 0xF5; // х
+
 pub const TSE: u8 = 0xF6; // ц
 
 pub const CHE: u8 = 0xF7; // ч
 
 pub const SHA: u8 = 0xF8; // ш
 
+pub const SHCHA: u8 = 0xF9; // щ
+
 pub const YERU: u8 = 0xFB; // ы
+
+pub const SOFT_SIGN: u8 = 0xFC; // ь
 
 pub const E: u8 = 0xFD; // э
 
@@ -49,19 +65,47 @@ pub const IO: u8 = 0xB8; // ё
 
 pub const CAPITAL_A: u8 = 0xC0;
 
+pub const CAPITAL_BE: u8 = 0xC1;
+
 pub const CAPITAL_DE: u8 = 0xC4;
 
 pub const CAPITAL_IE: u8 = 0xC5;
 
+pub const CAPITAL_ZHE: u8 = 0xC6;
+
+pub const CAPITAL_ZE: u8 = 0xC7;
+
 pub const CAPITAL_I: u8 = 0xC8;
 
+pub const CAPITAL_SHORT_I: u8 = 0xC9;
+
+pub const CAPITAL_KA: u8 = 0xCA;
+
+pub const CAPITAL_EN: u8 = 0xCD;
+
 pub const CAPITAL_O: u8 = 0xCE;
+
+pub const CAPITAL_PE: u8 = 0xCF;
 
 pub const CAPITAL_TE: u8 = 0xD2;
 
 pub const CAPITAL_U: u8 = 0xD3;
 
+pub const CAPITAL_EF: u8 = 0xD4;
+
+pub const CAPITAL_HA: u8 = 0xD5;
+
+pub const CAPITAL_TSE: u8 = 0xD6;
+
+pub const CAPITAL_CHE: u8 = 0xD7;
+
+pub const CAPITAL_SHA: u8 = 0xD8;
+
+pub const CAPITAL_SHCHA: u8 = 0xD9;
+
 pub const CAPITAL_YERU: u8 = 0xDB;
+
+pub const CAPITAL_SOFT_SIGN: u8 = 0xDC;
 
 pub const CAPITAL_E: u8 = 0xDD;
 

@@ -1,15 +1,15 @@
--- What the code reads off the bytes beside a place is what the left context of the place says: in a steady message the class of the byte before tells the class of the last letter of the word.
-use Rattle.laws.proofs.Kit.{ℕ, zero, suc, _-_, _<_, _≤_, _≡_, refl, sym, ap, _∙_, Bool, true, false, true≢false, cond, _&&_, _||_, not, and-false, or-assoc, or-false, List, [], _∷_, _++_, map, _⊎_, inl, inr, arith, eqb, length, getD, eq-eqb, eqb-true, le-leb, ne-eqb}
-use Rattle.spec.specs.Alphabet.{pause, mark, «ь»}
-use Rattle.spec.specs.Letters.{between, small, plainVowels, softeningVowels, isBreak, isGap, isHardOnly, isSoftOnly, isConsonant, isSign, isVowel, isMark}
+-- What the code reads off the bytes beside a place is what the left context of the place says: in a steady message the byte before and its class tell of the last letter of the word what is asked.
+use Rattle.laws.proofs.Kit.{ℕ, zero, suc, _-_, _<_, _≤_, _≡_, refl, sym, ap, _∙_, Bool, true, false, true≢false, cond, _&&_, _||_, not, and-false, List, [], _∷_, _++_, map, _⊎_, inl, inr, arith, eqb, length, getD, eq-eqb, eqb-true, le-leb, ne-eqb}
+use Rattle.spec.specs.Alphabet.{gap, pause, mark, «ь»}
+use Rattle.spec.specs.Letters.{between, small, plainVowels, softeningVowels, isBreak, isGap, isHardOnly, isPaired, isSoftOnly, isConsonant, isSign, isVowel, isMark}
 use Rattle.spec.specs.Syllables.{coverAfter, incomplete, syllableOf}
 use Rattle.spec.specs.{Tables.among, Vowels.initial, Vowels.hardEnd, Vowels.glides, declared.Cover.Cover}
-use Rattle.message.specs.Classes.{classOf, isBreakClass, isSignClass, isVowelClass, isLetterClass}
+use Rattle.message.specs.Classes.{classOf, pauseClass, softSignClass, isBreakClass, isSignClass, isCoveringClass, isVowelClass, isLetterClass}
 use Rattle.message.specs.Places.{Steady, letterOf, wordAt}
-use Rattle.message.proofs.Bytes.{by-class, letter-class, not-both, vowel-break, vowel-mark}
+use Rattle.message.proofs.Bytes.{by-class, letter-class, vowel-break, vowel-mark}
 use Rattle.message.proofs.{Before.vowel-before, Computed.everything}
-use Rattle.laws.proofs.Classes.{among-same, either, below, below-same}
-use Rattle.transcriber.specs.Sounds.{byteBefore, Before, classBefore, isHardOrPaired, Told, syllableBy, glideBy, hardBefore}
+use Rattle.laws.proofs.Classes.{among-same, either, refuted, or-false, break-both, below, below-same}
+use Rattle.transcriber.specs.Sounds.{byteBefore, classBefore, ByteTells, ClassTells, syllableBy, glideBy, endsHardAt, hardBefore}
 use Rattle.transcriber.specs.Levels.{levelAt}
 use Rattle.transcriber.specs.Places.{Left, stepLeft, leftAt, factsAt}
 use Rattle.transcriber.proofs.Left.{left-last, left-letter}
@@ -45,89 +45,131 @@ cond-by : {A : Type 0} (P : A → Type 0) (t : Bool) {x y : A} → (t ≡ true �
 cond-by P true a b = a refl
 cond-by P false a b = b refl
 
--- a byte that is none of the keys of arms with two keys each
+-- a byte that is none of the keys of arms, each of one key, of two or of three
 pub data NoKey (b : ℕ) : List ℕ → Type 0 where
   none : NoKey b []
+  other : {x : ℕ} {keys : List ℕ} → (b ≡ x → ⊥) → NoKey b keys → NoKey b (x ∷ keys)
   neither : {x y : ℕ} {keys : List ℕ} → (b ≡ x ⊎ b ≡ y → ⊥) → NoKey b keys → NoKey b (x ∷ y ∷ keys)
+  no-third : {x y z : ℕ} {keys : List ℕ} → (b ≡ x ⊎ (b ≡ y ⊎ b ≡ z) → ⊥) → NoKey b keys → NoKey b (x ∷ y ∷ z ∷ keys)
 
 not-among : {b : ℕ} {keys : List ℕ} → NoKey b keys → among keys b ≡ false
 unfolding among
 not-among none = refl
+not-among (other n k) = rw (ne-eqb _ _ n) (not-among k)
 not-among (neither n k) = rw (ne-eqb _ _ (λ h. n (inl h)), ne-eqb _ _ (λ h. n (inr h))) (not-among k)
+not-among (no-third n k) = rw (ne-eqb _ _ (λ h. n (inl h)), ne-eqb _ _ (λ h. n (inr (inl h))), ne-eqb _ _ (λ h. n (inr (inr h)))) (not-among k)
 
 -- at such a byte a function that is d at all other bytes is d
 pub outside : {A : Type 0} {keys : List ℕ} {b : ℕ} (f : ℕ → A) (d : A) → NoKey b keys → map (λ x. cond (among keys x) d (f x)) (below 256) ≡ map (λ _. d) (below 256) → b < 256 → f b ≡ d
 outside {A} {keys} {b} f d k e h = rw (not-among k) at (below-same (λ x. cond (among keys x) d (f x)) (λ _. d) 256 b e h)
 
+-- and one that is d at all other bytes of a range is d at such a byte of it
+pub inside : {A : Type 0} {keys : List ℕ} {b : ℕ} (lo hi : ℕ) (f : ℕ → A) (d : A) → NoKey b keys
+    → map (λ x. cond (between lo hi x && not (among keys x)) (f x) d) (below 256) ≡ map (λ _. d) (below 256) → b < 256 → lo ≤ b → b ≤ hi → f b ≡ d
+inside {A} {keys} {b} lo hi f d k e h l u =
+    rw (between-true lo hi b l u, not-among k) at (below-same (λ x. cond (between lo hi x && not (among keys x)) (f x) d) (λ _. d) 256 b e h)
+
+-- a class of letters has no break
+no-break : (class : ℕ → Bool) → class gap ≡ false → class pause ≡ false → (b : ℕ) → class b ≡ true → isBreak b ≡ false
+no-break class g p b e = refuted (isBreak b) (λ k. true≢false (sym e ∙ break-both (λ x. class x ≡ false) g p b k))
+
+-- so a letter of class T is none
+pub hard-only-letter : (b : ℕ) → isHardOnly (small b) ≡ true → isBreak b ≡ false
+unfolding everything
+hard-only-letter = no-break (λ x. isHardOnly (small x)) refl refl
+
+-- nor one of class Q
+pub soft-only-letter : (b : ℕ) → isSoftOnly (small b) ≡ true → isBreak b ≡ false
+unfolding everything
+soft-only-letter = no-break (λ x. isSoftOnly (small x)) refl refl
+
 -- what is asked of the last letter, 0 for none
 abbrev asked : ℕ → List Bool
-asked q = initial q ∷ isHardOnly q ∷ isSoftOnly q ∷ (isConsonant q || isSign q) ∷ isSign q ∷ isHardOrPaired q ∷ eqb q «ь» ∷ []
+asked q = initial q ∷ isHardOnly q ∷ isPaired q ∷ isSoftOnly q ∷ eqb q «ь» ∷ (isConsonant q || isSign q) ∷ isSign q ∷ []
 
--- what a class answers
-abbrev tells : ℕ → List Bool
-tells k = isBreakClass k ∷ eqb k 6 ∷ eqb k 9 ∷ between 4 9 k ∷ isSignClass k ∷ between 6 8 k ∷ eqb k 5 ∷ []
+-- what a byte and its class answer
+abbrev answers : ℕ → List Bool
+answers b = isBreak b ∷ isHardOnly (small b) ∷ isPaired (small b) ∷ isSoftOnly (small b) ∷ eqb (small b) «ь» ∷ isCoveringClass (classOf b) ∷ isSignClass (classOf b) ∷ []
 
-told-asked : {k q : ℕ} → asked q ≡ tells k → Told k q
-told-asked e = record { first = cc; hardOnly = cc; softOnly = cc; covers = cc; sign = cc; hard = cc; softSign = cc }
+-- so they tell the letter
+abbrev Tell : ℕ → ℕ → Type 0
+Tell b q = ByteTells b q × ClassTells (classOf b) q
+
+told-asked : (b : ℕ) → b < 256 → {q : ℕ} → asked q ≡ answers b → Tell b q
+told-asked b h e =
+    let s = by-class b h .softSign in
+    (record { first = cc; hardOnly = cc; paired = cc; softOnly = cc; softSign = cc }, record { covers = cc; sign = cc; softSign = cc })
 
 -- a letter is told by its byte
-told-letter : (b : ℕ) → b < 256 → isLetterClass (classOf b) ≡ true → Told (classOf b) (small b)
+told-letter : (b : ℕ) → b < 256 → isLetterClass (classOf b) ≡ true → Tell b (small b)
 unfolding everything
-told-letter b h e = told-asked (where-same (λ x. isLetterClass (classOf x)) (λ x. asked (small x)) (λ x. tells (classOf x)) [] b refl h e)
+told-letter b h e = told-asked b h (where-same (λ x. isLetterClass (classOf x)) (λ x. asked (small x)) answers [] b refl h e)
 
 -- a break tells that there is none
-told-break : (b : ℕ) → b < 256 → isBreak b ≡ true → Told (classOf b) 0
+told-break : (b : ℕ) → b < 256 → isBreak b ≡ true → Tell b 0
 unfolding everything
-told-break b h e = told-asked (where-same isBreak (λ _. asked 0) (λ x. tells (classOf x)) [] b refl h e)
+told-break b h e = told-asked b h (where-same isBreak (λ _. asked 0) answers [] b refl h e)
 
 -- a mark, before which a vowel stands, tells of a vowel
-told-mark : (b : ℕ) → isMark b ≡ true → (q : ℕ) → isVowel q ≡ true → Told (classOf b) q
+told-mark : (b : ℕ) → isMark b ≡ true → (q : ℕ) → isVowel q ≡ true → Tell b q
 unfolding everything
-told-mark b k q e = rw (eqb-true b mark k) (told-asked (among-same asked (λ _. tells 1) (plainVowels ++ softeningVowels) q refl e))
+told-mark b k q e = rw (eqb-true b mark k) (told-asked mark (omega arith) (among-same asked (λ _. answers mark) (plainVowels ++ softeningVowels) q refl e))
 
--- a gap is class 2
-gap-class : (b : ℕ) → b < 256 → isGap b ≡ eqb (classOf b) 2
-unfolding everything
-gap-class b h = below-same isGap (λ x. eqb (classOf x) 2) 256 b refl h
-
--- which no byte but a break has
-within-gap : (b : ℕ) → b < 256 → isBreak b ≡ false → eqb (classOf b) 2 ≡ false
-unfolding everything
-within-gap b h s = not-both (λ x. not (isBreak x)) (λ x. eqb (classOf x) 2) b refl h (ap not s)
+-- no byte but a break is a gap
+within-gap : (b : ℕ) → isBreak b ≡ false → isGap b ≡ false
+unfolding isBreak isGap
+within-gap b s = or-false (eqb b gap) (eqb b pause) s .0
 
 -- a message begins as after a pause
-pub start-class : (m : List ℕ) → classBefore m 0 ≡ 3
+pub start-class : (m : List ℕ) → classBefore m 0 ≡ pauseClass
 unfolding everything byteBefore
 start-class m = refl
 
+-- only at the start is the byte before a place a pause that is not there
+pub past-start : (m : List ℕ) (i : ℕ) {b : ℕ} → b ≡ byteBefore m i → (b ≡ pause → ⊥) → 0 < i
+unfolding byteBefore
+past-start m zero e n = absurd (n e)
+past-start m (suc i) e n = omega arith
+
 -- a hard boundary stands only before a word's first letter
-pub boundary-initial : {t m : List ℕ} {i k q : ℕ} → Before t m i k → Told k q → (initial q && hardBefore m i) ≡ hardBefore m i
-unfolding hardBefore
-boundary-initial {k = k} e w = rw (w .first, ← e .class) (either (eqb k 2) (λ d. rw (eqb-true k 2 d)) (λ d. rw d (and-false (isBreakClass k))))
+pub boundary-initial : (m : List ℕ) (i : ℕ) {q : ℕ} → ByteTells (byteBefore m i) q → (initial q && hardBefore m i) ≡ hardBefore m i
+unfolding hardBefore isBreak isGap
+boundary-initial m i w =
+    let p = byteBefore m i in
+    rw (w .first) (either (eqb p gap) (λ d. rw d) (λ d. rw d (and-false (eqb p pause))))
 
 module _ (m : List ℕ) (steady : Steady m) where
-  -- the class of the byte before a place tells the last letter of the word
-  pub told-at : (i : ℕ) → i ≤ length m → Told (classBefore m i) (leftAt m i .p)
+  -- the byte before a place and its class tell the last letter of the word
+  tell-at : (i : ℕ) → i ≤ length m → Tell (byteBefore m i) (leftAt m i .p)
   unfolding leftAt stepLeft byteBefore isBreak
-  told-at zero h = told-break pause (omega arith) refl
-  told-at (suc i) h =
+  tell-at zero h = told-break pause (omega arith) refl
+  tell-at (suc i) h =
       let b = getD m i 0 in
       let t = steady .bytes i in
-      let P : Left → Type 0 = λ l. Told (classOf b) (l .p) in
+      let P : Left → Type 0 = λ l. Tell b (l .p) in
       cond-by P (isBreak b) (told-break b t) (λ s. cond-by P (isMark b) (λ k. told-mark b k _ (rw (left-last m i) (vowel-before m steady i h k))) (λ k. told-letter b t (letter-class b t s k (steady .named i h))))
 
-  -- the classes of the two bytes before a place tell whether the word before it ends hard
-  end-raw : (i : ℕ) → i ≤ length m → hardEnd (leftAt m i .q) (leftAt m i .p) ≡ cond (eqb (classBefore m i) 5) (eqb (classBefore m (i - 1)) 6) (between 6 8 (classBefore m i))
-  unfolding leftAt byteBefore hardEnd
-  end-raw zero h = rw (← or-assoc, told-at zero h .hard, start-class m)
+  -- what the byte tells
+  pub byte-tells : (i : ℕ) → i ≤ length m → ByteTells (byteBefore m i) (leftAt m i .p)
+  byte-tells i h = tell-at i h .0
+
+  -- what its class tells
+  pub class-tells : (i : ℕ) → i ≤ length m → ClassTells (classBefore m i) (leftAt m i .p)
+  class-tells i h = tell-at i h .1
+
+  -- the two bytes before a place tell whether the word before it ends hard
+  end-raw : (i : ℕ) → i ≤ length m → hardEnd (leftAt m i .q) (leftAt m i .p) ≡ endsHardAt m i
+  unfolding everything leftAt byteBefore endsHardAt
+  end-raw zero h = refl
   end-raw (suc i) h =
       let b = getD m i 0 in
-      let k = told-at (suc i) h in
+      let t = byte-tells (suc i) h in
       let c = by-class b (steady .bytes i) in
       let e : suc i - 1 ≡ i = omega arith in
-      rw (← or-assoc, k .hard, k .softSign, e)
-      (either (eqb (classOf b) 5) (λ d. let f = eqb-true (classOf b) 5 d in rw (f, left-letter m i h (rw f at (c .break)) (rw f at (c .mark)), told-at i (omega arith) .hardOnly))
-      (λ d. rw d (or-false (between 6 8 (classOf b)))))
+      rw (t .hardOnly, t .paired, t .softSign, e)
+      (either (eqb (small b) «ь»)
+      (λ d. let f = eqb-true (classOf b) softSignClass (sym (c .softSign) ∙ d) in rw (left-letter m i h (rw f at (c .break)) (rw f at (c .mark)), byte-tells i (omega arith) .hardOnly))
+      (λ d. rw d))
 
   -- before a mark stands a vowel, and no boundary
   mark-soft : (i : ℕ) → i < length m → isMark (getD m i 0) ≡ true → leftAt m i .hard ≡ false
@@ -140,27 +182,25 @@ module _ (m : List ℕ) (steady : Steady m) where
 
   -- whether a hard boundary stands before the place
   pub hard-raw : (i : ℕ) → i ≤ length m → leftAt m i .hard ≡ hardBefore m i
-  unfolding leftAt stepLeft byteBefore hardBefore
-  hard-raw zero h = rw (start-class m)
+  unfolding everything leftAt stepLeft byteBefore hardBefore
+  hard-raw zero h = refl
   hard-raw (suc i) h =
       let b = getD m i 0 in
-      let t = steady .bytes i in
       let x : suc i - 1 ≡ i = omega arith in
-      let y : suc i - 2 ≡ i - 1 = omega arith in
       let P : Left → Type 0 = λ l. l .hard ≡ hardBefore m (suc i) in
-      cond-by P (isBreak b) (λ s. rw (gap-class b t, end-raw i (omega arith), x, y)) (λ s. cond-by P (isMark b) (λ k. rw (mark-soft i h k, within-gap b t s)) (λ k. rw (within-gap b t s)))
+      cond-by P (isBreak b) (λ s. rw (end-raw i (omega arith), x)) (λ s. cond-by P (isMark b) (λ k. rw (mark-soft i h k, within-gap b s)) (λ k. rw (within-gap b s)))
 
   -- whether a syllable is left incomplete after it
-  pub incomplete-raw : (i : ℕ) → i ≤ length m → incomplete (leftAt m i .p) ≡ cond (between 4 9 (classBefore m i)) (7 ∷ []) []
+  pub incomplete-raw : (i : ℕ) → i ≤ length m → incomplete (leftAt m i .p) ≡ cond (isCoveringClass (classBefore m i)) (7 ∷ []) []
   unfolding incomplete
-  incomplete-raw i h = rw (told-at i h .covers)
+  incomplete-raw i h = rw (class-tells i h .covers)
 
   -- the syllable of the letter at place i
   pub syllable-raw : (i : ℕ) → i < length m
       → syllableOf (factsAt m i) (leftAt m i .p) (letterOf m i) (wordAt m (suc i))
       ≡ syllableBy (classBefore m i) (levelAt m i)
   unfolding syllableOf coverAfter
-  syllable-raw i h = rw (told-at i (omega arith) .covers)
+  syllable-raw i h = rw (class-tells i (omega arith) .covers)
 
   -- whether a vowel there has a glide
   pub glide-raw : (i : ℕ) → i < length m → (cover : Cover)
@@ -168,5 +208,5 @@ module _ (m : List ℕ) (steady : Steady m) where
   unfolding glides
   glide-raw i h cover =
       let b = by-class (getD m i 0) (steady .bytes i) in
-      let t = told-at i (omega arith) in
+      let t = class-tells i (omega arith) in
       rw (t .sign, t .softSign, b .vowelO, b .iotatedVowel, b .vowelI)

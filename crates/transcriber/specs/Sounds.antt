@@ -1,19 +1,19 @@
--- How the code finds a letter's codes: by the class of the byte before it and one table. These are not the paper's words: `proofs/` shows that they agree with them.
+-- How the code finds a letter's codes: by the byte before it, that byte's class, and one table. These are not the paper's words: `proofs/` shows that they agree with them.
 -- Assumes nothing: these are definitions.
-use Prim.Native.Nat.{ℕ, zero, suc, _+_, _-_, _*_, _%_, _<_, _≤_}
+use Prim.Native.Nat.{ℕ, zero, suc, _+_, _-_, _*_, _%_, _<_}
 use mathlib.Core.Path.{_≡_}
 use mathlib.Core.Bool.{Bool, true, cond, _&&_, _||_}
 use mathlib.Core.List.{List, [], _∷_, _++_}
 use lib.Dec.{eqb, leb}
-use lib.ListN.{length, getD}
+use lib.ListN.{getD}
 use Rattle.spec.specs.Alphabet.{pause, «ь»}
 use Rattle.spec.specs.Refusals.{consonantByte}
 use Rattle.spec.specs.Tables.{among}
-use Rattle.spec.specs.Letters.{between, isHardOnly, isPaired, isSoftOnly, isConsonant, isSign}
+use Rattle.spec.specs.Letters.{small, isBreak, isGap, isHardOnly, isPaired, isSoftOnly, isConsonant, isSign}
 use Rattle.spec.specs.Codes.{А*, Б, Б', В', Г, Г', Х1, Х1', Д, Д', Ж, Ж', З, З', К, К', Л', М', Н', П, П', Р', С, С', Т, Т', Ф, Ф', Х, Х', Ц, Ц1, Ч, Ч1, Ш, Щ}
-use Rattle.spec.specs.Vowels.{initial, vowelSound, bare}
+use Rattle.spec.specs.Vowels.{hardEnd, initial, vowelSound, bare}
 use Rattle.spec.specs.Voicing.{Tone, voiced, voiceless, asWritten}
-use Rattle.message.specs.Classes.{classOf, classes, isBreakClass, isSignClass, tabulate}
+use Rattle.message.specs.Classes.{classOf, softSignClass, vowelOClass, iotatedClass, vowelIClass, isSignClass, isCoveringClass, tabulate}
 use Rattle.spec.specs.declared.Cover.{Cover}
 use Rattle.spec.specs.declared.Cover.the-variants.{Bare, Covered}
 use Rattle.spec.specs.declared.Level.{Level}
@@ -29,29 +29,35 @@ byteBefore m (suc i) = getD m i 0
 abbrev pub classBefore : List ℕ → ℕ → ℕ
 classBefore m i = classOf (byteBefore m i)
 
--- that is k, by the table t
-pub record Before (t m : List ℕ) (i k : ℕ) : Type 0 where
-  pub table : t ≡ classes
-  pub within : i ≤ length m
-  pub class : k ≡ classBefore m i
+-- What the byte p before a place tells of the letter q before it, 0 for none: the byte is q, small or capital, or a break where there is none, or the mark of a vowel.
+pub record ByteTells (p q : ℕ) : Type 0 where
+  pub first : initial q ≡ isBreak p
+  pub hardOnly : isHardOnly q ≡ isHardOnly (small p)
+  pub paired : isPaired q ≡ isPaired (small p)
+  pub softOnly : isSoftOnly q ≡ isSoftOnly (small p)
+  pub softSign : eqb q «ь» ≡ eqb (small p) «ь»
 
--- a letter of class T or P
-abbrev pub isHardOrPaired : ℕ → Bool
-isHardOrPaired q = isHardOnly q || isPaired q
-
--- What the class k of the byte before a place tells of the letter q before it, 0 for none: the byte is q, small or capital, or a break where there is none, or the mark of a vowel.
-pub record Told (k q : ℕ) : Type 0 where
-  pub first : initial q ≡ isBreakClass k
-  pub hardOnly : isHardOnly q ≡ eqb k 6
-  pub softOnly : isSoftOnly q ≡ eqb k 9
-  pub covers : (isConsonant q || isSign q) ≡ between 4 9 k
+-- what that byte's class k tells of it
+pub record ClassTells (k q : ℕ) : Type 0 where
+  pub covers : (isConsonant q || isSign q) ≡ isCoveringClass k
   pub sign : isSign q ≡ isSignClass k
-  pub hard : isHardOrPaired q ≡ between 6 8 k
-  pub softSign : eqb q «ь» ≡ eqb k 5
+  pub softSign : eqb q «ь» ≡ eqb k softSignClass
 
--- r is what a row says of syllable s after every letter that the class k tells; where the row's line does not ask for the boundary, hard is all one
+-- r is what a row says of syllable s after every letter that the byte p tells; where the row's line does not ask for the boundary, hard is all one
 abbrev pub ByRow : (Bool → ℕ → Syllable → ℕ) → Bool → ℕ → Syllable → ℕ → Type 0
-ByRow row hard k s r = (q : ℕ) → Told k q → r ≡ row hard q s
+ByRow row hard p s r = (q : ℕ) → ByteTells p q → r ≡ row hard q s
+
+-- the word that ends at place i ends hard, as its last two bytes tell
+unfoldable pub endsHardAt : List ℕ → ℕ → Bool
+endsHardAt m i = hardEnd (small (byteBefore m (i - 1))) (small (byteBefore m i))
+
+-- a hard boundary stands before place i: a gap is there, and the word before it ends hard
+unfoldable pub hardBefore : List ℕ → ℕ → Bool
+hardBefore m i = isGap (byteBefore m i) && endsHardAt m (i - 1)
+
+-- r is what it says at place i
+abbrev pub RowAt : (Bool → ℕ → Syllable → ℕ) → List ℕ → ℕ → Syllable → ℕ → Type 0
+RowAt row m i s r = ByRow row (hardBefore m i) (byteBefore m i) s r
 
 -- the row of the vowel b
 abbrev pub rowOf : ℕ → Bool → ℕ → Syllable → ℕ
@@ -59,7 +65,7 @@ rowOf b hard q s = vowelSound hard q s b
 
 -- a syllable is covered after a consonant or a sign
 abbrev pub coverClass : ℕ → Cover
-coverClass k = cond (between 4 9 k) Covered Bare
+coverClass k = cond (isCoveringClass k) Covered Bare
 
 -- the syllable of a vowel of this level after a byte of class k
 abbrev pub syllableBy : ℕ → Level → Syllable
@@ -67,12 +73,7 @@ syllableBy k level = record { cover = coverClass k; level = level }
 
 -- a vowel of class c has a glide after a byte of class k
 abbrev pub glideBy : ℕ → Cover → ℕ → Bool
-glideBy c cover k = (eqb c 12 && (bare cover || isSignClass k)) || ((eqb c 13 && isSignClass k) || (eqb c 11 && eqb k 5))
-
--- a hard boundary stands before place i: a gap there, and before it the end of a word, which the two bytes before tell
-unfoldable pub hardBefore : List ℕ → ℕ → Bool
-hardBefore m i =
-    eqb (classBefore m i) 2 && cond (eqb (classBefore m (i - 1)) 5) (eqb (classBefore m (i - 2)) 6) (between 6 8 (classBefore m (i - 1)))
+glideBy c cover k = (eqb c iotatedClass && (bare cover || isSignClass k)) || ((eqb c vowelIClass && isSignClass k) || (eqb c vowelOClass && eqb k softSignClass))
 
 -- How the code says by one number what stands right of a letter: the code of the next sound of its word, or 57 or 0 where it has none and the next word voices an obstruent or does not; and 64 more where the next letter palatalizes.
 -- What an obstruent is before it

@@ -2,6 +2,7 @@ pub mod answers;
 mod before;
 pub mod codes;
 pub mod consonants;
+mod letter_classes;
 pub mod levels;
 pub mod naming;
 mod output;

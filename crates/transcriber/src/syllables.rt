@@ -1,7 +1,7 @@
 // The syllables of a word (paper 01, pass 2), told by the class of the byte before a vowel.
 ghost use mathlib.Core.Path.{_≡_};
-ghost use Rattle.spec.specs.Letters.{between};
 ghost use Rattle.spec.specs.Syllables.{nameOf};
+ghost use Rattle.message.specs.Classes.{isCoveringClass};
 ghost use Rattle.transcriber.specs.Sounds.{syllableBy};
 use message::classes;
 use spec::Cover;
@@ -12,7 +12,7 @@ use spec::Syllable;
 pub const INCOMPLETE: u8 = 7;
 
 pub fn is_consonant_or_sign(k: usize) -> bool
-    ensures { λ r. ⌜ r ≡ between 4 9 k ⌝ }
+    ensures { λ r. ⌜ r ≡ isCoveringClass k ⌝ }
 {
     (classes::HARD_SIGN <= k) & (k <= classes::SOFT_ONLY)
 }

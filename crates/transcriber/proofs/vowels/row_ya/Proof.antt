@@ -1,4 +1,4 @@
--- The class before tells whether the vowel is initial.
+-- The byte before tells whether the vowel is initial.
 use Rattle.laws.proofs.Kit.{needs}
 use Rattle.spec.specs.Vowels.{rowЯ}
 use Rattle.transcriber.proofs.vowels.row_ya.Statement.{statement}
