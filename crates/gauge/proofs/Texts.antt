@@ -3,11 +3,17 @@ use Rattle.laws.proofs.Kit.{ℕ, _<_, _≤_, arith, _≡_, sym, ap, ⊎-elim, L
 use lib.IntN.{ℤ, natAbs}
 use Rattle.spec.specs.Answers.{numberOf, placeOf, tapeAnswer}
 use Rattle.spec.specs.SpokenLevels.{spoken, levelAnswer, LevelPromise}
+use Rattle.spec.specs.LevelDemands.{LevelDue, outside, noRoomFor}
 use Rattle.spec.specs.Printed.{printedAnswer, afterWriting, spokenAnswer}
 use Rattle.spec.specs.{Tape.tape, Refusals.refusal, declared.Refusal.Refusal, declared.Answer.Answer, declared.Answer.the-variants.Written, declared.Answer.the-variants.Refused}
 use Rattle.laws.proofs.{Bounds.level-small, Demands.level-demands}
 use Rattle.console.proofs.Texts.{Part, part, refusal-short}
 use Rattle.gauge.specs.Reading.{Like}
+
+-- the numbers for a level are 14 and 11
+due-number : {level : ℤ} {room : ℕ} (n p : ℕ) → LevelDue level room n p → n ≤ 14
+due-number n p (outside h) = omega arith
+due-number n p (noRoomFor a h) = omega arith
 
 module _ (level : ℤ) {out out′ : List ℕ} {a : Answer} (p : LevelPromise level out out′ a) (full : length out ≡ 54) where
   -- the answer is the one for that room
@@ -17,7 +23,8 @@ module _ (level : ℤ) {out out′ : List ℕ} {a : Answer} (p : LevelPromise le
   -- the words are put,
   pub level-part : {n k : ℕ} → a ≡ Written n k → Part (spoken level) out′ n
   unfolding numberOf
-  level-part e = ⊎-elim (λ c. part c e) (λ d. absurd (omega (arith, d .number .0, ap numberOf e))) (level-demands level .settled out out′ a p .ended)
+  level-part e = ⊎-elim (λ c. part c e) (λ d. absurd (omega (arith, d .number, ap numberOf e)))
+      (level-demands level .settled out out′ a p .ended)
 
   -- and spoken;
   pub level-spoken : {n k : ℕ} → a ≡ Written n k → spokenAnswer level ≡ tapeAnswer (spoken level) 8192
@@ -29,7 +36,8 @@ module _ (level : ℤ) {out out′ : List ℕ} {a : Answer} (p : LevelPromise le
   unfolding spokenAnswer afterWriting numberOf placeOf
   level-refused {r} e =
       let small = rw (same-answer, e) at (level-small level 54) in
-      let number : r .number ≤ 14 = ⊎-elim (λ c. omega (arith, c .number, ap numberOf e)) (λ d. omega (arith, d .number .1, ap numberOf e)) (level-demands level .settled out out′ a p .ended) in
+      let number : r .number ≤ 14 = ⊎-elim (λ c. omega (arith, c .number, ap numberOf e))
+      (λ d. omega (arith, due-number _ _ (d .place), ap numberOf e)) (level-demands level .settled out out′ a p .ended) in
       (rw (same-answer, e), refusal-short r (omega (arith, number)) (omega (arith, small .place)))
 
 -- A number outside the range is answered like any other outside it.

@@ -30,20 +30,22 @@ module _ (l : Listener) (book : List ℕ) (n set : ℕ) (m buffer : List ℕ) (b
   refused _ _ (noRoomBehind a h) = rw (a .writes, none-accepted m (a .message), sound-read (a .sound), le-leb (leastAfter 0 (a .phrases)) n (a .above), lt-leb (length text) (length buffer) h) refl
 
   abbrev Ends : Type 0
-  Ends = (MayAdd l book n m × (length text ≤ length buffer)) ⊎ ((k : ℕ) × (p : ℕ) × Due k p × (1 ≤ k) × (k ≤ 17))
+  Ends = (MayAdd l book n m × (length text ≤ length buffer)) ⊎ ((k : ℕ) × (p : ℕ) × Due k p × (1 ≤ k))
 
   of-book : mayWrite l ≡ true → NoneFits m → Judged book → Ends
-  of-book w f (isSound fs s e) = ⊎-elim (λ h. inr (_, _, notAboveLast fs w f s h, omega arith, omega arith))
+  of-book w f (isSound fs s e) = ⊎-elim (λ h. inr (_, _, notAboveLast fs w f s h, omega arith))
       (λ h. let a : MayAdd l book n m = record { writes = w; message = f; phrases = fs; sound = s; above = h } in
-      ⊎-elim (λ q. inr (_, _, noRoomBehind a q, omega arith, omega arith)) (λ q. inl (a, q)) (below-or (length buffer) (length text))) (below-or n (leastAfter 0 fs))
-  of-book w f (isRefused k p range d e) = inr (k, p, ofBook k p w f d, omega (arith, range .0), omega (arith, range .1))
+      ⊎-elim (λ q. inr (_, _, noRoomBehind a q, omega arith)) (λ q. inl (a, q)) (below-or (length buffer) (length text)))
+      (below-or n (leastAfter 0 fs))
+  of-book w f (isRefused k p range d e) = inr (k, p, ofBook k p w f d, omega (arith, range .0))
 
   ends : Ends
   ends = either (mayWrite l)
-      (λ w. ⊎-elim (λ a. of-book w (passes-none m (a .1)) (judge book b)) (λ a. let g = given-range (a .given) in inr (_, _, ofMessage _ _ w (a .given), g .0, omega (arith, g .1))) (check-finds m))
-      (λ w. inr (_, _, notDispatch w, omega arith, omega arith))
+      (λ w. ⊎-elim (λ a. of-book w (passes-none m (a .1)) (judge book b))
+      (λ a. inr (_, _, ofMessage _ _ w (a .given), given-range (a .given) .0)) (check-finds m))
+      (λ w. inr (_, _, notDispatch w, omega arith))
 
-  add-ways : Ways 17 (MayAdd l book n m) Due text 0 buffer (addAnswer l book n set m (length buffer))
+  add-ways : Ways (MayAdd l book n m) Due text 0 buffer (addAnswer l book n set m (length buffer))
   add-ways = record { written = written; refused = refused; ends = ends }
 
 -- whatever is answered, the book is left

@@ -19,22 +19,22 @@ use Rattle.laws.proofs.Cuts.{judged, first-bad, rising-to, full-rising,
 use Rattle.laws.proofs.Counting.{tape-count, names-count}
 use Rattle.laws.proofs.{Classes.below-or, Cutting.counts-none, Cutting.two-tapes}
 
--- The ways in which an operation can end: what is due is its text where it accepts and there is room, and else a number, up to its last one, and its place.
-pub record Ways (last : ℕ) (Accepted : Type 0) (Number : ℕ → ℕ → Type 0) (text : List ℕ) (count : ℕ) (out : List ℕ) (due : Answer) : Type 0 where
+-- The ways in which an operation can end: what is due is its text where it accepts and there is room, and else a number and its place.
+pub record Ways (Accepted : Type 0) (Number : ℕ → ℕ → Type 0) (text : List ℕ) (count : ℕ) (out : List ℕ) (due : Answer) : Type 0 where
   pub written : Accepted → length text ≤ length out → due ≡ Written (length text) count
   pub refused : (n p : ℕ) → Number n p → due ≡ Refused (refusal n p)
-  pub ends : (Accepted × (length text ≤ length out)) ⊎ ((n : ℕ) × (p : ℕ) × Number n p × (1 ≤ n) × (n ≤ last))
+  pub ends : (Accepted × (length text ≤ length out)) ⊎ ((n : ℕ) × (p : ℕ) × Number n p × (1 ≤ n))
 
 -- An operation that promises what is due
-module _ {last : ℕ} {Accepted : Type 0} {Number : ℕ → ℕ → Type 0} {text : List ℕ} {count : ℕ} {out : List ℕ} {due : Answer} (ways : Ways last Accepted Number text count out due)
-    {out′ : List ℕ} {r : Answer} (kept : Promise due text out out′ r) where
+module _ {Accepted : Type 0} {Number : ℕ → ℕ → Type 0} {text : List ℕ} {count : ℕ} {out : List ℕ} {due : Answer}
+    (ways : Ways Accepted Number text count out due) {out′ : List ℕ} {r : Answer} (kept : Promise due text out out′ r) where
   -- carries it out where that is its text
   pub carried : Accepted → length text ≤ length out → CarriedOut text count out out′ r
   unfolding outputAfter numberOf placeOf lengthOf liveOf
   carried a h = let p = rw (ways .written a h) at kept in record { output = p .output; number = p .number; place = p .place; length = p .length; live = p .live }
 
   -- is settled
-  pub settled : Settled last Number text count out out′ r
+  pub settled : Settled Number text count out out′ r
   unfolding outputAfter numberOf placeOf lengthOf liveOf
   settled = ⊎-elim
       (λ w. let c = carried (w .0) (w .1) in record { ended = inl c; size = ap length (c .output) ∙ simp (length-append, length-drop) (omega (arith, w .1)) })
@@ -43,7 +43,7 @@ module _ {last : ℕ} {Accepted : Type 0} {Number : ℕ → ℕ → Type 0} {tex
       record {
         ended = inr (record {
           output = p .output;
-          number = (omega (arith, p .number, d .3), omega (arith, p .number, d .4));
+          number = omega (arith, p .number, d .3);
           place = rw (p .number, p .place) (d .2);
           length = p .length;
           live = p .live;
@@ -51,14 +51,16 @@ module _ {last : ℕ} {Accepted : Type 0} {Number : ℕ → ℕ → Type 0} {tex
         size = ap length (p .output);
       }) (ways .ends)
 
-  -- and exact
+  -- answers no number only where it accepts and there is room
+  pub taken : numberOf r ≡ 0 → Accepted × (length text ≤ length out)
+  unfolding numberOf
+  taken z = ⊎-elim (λ w. w) (λ d. absurd (omega (arith, z, kept .number ∙ ap numberOf (ways .refused _ _ (d .2)), d .3))) (ways .ends)
+
+  -- is exact
   pub exactly : Exactly Accepted Number text count out out′ r
   unfolding numberOf placeOf
   exactly = record {
-    accepts = λ h. (
-      λ z. ⊎-elim (λ w. w .0) (λ d. absurd (omega (arith, z, kept .number ∙ ap numberOf (ways .refused _ _ (d .2)), d .3))) (ways .ends),
-      λ a. carried a h .number,
-    );
+    accepts = λ h. (λ z. taken z .0, λ a. carried a h .number);
     gives = λ h a. carried a h;
     refuses = λ n p h. (
       λ q. ⊎-elim (λ w. absurd (omega (arith, q .0, kept .number ∙ ap numberOf (ways .written (w .0) (w .1)))))
@@ -69,9 +71,10 @@ module _ {last : ℕ} {Accepted : Type 0} {Number : ℕ → ℕ → Type 0} {tex
 
   -- and what it has written where it answers no number is its text
   pub handed : numberOf r ≡ 0 → take (lengthOf r) out′ ≡ text
-  unfolding numberOf
-  handed z = ⊎-elim (λ w. let c = carried (w .0) (w .1) in rw (c .length, c .output) (take-at text (drop (length text) out) (length text) refl))
-      (λ d. absurd (omega (arith, z, kept .number ∙ ap numberOf (ways .refused _ _ (d .2)), d .3))) (ways .ends)
+  handed z =
+      let w = taken z in
+      let c = carried (w .0) (w .1) in
+      rw (c .length, c .output) (take-at text (drop (length text) out) (length text) refl)
 
 -- What is due after the check and the list of cuts ends in these ways.
 module _ (m cuts text : List ℕ) (count : ℕ) (out : List ℕ) where
@@ -90,24 +93,27 @@ module _ (m cuts text : List ℕ) (count : ℕ) (out : List ℕ) where
   refused-due n p (wrongCut i f b) = rw (none-accepted m f, first-bad m cuts i b, ne-eqb i (length cuts) (omega (arith, b .within)))
   refused-due n p (tooShort f r h) = rw (none-accepted m f, eq-eqb _ _ (rising-to m cuts r), lt-leb (length text) (length out) h)
 
-  pub check-ways : (Accepted : Type 0) → (Accepted ↔ (NoneFits m × Rising m cuts)) → Ways 12 Accepted (Due m cuts (length text) (length out)) text count out dueAfter
+  pub check-ways : (Accepted : Type 0) → (Accepted ↔ (NoneFits m × Rising m cuts))
+      → Ways Accepted (Due m cuts (length text) (length out)) text count out dueAfter
   check-ways Accepted same = record {
     written = λ a. written-due (same .0 a .0) (same .0 a .1);
     refused = refused-due;
     ends = ⊎-elim
         (λ a. let f = passes-none m (a .1) in
-        ⊎-elim (λ r. ⊎-elim (λ h. inr (_, _, tooShort f r h, omega arith, omega arith)) (λ h. inl (same .1 (f, r), h)) (below-or (length out) (length text)))
-        (λ b. inr (_, _, wrongCut _ f b, omega arith, omega arith)) (judged m cuts))
-        (λ a. let g = given-range (a .given) in inr (_, _, turnedAway _ _ (a .given), g .0, omega arith)) (check-finds m);
+        ⊎-elim (λ r. ⊎-elim (λ h. inr (_, _, tooShort f r h, omega arith)) (λ h. inl (same .1 (f, r), h))
+        (below-or (length out) (length text)))
+        (λ b. inr (_, _, wrongCut _ f b, omega arith)) (judged m cuts))
+        (λ a. inr (_, _, turnedAway _ _ (a .given), given-range (a .given) .0)) (check-finds m);
   }
 
 -- the naming operation and the transcriber have no cuts
-without-cuts : (m text out : List ℕ) → Ways 12 (NoneFits m) (Due m [] (length text) (length out)) text 0 out (dueAfter m [] text 0 out)
+without-cuts : (m text out : List ℕ) → Ways (NoneFits m) (Due m [] (length text) (length out)) text 0 out (dueAfter m [] text 0 out)
 without-cuts m text out = check-ways m [] text 0 out (NoneFits m) (λ f. (f, tt), λ a. a .0)
 
 -- the joiner has
 with-cuts : (m cuts out : List ℕ)
-    → Ways 12 (NoneFits m × Rising m cuts) (Due m cuts (length (joined m cuts)) (length out)) (joined m cuts) (liveCount m cuts) out (dueAfter m cuts (joined m cuts) (liveCount m cuts) out)
+    → Ways (NoneFits m × Rising m cuts) (Due m cuts (length (joined m cuts)) (length out)) (joined m cuts) (liveCount m cuts) out
+    (dueAfter m cuts (joined m cuts) (liveCount m cuts) out)
 with-cuts m cuts out = check-ways m cuts (joined m cuts) (liveCount m cuts) out (NoneFits m × Rising m cuts) (λ a. a, λ a. a)
 
 -- Demand 1.
@@ -115,7 +121,8 @@ pub demand1 : (m : List ℕ) → Demand1 m
 unfolding nameAnswer tapeAnswer joinAnswer badCut badCutFrom checkedNumber checkedPlace checkedCodes checkedNames
 demand1 m = record {
   check = λ r kept. ⊎-elim (λ f. inl (rw (kept .answer, f .0)))
-      (λ f. inr (rw (kept .answer, f .refused) (record { number = given-range (f .given); place = f .given; codes = refl; names = refl }))) (check-finds m);
+      (λ f. inr (rw (kept .answer, f .refused)
+      (record { number = given-range (f .given) .0; place = f .given; codes = refl; names = refl }))) (check-finds m);
   naming = λ out out′ r k. settled (without-cuts m (names m) out) k;
   transcriber = λ out out′ r k. settled (without-cuts m (tape m) out) k;
   joiner = λ cuts out out′ r k. settled (with-cuts m cuts out) k;
@@ -156,12 +163,12 @@ demand3 m f = record {
 }
 
 -- The editor ends in these ways.
-edit-ways : (t out : List ℕ) → Ways 11 (Unit {0}) (EditDue t (length out)) (edited t) 0 out (editAnswer t (length out))
+edit-ways : (t out : List ℕ) → Ways (Unit {0}) (EditDue t (length out)) (edited t) 0 out (editAnswer t (length out))
 unfolding editAnswer within
 edit-ways t out = record {
   written = λ a h. rw (le-leb (length (edited t)) (length out) h);
   refused = λ n p d. rw (d .0, d .1, lt-leb (length (edited t)) (length out) (d .2));
-  ends = ⊎-elim (λ h. inr (_, _, (refl, refl, h), omega arith, omega arith)) (λ h. inl (tt, h)) (below-or (length out) (length (edited t)));
+  ends = ⊎-elim (λ h. inr (_, _, (refl, refl, h), omega arith)) (λ h. inl (tt, h)) (below-or (length out) (length (edited t)));
 }
 
 -- numbers 1 and 2 go by the length alone
@@ -192,15 +199,16 @@ edited-demands t = record {
 }
 
 -- The reader ends in these ways.
-read-ways : (t out : List ℕ) → Ways 13 (Readable t) (ReadDue t (length out)) (decoded t) 0 out (readAnswer t (length out))
+read-ways : (t out : List ℕ) → Ways (Readable t) (ReadDue t (length out)) (decoded t) 0 out (readAnswer t (length out))
 unfolding readAnswer within
 read-ways t out = record {
   written = λ a h. rw (eq-eqb (readTo t) (length t) (run-whole t (a .0) (a .1)), le-leb (length (decoded t)) (length out) h);
   refused = refused;
-  ends = ⊎-elim (λ h. inr (_, _, unreadable _ (stops-at t h), omega arith, omega arith))
+  ends = ⊎-elim (λ h. inr (_, _, unreadable _ (stops-at t h), omega arith))
       (λ h.
       let a : Readable t = (decoded t, whole-run t (omega (arith, read-most t))) in
-      ⊎-elim (λ l. inr (_, _, noRoom a l, omega arith, omega arith)) (λ l. inl (a, l)) (below-or (length out) (length (decoded t)))) (below-or (readTo t) (length t));
+      ⊎-elim (λ l. inr (_, _, noRoom a l, omega arith)) (λ l. inl (a, l)) (below-or (length out) (length (decoded t))))
+      (below-or (readTo t) (length t));
 }
   where
     refused : (n p : ℕ) → ReadDue t (length out) n p → readAnswer t (length out) ≡ Refused (refusal n p)
@@ -219,7 +227,8 @@ no-run-unreadable t out out′ r k f = ⊎-elim (λ h. k .number ∙ ap numberOf
     (λ h. absurd (f (decoded t, whole-run t (omega (arith, read-most t))))) (below-or (readTo t) (length t))
 
 -- The writer has no cuts.
-write-ways : (m out : List ℕ) → Ways 12 (NoneFits m) (Due m [] (length (encoded m)) (length out)) (encoded m) 0 out (writeAnswer m (length out))
+write-ways : (m out : List ℕ)
+    → Ways (NoneFits m) (Due m [] (length (encoded m)) (length out)) (encoded m) 0 out (writeAnswer m (length out))
 unfolding writeAnswer badCut badCutFrom
 write-ways m out = without-cuts m (encoded m) out
 
@@ -234,9 +243,11 @@ read-demands t = record {
   size = omega (arith, decoded-size t, read-most t);
   handed = λ out out′ r k. handed (read-ways t out) k;
   edits = edited-demands (decoded t);
-  back = λ a f out out′ r k h.
+  back = λ out out′ r k z f text text′ s w h.
+      let a = taken (read-ways t out) k z .0 in
       let e : encoded (decoded t) ≡ t = sym (whole-run t (run-whole t (a .0) (a .1)) .text) in
-      rw e at (carried (write-ways (decoded t) out) k f (rw e h));
+      let b = handed (read-ways t out) k z in
+      rw e at (carried (write-ways (decoded t) text) (rw b at w) (rw b at f) (rw e h));
 }
 
 -- What holds for a message that is to be written.
@@ -246,20 +257,24 @@ write-demands m = record {
   exact = λ out out′ r k. exactly (write-ways m out) k;
   wellFormed = λ f. run-formed m (accepted-rows m f);
   size = encoded-size m;
-  back = λ f out out′ r k h.
-      let rows = accepted-rows m f in
+  handed = λ out out′ r k. handed (write-ways m out) k;
+  back = λ out out′ r k z bytes bytes′ s w h.
+      let rows = accepted-rows m (taken (write-ways m out) k z .0) in
       let e = read-back m rows in
-      rw e at (carried (read-ways (encoded m) out) k (m, record { rows = rows; text = refl }) (rw e h));
+      let b = handed (write-ways m out) k z in
+      rw e at (carried (read-ways (encoded m) bytes) (rw b at w) (m, record { rows = rows; text = refl }) (rw e h));
 }
 
 -- A level is spoken or refused in these ways.
-level-ways : (level : ℤ) (out : List ℕ) → Ways 14 (InRange level) (LevelDue level (length out)) (spoken level) 0 out (levelAnswer level (length out))
+level-ways : (level : ℤ) (out : List ℕ)
+    → Ways (InRange level) (LevelDue level (length out)) (spoken level) 0 out (levelAnswer level (length out))
 unfolding levelAnswer within
 level-ways level out = record {
   written = λ a h. rw (le-leb (natAbs level) 9999 a, le-leb (length (spoken level)) (length out) h);
   refused = refused;
-  ends = ⊎-elim (λ h. inr (_, _, outside h, omega arith, omega arith))
-      (λ a. ⊎-elim (λ h. inr (_, _, noRoomFor a h, omega arith, omega arith)) (λ h. inl (a, h)) (below-or (length out) (length (spoken level)))) (below-or 9999 (natAbs level));
+  ends = ⊎-elim (λ h. inr (_, _, outside h, omega arith))
+      (λ a. ⊎-elim (λ h. inr (_, _, noRoomFor a h, omega arith)) (λ h. inl (a, h)) (below-or (length out) (length (spoken level))))
+      (below-or 9999 (natAbs level));
 }
   where
     refused : (n p : ℕ) → LevelDue level (length out) n p → levelAnswer level (length out) ≡ Refused (refusal n p)

@@ -1,4 +1,5 @@
--- A part of an accepted message, cut at its breaks, is accepted: every row looks back no further than the break before, and a break last in a part would stand before a break or last in the message.
+-- A part of an accepted message, cut at its breaks, is accepted: every row looks back no further than the break before and ahead no
+-- further than the next break, but for a break last; and a break last in a part would stand before a break or last in the message.
 use Rattle.laws.proofs.Kit.{ℕ, zero, suc, _+_, _-_, _<_, _≤_, _≡_, refl, sym, _∙_, Bool, true, false, _||_, or-true, true≢false, List, [], _∷_, _++_, append-nil, _⊎_, inl, inr, ⊎-elim, arith, length, take, drop, getD, length-take, length-drop, take-all, take-append-drop, drop-cons, drop-drop, drop-length, getD-take, getD-drop}
 use Rattle.spec.specs.Refusals.{vowelByte, signByte, hardSignByte, first, none, adjacent, vowelSign, lettersBefore, row3, row4, row5, row6, row7, row8, row9, row10, rows, fitsIn, beforeAt, checkOf, NoneFits}
 use Rattle.spec.specs.{Letters.isBreak, Letters.isMark, Joints.RisingFrom, Joints.EachPartFrom, declared.Counts.Counts, declared.Checked.the-variants.Accepted}
@@ -68,10 +69,17 @@ rows-over k x (d ∷ t) b after o =
       letters-over d t o x,
     )
 
--- Of the bytes after it a row asks only whether a break is last.
-pub rows-after : (k : ℕ) (x : List ℕ) (b : ℕ) (after after′ : List ℕ) → (isBreak b ≡ true → none after ≡ none after′) → fitsIn rows k x b after ≡ fitsIn rows k x b after′
-unfolding fitsIn rows row3 row4 row5 row6 row7 row8 row9 row10
-rows-after k x b after after′ n = either (isBreak b) (λ d. rw (n d)) (λ d. rw d)
+-- Whether a break is last: the one row that looks past the next break.
+last-after : (x : List ℕ) (b : ℕ) (p q : List ℕ) → (isBreak b ≡ true → none p ≡ none q) → row4 x b p ≡ row4 x b q
+unfolding row4
+last-after x b p q n = either (isBreak b) (λ d. rw (n d)) (λ d. rw d)
+
+-- A row looks ahead no further than the next break or the end: it fits before the bytes p of a part just when it fits before those and
+-- the bytes y behind the part, where a break is last in both or in neither. A row that looks ahead as far as a break adds a line here.
+pub rows-after : (k : ℕ) (x : List ℕ) (b : ℕ) (p y : List ℕ) → Opens y → (isBreak b ≡ true → none (p ++ y) ≡ none p)
+    → fitsIn rows k x b (p ++ y) ≡ fitsIn rows k x b p
+unfolding fitsIn rows row3 row5 row6 row7 row8 row9 row10
+rows-after k x b p y o n = rw (last-after x b (p ++ y) p n)
 
 -- a clear break is not last
 pub clear-followed : (x : List ℕ) (b : ℕ) (after : List ℕ) → Clear x b after → isBreak b ≡ true → none after ≡ false
@@ -79,9 +87,10 @@ unfolding fitsIn rows row4
 clear-followed x b after c d = or-false (none after) _ (or-false (none x) _ (rw d at (c 4)) .1) .0
 
 -- a byte that is clear in a message is clear in a part, where no break is last
-clear-part : (x t : List ℕ) (b : ℕ) (after after′ : List ℕ) → Opens t → (isBreak b ≡ true → none after′ ≡ false) → Clear (x ++ t) b after → Clear x b after′
-clear-part x t b after after′ o n c k =
-    rows-after k x b after′ after (λ d. n d ∙ sym (clear-followed (x ++ t) b after c d)) ∙ sym (rows-over k x t b after o) ∙ c k
+clear-part : (x t : List ℕ) (b : ℕ) (p y : List ℕ) → Opens t → Opens y → (isBreak b ≡ true → none p ≡ false)
+    → Clear (x ++ t) b (p ++ y) → Clear x b p
+clear-part x t b p y o q n c k =
+    sym (rows-after k x b p y q (λ d. clear-followed (x ++ t) b (p ++ y) c d ∙ sym (n d))) ∙ sym (rows-over k x t b (p ++ y) o) ∙ c k
 
 -- a clear byte that is last, or before a break, is no break
 pub last-firm : (x : List ℕ) (b : ℕ) (y : List ℕ) → Opens y → ClearFrom x (b ∷ y) → isBreak b ≡ false
@@ -93,8 +102,8 @@ last-firm x b (d ∷ y) o c = refuted _ (λ e. true≢false (rw (o, e, or-true) 
 part-clear : (x t p y : List ℕ) → Opens t → Opens y → ClearFrom (x ++ t) (p ++ y) → ClearFrom x p
 unfolding none
 part-clear x t [] y o q c = tt
-part-clear x t (b ∷ []) y o q c = (clear-part x t b y [] o (λ d. absurd (true≢false (sym d ∙ last-firm (x ++ t) b y q c))) (c .0), tt)
-part-clear x t (b ∷ d ∷ p) y o q c = (clear-part x t b _ (d ∷ p) o (λ _. refl) (c .0), part-clear (b ∷ x) t (d ∷ p) y o q (c .1))
+part-clear x t (b ∷ []) y o q c = (clear-part x t b [] y o q (λ d. absurd (true≢false (sym d ∙ last-firm (x ++ t) b y q c))) (c .0), tt)
+part-clear x t (b ∷ d ∷ p) y o q c = (clear-part x t b (d ∷ p) y o q (λ _. refl) (c .0), part-clear (b ∷ x) t (d ∷ p) y o q (c .1))
 
 module _ (m : List ℕ) (a e : ℕ) where
   -- a part has its length

@@ -45,10 +45,10 @@ module _ (x : ℕ) (b : List ℕ) (q : Passes b) (d : isBreak x ≡ true) where
   clear-join : (before : List ℕ) (c : ℕ) (a : List ℕ) → ClearFrom before (c ∷ a) → ClearFrom before ((c ∷ a) ++ (x ∷ b))
   unfolding none first beforeAt
   clear-join before c [] p = (
-    λ k. rows-after k before c (x ∷ b) [] (λ e. sym (clear-followed before c [] (p .0) e)) ∙ p .0 k,
+    λ k. rows-after k before c [] (x ∷ b) d (λ e. sym (clear-followed before c [] (p .0) e)) ∙ p .0 k,
     (break-clear (c ∷ before) x b d refl (last-firm before c [] tt p) (none-some b (q .some)), clear-over [] (x ∷ c ∷ before) b d (places-clear b (q .rows) b 0 refl)),
   )
-  clear-join before c (e ∷ a) p = (λ k. rows-after k before c _ (e ∷ a) (λ _. refl) ∙ p .0 k, clear-join (c ∷ before) e a (p .1))
+  clear-join before c (e ∷ a) p = (λ k. rows-after k before c (e ∷ a) (x ∷ b) d (λ _. refl) ∙ p .0 k, clear-join (c ∷ before) e a (p .1))
 
   pub passes-join : (a : List ℕ) → Passes a → length (a ++ (x ∷ b)) ≤ 4096 → Passes (a ++ (x ∷ b))
   unfolding beforeAt

@@ -28,10 +28,10 @@ module _ (m : List ℕ) {out out′ : List ℕ} {a : Answer} (p : EditPromise m 
       let f : editAnswer m (length out) ≡ Written (length (edited m)) 0 = rw (le-leb (length (edited m)) (length out) (omega (arith, edited-demands m .size))) in
       true≢false (ap isWritten (sym f ∙ sym (p .answer) ∙ e))
 
--- a place that the reader gives is within the text
-due-place : {t : List ℕ} {room : ℕ} (n p : ℕ) → ReadDue t room n p → p ≤ length t
-due-place n p (unreadable q s) = omega (arith, s .within)
-due-place {t} n p (noRoom a l) = read-demands t .size
+-- the reader's numbers are 13 and 11, and a place that it gives is within the text
+due-few : {t : List ℕ} {room : ℕ} (n p : ℕ) → ReadDue t room n p → (n ≤ 13) × (p ≤ length t)
+due-few n p (unreadable q s) = (omega arith, omega (arith, s .within))
+due-few {t} n p (noRoom a l) = (omega arith, read-demands t .size)
 
 -- The reader, lent as much as the text has
 module _ (t : List ℕ) {out out′ : List ℕ} {a : Answer} (p : ReadPromise t out out′ a) (h : length t ≤ length out) where
@@ -55,7 +55,8 @@ module _ (t : List ℕ) {out out′ : List ℕ} {a : Answer} (p : ReadPromise t 
 
   -- its numbers have few digits
   few : (numberOf a ≤ 13) × (placeOf a ≤ length t)
-  few = ⊎-elim (λ c. (omega (arith, c .number), omega (arith, c .place))) (λ d. (d .number .1, due-place _ _ (d .place))) (read-demands t .settled out out′ a p .ended)
+  few = ⊎-elim (λ c. (omega (arith, c .number), omega (arith, c .place))) (λ d. due-few _ _ (d .place))
+      (read-demands t .settled out out′ a p .ended)
 
   module _ (short : length t ≤ 65536) where
     -- what is read is edited and spoken

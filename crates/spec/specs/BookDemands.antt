@@ -90,7 +90,8 @@ pub record BookDemands (buffer : List ℕ) (used : ℕ) : Type 0 where
       → FindPromise l buffer used n old new r → FindPromise l buffer₂ used₂ n old new₂ r₂ → (r₂ ≡ r) × (new₂ ≡ new)
   -- an addition is carried out, or refused with every byte left
   pub settled : (l : Listener) (n set : ℕ) (m buffer′ : List ℕ) (r : Answer) → AddPromise l buffer used n set m buffer′ r
-      → Settled 17 (AddDue l (bookIn buffer used) n set m (length buffer)) (withAddition (bookIn buffer used) n set m) 0 buffer buffer′ r
+      → Settled (AddDue l (bookIn buffer used) n set m (length buffer))
+      (withAddition (bookIn buffer used) n set m) 0 buffer buffer′ r
   -- and exact
   pub exact : (l : Listener) (n set : ℕ) (m buffer′ : List ℕ) (r : Answer) → AddPromise l buffer used n set m buffer′ r
       → Exactly (MayAdd l (bookIn buffer used) n m) (AddDue l (bookIn buffer used) n set m (length buffer)) (withAddition (bookIn buffer used) n set m) 0 buffer buffer′ r

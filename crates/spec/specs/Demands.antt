@@ -31,22 +31,24 @@ pub record CarriedOut (text : List ℕ) (count : ℕ) (out out′ : List ℕ) (r
   pub length : lengthOf r ≡ length text
   pub live : liveOf r ≡ count
 
--- It is refused with a number of the tables, up to the last one that it has, and the place that belongs to it; the refusal holds nothing else, and the output keeps every byte.
-pub record TurnedAway (last : ℕ) (Number : ℕ → ℕ → Type 0) (out out′ : List ℕ) (r : Answer) : Type 0 where
+-- It is refused with a number of the tables and the place that belongs to it, both as they are due;
+-- the refusal holds nothing else, and the output keeps every byte.
+pub record TurnedAway (Number : ℕ → ℕ → Type 0) (out out′ : List ℕ) (r : Answer) : Type 0 where
   pub output : out′ ≡ out
-  pub number : (1 ≤ numberOf r) × (numberOf r ≤ last)
+  pub number : 1 ≤ numberOf r
   pub place : Number (numberOf r) (placeOf r)
   pub length : lengthOf r ≡ 0
   pub live : liveOf r ≡ 0
 
 -- One or the other, and nothing is put outside the output: it is as long as it was.
-pub record Settled (last : ℕ) (Number : ℕ → ℕ → Type 0) (text : List ℕ) (count : ℕ) (out out′ : List ℕ) (r : Answer) : Type 0 where
-  pub ended : CarriedOut text count out out′ r ⊎ TurnedAway last Number out out′ r
+pub record Settled (Number : ℕ → ℕ → Type 0) (text : List ℕ) (count : ℕ)
+    (out out′ : List ℕ) (r : Answer) : Type 0 where
+  pub ended : CarriedOut text count out out′ r ⊎ TurnedAway Number out out′ r
   pub size : length out′ ≡ length out
 
 -- The check's refusal holds no counts, and it is lent nothing.
 pub record CheckTurnedAway (m : List ℕ) (r : Checked) : Type 0 where
-  pub number : (1 ≤ checkedNumber r) × (checkedNumber r ≤ 10)
+  pub number : 1 ≤ checkedNumber r
   pub place : Given m (checkedNumber r) (checkedPlace r)
   pub codes : checkedCodes r ≡ 0
   pub names : checkedNames r ≡ 0
@@ -57,11 +59,12 @@ pub record Demand1 (m : List ℕ) : Type 0 where
   pub check : (r : Checked) → CheckPromise m r → (checkedNumber r ≡ 0) ⊎ CheckTurnedAway m r
   -- and so each operation that is lent an output: carried out, or refused with every byte left
   pub naming : (out out′ : List ℕ) (r : Answer) → NamePromise m out out′ r
-      → Settled 12 (Due m [] (length (names m)) (length out)) (names m) 0 out out′ r
+      → Settled (Due m [] (length (names m)) (length out)) (names m) 0 out out′ r
   pub transcriber : (out out′ : List ℕ) (r : Answer) → TranscribePromise m out out′ r
-      → Settled 12 (Due m [] (length (tape m)) (length out)) (tape m) 0 out out′ r
+      → Settled (Due m [] (length (tape m)) (length out)) (tape m) 0 out out′ r
   pub joiner : (cuts out out′ : List ℕ) (r : Answer) → JoinPromise m cuts out out′ r
-      → Settled 12 (Due m cuts (length (joined m cuts)) (length out)) (joined m cuts) (liveCount m cuts) out out′ r
+      → Settled (Due m cuts (length (joined m cuts)) (length out))
+      (joined m cuts) (liveCount m cuts) out out′ r
 
 -- An operation accepts exactly what it must, where Accepted says what that is, and refuses exactly as it must.
 pub record Exactly (Accepted : Type 0) (Number : ℕ → ℕ → Type 0) (text : List ℕ) (count : ℕ) (out out′ : List ℕ) (r : Answer) : Type 0 where

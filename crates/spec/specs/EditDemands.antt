@@ -19,7 +19,8 @@ EditDue t room n p = (n ≡ 11) × (p ≡ length (edited t)) × (room < length (
 -- The demands for a text t of any bytes and any length, through its edited form.
 pub record EditedDemands (t : List ℕ) : Type 0 where
   -- the editor is carried out, or refused with every byte left
-  pub settled : (out out′ : List ℕ) (r : Answer) → EditPromise t out out′ r → Settled 11 (EditDue t (length out)) (edited t) 0 out out′ r
+  pub settled : (out out′ : List ℕ) (r : Answer) → EditPromise t out out′ r
+      → Settled (EditDue t (length out)) (edited t) 0 out out′ r
   -- lent an output long enough, it accepts every text
   pub exact : (out out′ : List ℕ) (r : Answer) → EditPromise t out out′ r → Exactly (Unit {0}) (EditDue t (length out)) (edited t) 0 out out′ r
   -- what it has written is the edited text, the message that is handed on

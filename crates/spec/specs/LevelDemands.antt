@@ -21,7 +21,8 @@ pub data LevelDue (level : ℤ) (room : ℕ) : ℕ → ℕ → Type 0 where
 -- What holds for any signed number that is to be spoken as a level.
 pub record LevelDemands (level : ℤ) : Type 0 where
   -- it is spoken, or refused with every byte left
-  pub settled : (out out′ : List ℕ) (r : Answer) → LevelPromise level out out′ r → Settled 14 (LevelDue level (length out)) (spoken level) 0 out out′ r
+  pub settled : (out out′ : List ℕ) (r : Answer) → LevelPromise level out out′ r
+      → Settled (LevelDue level (length out)) (spoken level) 0 out out′ r
   -- lent an output long enough, exactly the levels of the range are spoken
   pub exact : (out out′ : List ℕ) (r : Answer) → LevelPromise level out out′ r → Exactly (InRange level) (LevelDue level (length out)) (spoken level) 0 out out′ r
   -- what was written are its words, the message that is handed on

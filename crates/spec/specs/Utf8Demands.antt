@@ -21,7 +21,8 @@ pub data ReadDue (t : List ℕ) (room : ℕ) : ℕ → ℕ → Type 0 where
 -- What holds for a text t of any bytes and any length that is to be read as UTF-8.
 pub record ReadDemands (t : List ℕ) : Type 0 where
   -- the reader is carried out, or refused with every byte left
-  pub settled : (out out′ : List ℕ) (r : Answer) → ReadPromise t out out′ r → Settled 13 (ReadDue t (length out)) (decoded t) 0 out out′ r
+  pub settled : (out out′ : List ℕ) (r : Answer) → ReadPromise t out out′ r
+      → Settled (ReadDue t (length out)) (decoded t) 0 out out′ r
   -- lent an output long enough, it accepts exactly the runs of the table's sequences
   pub exact : (out out′ : List ℕ) (r : Answer) → ReadPromise t out out′ r → Exactly (Readable t) (ReadDue t (length out)) (decoded t) 0 out out′ r
   -- however much is lent, it refuses all others with 13, and so every malformed text
@@ -34,18 +35,26 @@ pub record ReadDemands (t : List ℕ) : Type 0 where
   -- what it has written are the bytes that are handed on, to the editor first
   pub handed : (out out′ : List ℕ) (r : Answer) → ReadPromise t out out′ r → numberOf r ≡ 0 → take (lengthOf r) out′ ≡ decoded t
   pub edits : EditedDemands (decoded t)
-  -- where they are an accepted message the writer gives the text back
-  pub back : Readable t → NoneFits (decoded t) → (out out′ : List ℕ) (r : Answer) → WritePromise (decoded t) out out′ r → length t ≤ length out
-      → CarriedOut t 0 out out′ r
+  -- where they are an accepted message the writer, handed them, gives the text back
+  pub back : (out out′ : List ℕ) (r : Answer) → ReadPromise t out out′ r → numberOf r ≡ 0
+      → NoneFits (take (lengthOf r) out′) → (text text′ : List ℕ) (s : Answer)
+      → WritePromise (take (lengthOf r) out′) text text′ s → length t ≤ length text
+      → CarriedOut t 0 text text′ s
 
 -- What holds for any bytes m that are to be written as UTF-8.
 pub record WriteDemands (m : List ℕ) : Type 0 where
   -- the writer is carried out, or refused by the check's numbers and then 11, with every byte left
-  pub settled : (out out′ : List ℕ) (r : Answer) → WritePromise m out out′ r → Settled 12 (Due m [] (length (encoded m)) (length out)) (encoded m) 0 out out′ r
+  pub settled : (out out′ : List ℕ) (r : Answer) → WritePromise m out out′ r
+      → Settled (Due m [] (length (encoded m)) (length out)) (encoded m) 0 out out′ r
   -- lent an output long enough, it accepts exactly what the check accepts
   pub exact : (out out′ : List ℕ) (r : Answer) → WritePromise m out out′ r → Exactly (NoneFits m) (Due m [] (length (encoded m)) (length out)) (encoded m) 0 out out′ r
   -- what it writes is UTF-8, and at most twice as long as the message
   pub wellFormed : NoneFits m → WellFormed (encoded m)
   pub size : length (encoded m) ≤ 2 * length m
-  -- the reader gives the message back, with letters as they stood
-  pub back : NoneFits m → (out out′ : List ℕ) (r : Answer) → ReadPromise (encoded m) out out′ r → length m ≤ length out → CarriedOut m 0 out out′ r
+  -- what it has written are the message's octets, the text that is handed on
+  pub handed : (out out′ : List ℕ) (r : Answer) → WritePromise m out out′ r → numberOf r ≡ 0
+      → take (lengthOf r) out′ ≡ encoded m
+  -- the reader, handed them, gives the message back, with letters as they stood
+  pub back : (out out′ : List ℕ) (r : Answer) → WritePromise m out out′ r → numberOf r ≡ 0
+      → (bytes bytes′ : List ℕ) (s : Answer) → ReadPromise (take (lengthOf r) out′) bytes bytes′ s
+      → length m ≤ length bytes → CarriedOut m 0 bytes bytes′ s
