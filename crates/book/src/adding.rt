@@ -10,13 +10,13 @@ use crate::reading::book_end;
 use crate::reading::walk;
 use crate::records;
 use crate::records::put_head;
+use message::answers::refused;
 use message::check::check;
 use message::classify::class_table;
 use spec::Answer;
 use spec::Checked;
 use spec::Listener;
 use spec::Refusal;
-use transcriber::answers::refused;
 use transcriber::tables::sound_table;
 use transcriber::tape::write_tape;
 

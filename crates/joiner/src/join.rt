@@ -12,13 +12,13 @@ ghost use Rattle.joiner.specs.Writing.{TapeDue, PutBefore, PartDue, outs
 use crate::Progress;
 use crate::joints::changes_at;
 use message::alphabet;
+use message::answers::refused;
 use message::check::check;
 use message::classes::ClassTable;
 use message::classify::class_table;
 use spec::Answer;
 use spec::Checked;
 use spec::Refusal;
-use transcriber::answers::refused;
 use transcriber::codes;
 use transcriber::tables::SoundTable;
 use transcriber::tables::sound_table;

@@ -1,10 +1,10 @@
 -- The counts of codes and names letter by letter are the lengths of the tape and of the naming, for every message: passes 4 and 5 give each
 -- sound one code, and pass 1 takes away only letters that are then counted none and change nothing about the letter after them.
-use Rattle.laws.proofs.Kit.{ℕ, suc, _+_, _≡_, refl, ap, _∙_, Bool, true, false, cond, _&&_, List, [], _∷_, _++_, arith, eqb, length, length-append}
+use Rattle.laws.proofs.Kit.{ℕ, _+_, _≡_, refl, ap, _∙_, Bool, true, false, cond, _&&_, List, [], _∷_, _++_, arith, eqb, length, length-append}
 use Rattle.spec.specs.Alphabet.{«е», «ё», «и», «о», «ю», «я»}
 use Rattle.spec.specs.Letters.{Letter, Message, last, more, read, plainVowels, softeningVowels, isGap, isSign, isVowel}
 use Rattle.spec.specs.Elision.{elideFrom, elide}
-use Rattle.spec.specs.Syllables.{Facts, factsOf, coverAfter, syllableOf, nameOf, namesFrom}
+use Rattle.spec.specs.Syllables.{Facts, factsOf, coverAfter, syllableOf, namesFrom}
 use Rattle.spec.specs.Vowels.{glides, endsHard}
 use Rattle.spec.specs.Phones.{Phone, vowelPhones, phonesOf, phonesFrom}
 use Rattle.spec.specs.Tape.{wordTape, segment, sounds, wordNames, namesOf, names}

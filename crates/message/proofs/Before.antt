@@ -1,6 +1,6 @@
 -- What stands before a place is told in three ways: by the last letter of the word, by the byte before, and by the kind. They agree in all that elision and the syllables ask: which consonant it is, if any, and
 -- whether it is a sign, and which. Only a break and a mark are no letters, and a mark stands right after a vowel.
-use Rattle.laws.proofs.Kit.{ℕ, zero, suc, _<_, _≤_, _≡_, refl, sym, _∙_, true, false, false≢true, List, [], _∷_, _++_, eqb, length, getD, eqb-true, arith}
+use Rattle.laws.proofs.Kit.{ℕ, zero, suc, _<_, _≤_, _≡_, refl, sym, _∙_, true, false, false≢true, List, [], _∷_, _++_, eqb, length, getD, eqb-true}
 use Rattle.spec.specs.Letters.{small, hardOnly, paired, softOnly, signs, plainVowels, softeningVowels, isMark, isBreak, isVowel, isSign, isConsonant}
 use Rattle.spec.specs.{Alphabet.mark, Alphabet.«ь», Tables.among, Refusals.vowelByte}
 use Rattle.message.specs.{Classes.isConsonantClass, Steps.isSignKind, Steps.isSoftSignKind, Steps.kindAt, Places.lastAt, Places.Steady}

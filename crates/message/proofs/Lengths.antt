@@ -7,7 +7,7 @@ use Rattle.spec.specs.Syllables.{coverAfter, incomplete}
 use Rattle.spec.specs.Counting.{soundCount, codesLeft, namesLeft, codeCountFrom, nameCountFrom, codeCount, nameCount}
 use Rattle.spec.specs.Refusals.{vowelByte, signByte}
 use Rattle.spec.specs.{Elision.elides, Vowels.bare, Vowels.glides, declared.Cover.the-variants.Bare, declared.Cover.the-variants.Covered}
-use Rattle.message.specs.Classes.{classOf, classCount, isBreakClass, isSignClass, isConsonantClass, isVowelClass, isLetterClass}
+use Rattle.message.specs.Classes.{classOf, classCount, isBreakClass, isSignClass, isConsonantClass, isLetterClass}
 use Rattle.message.specs.Steps.{isSignKind, isSoftSignKind, kindAt, widthIn, widthAt, codesTo, namesIn, namesTo, tailNames}
 use Rattle.message.specs.Places.{lastAt, wordAt, letterOf, Steady}
 use Rattle.message.proofs.Left.{read-letter, read-mark, read-break, read-end, last-letter, last-mark, last-break}

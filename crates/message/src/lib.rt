@@ -1,4 +1,5 @@
 pub mod alphabet;
+pub mod answers;
 pub mod check;
 pub mod classes;
 pub mod classify;

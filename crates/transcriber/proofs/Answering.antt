@@ -1,17 +1,13 @@
--- What an operation answers after the check, and what it leaves in the lent output, in its three cases: refused, too little room, written.
-use Rattle.laws.proofs.Kit.{ℕ, _<_, _≤_, _≡_, refl, List, _++_, length, drop}
-use Rattle.spec.specs.Answers.{within, afterCheck, outputAfter, Promise}
-use Rattle.spec.specs.{Refusals.refusal, declared.Refusal.Refusal, declared.Counts.Counts, declared.Checked.Checked, declared.Answer.Answer, declared.Answer.the-variants.Written, declared.Answer.the-variants.Refused}
-use Rattle.laws.proofs.Promises.{promised, promised-short, promised-written}
+-- What an operation answers for a message that the check accepts, and what it leaves in the lent output: too little room, or written.
+use Rattle.laws.proofs.Kit.{ℕ, _<_, _≤_, _≡_, List, _++_, length, drop}
+use Rattle.spec.specs.Answers.{within, afterCheck, Promise}
+use Rattle.spec.specs.declared.{Counts.Counts, Checked.Checked, Answer.the-variants.Written, Answer.the-variants.Refused}
+use Rattle.spec.specs.Refusals.{refusal}
+use Rattle.laws.proofs.Promises.{promised-short, promised-written}
 use Rattle.spec.specs.declared.Checked.the-variants as checked
 
--- a message that the check refuses leaves the output as it is
-pub answered-refused : {c : Checked} {f : Refusal} {text out : List ℕ} (a b : Answer) → c ≡ checked.Refused f → Promise (afterCheck c a) text out out (afterCheck c b)
-unfolding afterCheck outputAfter
-answered-refused a b e = rw e (promised _ _ _ _ _ refl refl)
-
 module _ {c : Checked} {counts : Counts} (e : c ≡ checked.Accepted counts) {n k : ℕ} (same : k ≡ n) {text out : List ℕ} where
-  -- so does one whose answer has no room
+  -- one whose answer has no room leaves the output as it is
   pub answered-short : length out < k → Promise (afterCheck c (within (length out) n 0)) text out out (Refused (refusal 11 k))
   unfolding afterCheck
   answered-short h = rw e (promised-short same 0 h)

@@ -1,4 +1,3 @@
-pub mod answers;
 mod before;
 pub mod codes;
 pub mod consonants;

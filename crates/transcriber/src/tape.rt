@@ -11,7 +11,6 @@ ghost use Rattle.transcriber.specs.Walk.{sungCodes, Lent, ClassAt, Ready
 use crate::LevelRun;
 use crate::Right;
 use crate::Vowel;
-use crate::answers::refused;
 use crate::before::class_before;
 use crate::codes;
 use crate::consonants::VOICELESS_END;
@@ -29,6 +28,7 @@ use crate::tables::sound_table;
 use crate::vowels::first_code;
 use crate::vowels::vowel_at;
 use message::alphabet;
+use message::answers::refused;
 use message::check::check;
 use message::classes;
 use message::classes::ClassTable;

@@ -3,8 +3,7 @@ use Rattle.laws.proofs.Kit.{_≤_, _≡_, sym, _∙_, arith, length, length-tak
 use Rattle.spec.specs.Book.{addAnswer, afterListener}
 use Rattle.spec.specs.{Tape.tape, Refusals.checkOf, declared.Checked.the-variants.Accepted}
 use Rattle.laws.proofs.{Accepted.accepted-counts, Accepted.accepted-passes, Sizes.tape-size}
-use Rattle.message.proofs.Steadiness.{accepted-steady}
-use Rattle.transcriber.proofs.Answering.{answered-refused}
+use Rattle.message.proofs.{Answering.answered-refused, Steadiness.accepted-steady}
 use Rattle.book.proofs.Promised.{add-refused, add-short, add-written}
 use Rattle.book.proofs.adding.append.Statement.{statement}
 use Rattle.book.proofs.adding.append.Tie as tie

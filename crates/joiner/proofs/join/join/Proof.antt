@@ -1,7 +1,7 @@
 -- The refusals come in the definition's order, and else the second tape is written, which is as long as the message's.
 use Rattle.laws.proofs.Kit.{_≡_, sym, _∙_, arith, length-take-le, needs}
 use Rattle.spec.specs.{Refusals.checkOf, Answers.joinAnswer, declared.Checked.the-variants.Accepted}
-use Rattle.transcriber.proofs.Answering.{answered-refused}
+use Rattle.message.proofs.Answering.{answered-refused}
 use Rattle.joiner.proofs.Answering.{join-cut, join-short, tape-due, join-written}
 use Rattle.joiner.proofs.join.join.Statement.{statement}
 use Rattle.joiner.proofs.join.join.Tie as tie

@@ -2,8 +2,8 @@
 use Rattle.laws.proofs.Kit.{_≡_, sym, _∙_, arith, needs, length}
 use Rattle.spec.specs.{Refusals.checkOf, Tape.names, Answers.nameAnswer, declared.Checked.the-variants.Accepted}
 use Rattle.laws.proofs.Accepted.{accepted-counts}
-use Rattle.message.proofs.Steadiness.{accepted-steady}
-use Rattle.transcriber.proofs.Answering.{answered-refused, answered-short, answered-written}
+use Rattle.message.proofs.{Answering.answered-refused, Steadiness.accepted-steady}
+use Rattle.transcriber.proofs.Answering.{answered-short, answered-written}
 use Rattle.transcriber.proofs.naming.name.Statement.{statement}
 use Rattle.transcriber.proofs.naming.name.Tie as tie
 
