@@ -1,4 +1,5 @@
 pub mod Classes
+pub mod LevelSteps
 pub mod Word
 pub mod Elided
 pub mod Counting

@@ -1,16 +1,16 @@
--- The run of the levels' step: a mark makes the vowel before it stressed, the vowel before that is of level 1, and those further left are of level 2, or 1 where the word has no mark. No
--- byte is stepped over more than twice.
-use Rattle.laws.proofs.Kit.{ℕ, zero, suc, _<_, _≤_, _≡_, refl, sym, ap, _∙_, Bool, true, false, true≢false, cond, _||_, not, arith, List, [], _∷_, length, getD, drop, drop-length, add-one}
+-- The run of the levels' step: a mark makes the vowel before it stressed, the vowel before that is of level 1, and those further left are of level 2, or 1 where the word has no mark. The
+-- steps are those that the definition counts.
+use Rattle.laws.proofs.Kit.{ℕ, zero, suc, _+_, _<_, _≡_, refl, sym, ap, _∙_, Bool, true, false, true≢false, cond, _||_, not, arith, List, [], _∷_, length, getD, drop, drop-length, add-one}
 use Rattle.spec.specs.Letters.{between, isBreak, isMark, beginsWithMark}
-use Rattle.spec.specs.{Refusals.vowelByte, Syllables.nextStressed, Syllables.levelOf, LevelSteps.StepsSuffice}
+use Rattle.spec.specs.{Refusals.vowelByte, Syllables.nextStressed, Syllables.levelOf, LevelSteps.backAt, LevelSteps.backTo, LevelSteps.levelSteps}
 use Rattle.spec.specs.declared.Level.the-variants.{Stressed, First, Second}
 use Rattle.message.specs.{Classes.classes, Classes.classOf, Places.Steady, Places.letterOf, Places.wordAt}
 use Rattle.message.proofs.Left.{mark-within, begins-at, unmarked-after, word-letter, word-break, word-end}
 use Rattle.message.proofs.{Bytes.vowel-break, Bytes.vowel-mark, Bytes.not-both, Computed.everything}
-use Rattle.laws.proofs.Classes.{break-mark, break-vowel, either}
+use Rattle.laws.proofs.{Classes.break-mark, Classes.break-vowel, Classes.either, LevelSteps.steps-suffice}
 use Rattle.transcriber.specs.declared.LevelRun.{LevelRun}
 use Rattle.transcriber.specs.Places.{markBefore, markedAt}
-use Rattle.transcriber.specs.Levels.{levelAt, countedBy, numbered, nearly, sinceBy, endRun, overVowel, overMark, overBreak, overLetter, stepOver, StepDue, backAt, LookDue, Looked, LevelsAt}
+use Rattle.transcriber.specs.Levels.{levelAt, countedBy, numbered, nearly, sinceBy, endRun, overVowel, overMark, overBreak, overLetter, stepOver, StepDue, LookDue, Looked, LevelsAt}
 use Rattle.transcriber.proofs.{Raw.where-same, Tail.marked-within, Tail.marked-break, Tail.marked-end}
 
 -- a letter of these classes is no vowel, no break and no mark
@@ -53,35 +53,43 @@ pub step-by : (P : LevelRun → Type 0) (s : LevelRun) (b : ℕ) → (vowelByte 
 step-by P s b vowel mark break letter =
     either (vowelByte b) (λ v. rw v (vowel v)) (λ v. either (isMark b) (λ k. rw (v, k) (mark k)) (λ k. either (isBreak b) (λ x. rw (v, k, x) (break x)) (λ x. rw (v, k, x) (letter x k v))))
 
--- back to a break there are no more bytes than all
-pub back-most : (m : List ℕ) (i : ℕ) → backAt m i ≤ i
+-- a letter is one byte more that is looked back over
+pub back-letter : (m : List ℕ) (i : ℕ) → isBreak (getD m i 0) ≡ false → isMark (getD m i 0) ≡ false → backAt m (suc i) ≡ suc (backAt m i)
 unfolding backAt
-back-most m zero = omega arith
-back-most m (suc i) = either (isBreak (getD m i 0)) (λ b. rw b (omega arith)) (λ b. rw b (omega (arith, back-most m i)))
+back-letter m i b k = rw (b, k)
 
--- a byte that is no break is one more of them
-pub back-within : (m : List ℕ) (i : ℕ) → isBreak (getD m i 0) ≡ false → backAt m (suc i) ≡ suc (backAt m i)
+-- behind a mark or a break it is the one
+pub back-mark : (m : List ℕ) (i : ℕ) → isMark (getD m i 0) ≡ true → backAt m (suc i) ≡ 1
 unfolding backAt
-back-within m i b = rw b
+back-mark m i k = rw (mark-within (getD m i 0) k, k)
 
--- and behind a break it is the one
 pub back-break : (m : List ℕ) (i : ℕ) → isBreak (getD m i 0) ≡ true → backAt m (suc i) ≡ 1
 unfolding backAt
 back-break m i b = rw b
+
+-- at a break a word ends
+ends-break : (m : List ℕ) (i : ℕ) → isBreak (getD m i 0) ≡ true → backTo m (suc i) ≡ backAt m i + backTo m i
+unfolding backTo
+ends-break m i b = rw b
+
+-- and within a word none does
+ends-within : (m : List ℕ) (i : ℕ) → isBreak (getD m i 0) ≡ false → backTo m (suc i) ≡ backTo m i
+unfolding backTo
+ends-within m i b = rw b (omega arith)
 
 -- there is room for a step
 pub levels-due : {t m : List ℕ} {i : ℕ} {s : LevelRun} → t ≡ classes → Steady m → i < length m → LevelsAt m (suc i) s → StepDue t s (getD m i 0)
 levels-due {m = m} {i} e steady h l = record {
   table = e;
   named = steady .named i h;
-  steps = omega (arith, l .steps, back-most m (suc i), steady .short);
+  steps = omega (arith, l .steps, steps-suffice m .two, steady .short);
   since = omega (arith, l .most, steady .short);
 }
 
--- the run that is over took so many steps
-pub levels-done : {m : List ℕ} {s : LevelRun} → LevelsAt m 0 s → StepsSuffice m (s .steps)
-unfolding backAt
-levels-done l = record { four = omega (arith, l .steps); two = omega (arith, l .steps); taken = λ u. omega (arith, l .taken u) }
+-- the run that is over took the message's steps
+pub levels-done : {m : List ℕ} {s : LevelRun} → LevelsAt m 0 s → s .steps ≡ levelSteps m
+unfolding backTo
+levels-done l = omega (arith, l .steps)
 
 module _ (m : List ℕ) (steady : Steady m) (i : ℕ) (h : i < length m) where
   module _ {s : LevelRun} (l : LevelsAt m (suc i) s) where
@@ -102,8 +110,7 @@ module _ (m : List ℕ) (steady : Steady m) (i : ℕ) (h : i < length m) where
           since = rw (add-one (s .since), begins-at m i, k, word-letter m steady i h b k, v) (nearly-more (s .since) (beginsWithMark (drop (suc i) m)) (nextStressed (wordAt m (suc i))) (l .since));
           marked = l .marked ∙ sym (marked-within m steady i h b);
           most = omega (arith, l .most);
-          steps = omega (arith, l .steps, back-within m i b);
-          taken = λ u. omega (arith, l .taken u, back-within m i b);
+          steps = omega (arith, l .steps, ends-within m i b);
         }
 
     -- over another letter
@@ -115,8 +122,7 @@ module _ (m : List ℕ) (steady : Steady m) (i : ℕ) (h : i < length m) where
           since = l .since ∙ rw (u, begins-at m i, k, word-letter m steady i h b k, v);
           marked = l .marked ∙ sym (marked-within m steady i h b);
           most = omega (arith, l .most);
-          steps = omega (arith, l .steps, back-within m i b);
-          taken = λ u. omega (arith, l .taken u, back-within m i b);
+          steps = omega (arith, l .steps, ends-within m i b);
         }
 
     -- over a mark
@@ -128,8 +134,7 @@ module _ (m : List ℕ) (steady : Steady m) (i : ℕ) (h : i < length m) where
           since = rw (begins-at m i, k);
           marked = sym (marked-within m steady i h b ∙ rw (b, k));
           most = omega arith;
-          steps = omega (arith, l .steps, back-within m i b);
-          taken = λ u. omega (arith, l .taken u, back-within m i b);
+          steps = omega (arith, l .steps, ends-within m i b);
         }
 
     -- so over every byte of a word
@@ -143,7 +148,7 @@ module _ (m : List ℕ) (steady : Steady m) (i : ℕ) (h : i < length m) where
 
       -- where the step may be taken ahead
       pub break-due : {t : List ℕ} → t ≡ classes → LookDue t m i (stepOver s (getD m i 0))
-      break-due e = rw over-break (record { table = e; steady = steady; within = omega (arith, h); steps = omega (arith, l .steps, back-break m i b); since = refl; marked = refl })
+      break-due e = rw over-break (record { table = e; steady = steady; within = omega (arith, h); steps = omega (arith, l .steps, steps-suffice m .two); since = refl; marked = refl })
 
       -- after which the run stands there
       pub levels-break : {q : LevelRun} → Looked m i (stepOver s (getD m i 0)) q → LevelsAt m i q
@@ -154,8 +159,7 @@ module _ (m : List ℕ) (steady : Steady m) (i : ℕ) (h : i < length m) where
             since = rw (a .since, begins-at m i, break-mark (getD m i 0) b, word-break m steady i h b);
             marked = a .marked ∙ sym (marked-break m steady i h b);
             most = omega (arith, a .since, h);
-            steps = omega (arith, a .steps, e, l .steps, back-break m i b);
-            taken = λ u. omega (arith, a .taken u, e, l .taken u, back-break m i b);
+            steps = omega (arith, a .steps, e, l .steps, ends-break m i b);
           }
 
 -- so it may at the message's end
@@ -164,11 +168,10 @@ end-due e steady = record { table = e; steady = steady; within = omega arith; st
 
 -- where the run begins
 pub levels-end : {m : List ℕ} → Steady m → {q : LevelRun} → Looked m (length m) (endRun 0 false) q → LevelsAt m (length m) q
-unfolding nextStressed beginsWithMark
+unfolding nextStressed beginsWithMark levelSteps
 levels-end {m} steady a = record {
   since = rw (a .since, drop-length m, word-end m steady);
   marked = a .marked ∙ sym (marked-end m steady);
   most = omega (arith, a .since);
   steps = omega (arith, a .steps);
-  taken = λ u. omega (arith, a .taken u);
 }

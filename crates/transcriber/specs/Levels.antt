@@ -8,7 +8,7 @@ use mathlib.Core.List.{List}
 use lib.ListN.{length, getD, drop}
 use Rattle.spec.specs.Letters.{beginsWithMark, isBreak, isMark}
 use Rattle.spec.specs.Refusals.{vowelByte}
-use Rattle.spec.specs.LevelSteps.{Unmarked}
+use Rattle.spec.specs.LevelSteps.{backAt, backTo, levelSteps}
 use Rattle.spec.specs.Syllables.{nextStressed, levelOf}
 use Rattle.message.specs.Classes.{classes, classOf}
 use Rattle.message.specs.Places.{Steady, letterOf, wordAt}
@@ -72,11 +72,6 @@ pub record StepDue (t : List ℕ) (s : LevelRun) (b : ℕ) : Type 0 where
   pub steps : s .steps < 65536
   pub since : s .since < 65536
 
--- how many bytes stand before place i back to the break before its word, with that break
-unfoldable pub backAt : List ℕ → ℕ → ℕ
-backAt m zero = 0
-backAt m (suc i) = cond (isBreak (getD m i 0)) 1 (suc (backAt m i))
-
 -- the step may be taken ahead from place i, where a word ends
 pub record LookDue (t m : List ℕ) (i : ℕ) (s : LevelRun) : Type 0 where
   pub table : t ≡ classes
@@ -86,17 +81,15 @@ pub record LookDue (t m : List ℕ) (i : ℕ) (s : LevelRun) : Type 0 where
   pub since : s .since ≡ 2
   pub marked : s .marked ≡ false
 
--- it was taken ahead: whether the word has a mark is known, by no more steps than there are bytes back to the break
+-- it was taken ahead: whether the word has a mark is known, by a step for each byte back to and with its last mark or the break before it
 pub record Looked (m : List ℕ) (i : ℕ) (s q : LevelRun) : Type 0 where
   pub since : q .since ≡ 2
   pub marked : q .marked ≡ markBefore m i
-  pub steps : q .steps ≤ s .steps + backAt m i
-  pub taken : Unmarked m → q .steps ≡ s .steps + backAt m i
+  pub steps : q .steps ≡ s .steps + backAt m i
 
--- s is the run at place i, where it tells the levels to the left: each byte from there on was walked over, and stepped over ahead at most once, as were those back to the break before the word
+-- s is the run at place i, where it tells the levels to the left: what is left to step over are the bytes before it, and what the words' ends before it look back over
 pub record LevelsAt (m : List ℕ) (i : ℕ) (s : LevelRun) : Type 0 where
   pub since : nearly (s .since) ≡ sinceBy (beginsWithMark (drop i m)) (nextStressed (wordAt m i))
   pub marked : s .marked ≡ markedAt m i
   pub most : s .since + i ≤ length m + 2
-  pub steps : s .steps + 2 * i ≤ 2 * length m + backAt m i
-  pub taken : Unmarked m → s .steps + 2 * i ≡ 2 * length m + backAt m i
+  pub steps : s .steps + (i + backTo m i) ≡ levelSteps m

@@ -1,6 +1,7 @@
 // The levels of vowels (paper 01, pass 2), found by a running step (paper 02, request 3), for both walks, which go from the message's end to its start. The step takes one byte, and of
 // the message it knows what its state carries, counts and flags. A walk takes it over each byte once; at the end of a word it is first taken ahead, back to the word's last mark or to the
-// break before it, to learn whether the word has a mark. So no byte is stepped over more than twice (specs/Levels.antt, LevelsAt).
+// break before it, to learn whether the word has a mark. How many steps these are
+// `levelSteps` says (crates/spec/specs/LevelSteps.antt); no byte is stepped over more than twice.
 ghost use mathlib.Core.Path.{_≡_};
 ghost use Rattle.transcriber.specs.Levels.{Least, countedBy, numbered, endRun, stepOver, StepDue, LookDue, Looked};
 use crate::LevelRun;

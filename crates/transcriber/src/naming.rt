@@ -5,7 +5,7 @@ ghost use lib.ListN.{drop};
 ghost use Rattle.message.specs.Classes.{classes};
 ghost use Rattle.spec.specs.Syllables.{incomplete};
 ghost use Rattle.spec.specs.Tape.{names};
-ghost use Rattle.spec.specs.LevelSteps.{StepsSuffice};
+ghost use Rattle.spec.specs.LevelSteps.{levelSteps};
 ghost use Rattle.spec.specs.Answers.{NamePromise};
 ghost use Rattle.laws.proofs.Putting.{Put};
 ghost use Rattle.transcriber.specs.Places.{leftAt};
@@ -79,10 +79,13 @@ fn step(m: &[u8], i: usize, v: NameState, out: &mut [u8], t: &ClassTable) -> Nam
     }
 }
 
-// Writes the names of an accepted message, n of them, at the start of the output, and tells in how many steps the levels were found.
+// Writes the names of an accepted message, n of them, at the start of the output, and tells in how many
+// steps the levels were found.
 fn fill_names(m: &[u8], out: &mut [u8], n: usize) -> usize
     requires { ⌜ NamesDue (now m) (now out) n ⌝ }
-    ensures { λ k. ⌜ (now (out .exit) ≡ names (now (m .entry)) ++ drop n (now (out .entry))) × StepsSuffice (now (m .entry)) k ⌝ }
+    ensures { λ k.
+        ⌜ (now (out .exit) ≡ names (now (m .entry)) ++ drop n (now (out .entry)))
+        × (k ≡ levelSteps (now (m .entry))) ⌝ }
 {
     let t = class_table();
     let mut i = m.len();

@@ -4,7 +4,7 @@ ghost use Prim.Native.Nat.{_≤_};
 ghost use lib.ListN.{length};
 ghost use Rattle.message.specs.Classes.{classes, isConsonantClass, isVowelClass, elidedAt};
 ghost use Rattle.spec.specs.Tape.{tape};
-ghost use Rattle.spec.specs.LevelSteps.{StepsSuffice};
+ghost use Rattle.spec.specs.LevelSteps.{levelSteps};
 ghost use Rattle.spec.specs.Answers.{TranscribePromise};
 ghost use Rattle.laws.proofs.Putting.{Put};
 ghost use Rattle.transcriber.specs.Walk.{sungCodes, Lent, ClassAt, Ready, ReadyFor, BreakReady, Stepped, MayWrite};
@@ -173,7 +173,9 @@ fn step(m: &[u8], i: usize, r: Right, out: &mut [u8], t: &ClassTable, s: &SoundT
 // were found. It is the one caller of the step, so that the state stays in registers.
 fn walk(m: &[u8], out: &mut [u8], end: usize, t: &ClassTable, s: &SoundTable) -> Right
     requires { ⌜ MayWrite (now t) (now s) (now m) (now out) end ⌝ }
-    ensures { λ r. ⌜ Put (tape (now (m .entry))) (now (out .entry)) (now (out .exit)) end (r .at) × StepsSuffice (now (m .entry)) (r .levels .steps) ⌝ }
+    ensures { λ r.
+        ⌜ Put (tape (now (m .entry))) (now (out .entry)) (now (out .exit)) end (r .at)
+        × (r .levels .steps ≡ levelSteps (now (m .entry))) ⌝ }
 {
     let mut i = m.len();
     let levels = look_back(m, i, at_word_end(0, false), t);

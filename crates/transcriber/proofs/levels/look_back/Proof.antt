@@ -1,12 +1,13 @@
 -- The bytes passed so far are letters, so what stands before them tells of the word's marks, and each was one step; a mark or a break, or the message's start, then tells all. The measure is j.
-use Rattle.laws.proofs.Kit.{ℕ, suc, _+_, _-_, _≤_, _≡_, refl, sym, _∙_, true, false, true≢false, false≢true, arith, needs, List, getD}
-use Rattle.spec.specs.Letters.{isBreak, isMark}
+use Rattle.laws.proofs.Kit.{ℕ, suc, _+_, _-_, _≤_, _≡_, refl, _∙_, true, false, true≢false, false≢true, arith, needs, List, getD}
+use Rattle.spec.specs.{Letters.isBreak, Letters.isMark, LevelSteps.backAt}
 use Rattle.message.specs.Places.{Steady}
 use Rattle.message.proofs.{Bytes.vowel-break, Bytes.vowel-mark, Left.mark-within}
 use Rattle.transcriber.specs.declared.LevelRun.{LevelRun}
 use Rattle.transcriber.specs.Places.{markBefore}
-use Rattle.transcriber.specs.Levels.{stepOver, endRun, backAt, Looked}
-use Rattle.transcriber.proofs.Levelling.{step-by, back-most, back-within, back-break}
+use Rattle.transcriber.specs.Levels.{stepOver, endRun, Looked}
+use Rattle.laws.proofs.LevelSteps.{back-most}
+use Rattle.transcriber.proofs.Levelling.{step-by, back-letter, back-mark, back-break}
 use Rattle.transcriber.proofs.levels.look_back.Statement.{statement}
 use Rattle.transcriber.proofs.levels.look_back.Tie as tie
 
@@ -26,7 +27,7 @@ module _ {m : List ℕ} {i k : ℕ} {s ahead : LevelRun} (a : Ahead m i s (suc k
     within = omega (arith, a .within);
     marked = v ∙ a .marked;
     tells = rw (b, n) at (a .tells);
-    steps = omega (arith, a .steps, t, back-within m k b);
+    steps = omega (arith, a .steps, t, back-letter m k b n);
     since = omega (arith, a .since, u);
   }
 
@@ -38,8 +39,7 @@ module _ {m : List ℕ} {i k : ℕ} {s ahead : LevelRun} (a : Ahead m i s (suc k
       record {
         since = refl;
         marked = rw (b, n) at (a .tells);
-        steps = omega (arith, a .steps, back-within m k b);
-        taken = λ u. absurd (true≢false (sym n ∙ u k));
+        steps = omega (arith, a .steps, back-mark m k n);
       }
 
   -- and a break that it has none
@@ -49,13 +49,12 @@ module _ {m : List ℕ} {i k : ℕ} {s ahead : LevelRun} (a : Ahead m i s (suc k
     since = refl;
     marked = rw b at (a .tells);
     steps = omega (arith, a .steps, back-break m k b);
-    taken = λ u. omega (arith, a .steps, back-break m k b);
   }
 
 -- so does the message's start
 start : {m : List ℕ} {i : ℕ} {s ahead q : LevelRun} → Ahead m i s 0 ahead → q ≡ endRun (ahead .steps) false → Looked m i s q
 unfolding markBefore backAt
-start a e = rw e (record { since = refl; marked = a .tells; steps = omega (arith, a .steps); taken = λ u. omega (arith, a .steps) })
+start a e = rw e (record { since = refl; marked = a .tells; steps = omega (arith, a .steps) })
 
 abbrev Inv-loop : tie.InvT-loop
 Inv-loop m i t j₀ ahead₀ j ahead = Ahead m i ahead₀ j ahead
@@ -72,16 +71,15 @@ turn c =
     rw e (l .loop .inv)
 
 -- the step met a mark or a break, or neither
-edged : {m : List ℕ} {i k : ℕ} {s ahead : LevelRun} → Ahead m i s (suc k) ahead → stepOver ahead (getD m k 0) .edge ≡ true
-    → Looked m i s (endRun (stepOver ahead (getD m k 0) .steps) (stepOver ahead (getD m k 0) .marked))
-edged {m} {i} {k} {s} {ahead} a =
-    step-by (λ q. q .edge ≡ true → Looked m i s (endRun (q .steps) (q .marked))) ahead (getD m k 0) (λ v e. absurd (false≢true e)) (λ n e. mark a n) (λ b e. break a b) (λ b n v e. absurd (false≢true e))
+module _ {m : List ℕ} {i k : ℕ} {s ahead q : LevelRun} (a : Ahead m i s (suc k) ahead) (stepped : q ≡ stepOver ahead (getD m k 0)) where
+  edged : q .edge ≡ true → Looked m i s (endRun (q .steps) (q .marked))
+  edged = rw stepped (step-by (λ r. r .edge ≡ true → Looked m i s (endRun (r .steps) (r .marked))) ahead (getD m k 0)
+      (λ v e. absurd (false≢true e)) (λ n e. mark a n) (λ b e. break a b) (λ b n v e. absurd (false≢true e)))
 
-inside : {m : List ℕ} {i k : ℕ} {s ahead : LevelRun} → Steady m → Ahead m i s (suc k) ahead → stepOver ahead (getD m k 0) .edge ≡ false → Ahead m i s k (stepOver ahead (getD m k 0))
-inside {m} {i} {k} {s} {ahead} steady a =
-    step-by (λ q. q .edge ≡ false → Ahead m i s k q) ahead (getD m k 0)
-    (λ v e. letter a (vowel-break (getD m k 0) (steady .bytes k) v) (vowel-mark (getD m k 0) (steady .bytes k) v) refl (omega arith) refl)
-    (λ n e. absurd (true≢false e)) (λ b e. absurd (true≢false e)) (λ b n v e. letter a b n refl (omega arith) refl)
+  inside : Steady m → q .edge ≡ false → Ahead m i s k q
+  inside steady = rw stepped (step-by (λ r. r .edge ≡ false → Ahead m i s k r) ahead (getD m k 0)
+      (λ v e. letter a (vowel-break (getD m k 0) (steady .bytes k) v) (vowel-mark (getD m k 0) (steady .bytes k) v) refl (omega arith) refl)
+      (λ n e. absurd (true≢false e)) (λ b e. absurd (true≢false e)) (λ b n v e. letter a b n refl (omega arith) refl))
 
 pub look-back-spec : {M : Type 1} → statement M
 look-back-spec =
@@ -99,8 +97,8 @@ look-back-spec =
       since = omega (arith, a .since, p .within, y .short);
     })
     (search needs)
-    (λ c. let k = c .before .before in rw (c .at-word-end .ensures, k .step .ensures) (edged (turn (k .before)) (rw (k .step .ensures) at (c .before .if1 .taken))))
+    (λ c. let k = c .before .before in rw (c .at-word-end .ensures) (edged (turn (k .before)) (k .step .ensures) (c .before .if1 .taken)))
     (λ c. omega (arith, c .before .before .before .loop-test .taken))
-    (λ c. let k = c .before in rw (k .step .ensures) (inside (k .before .before .before .before .before .pre .steady) (turn (k .before)) (rw (k .step .ensures) at (c .if1 .left))))
+    (λ c. let k = c .before in inside (turn (k .before)) (k .step .ensures) (k .before .before .before .before .before .pre .steady) (c .if1 .left))
     (search needs)
     (λ c. let l = c .before .before in let e : l .loop .j ≡ 0 = omega (arith, c .before .loop-test .left) in start (rw e at (l .loop .inv)) (c .at-word-end2 .ensures)))
