@@ -106,7 +106,7 @@ pub fn print(input: &[u8]) -> String {
     printed(GOVORUN, input)
 }
 
-/// What the program `speak` prints for a text in UTF-8.
+/// What the program `speak` prints for a text in UTF-8; nothing for one that is too long.
 pub fn speak(input: &[u8]) -> String {
     printed(SPEAK, input)
 }

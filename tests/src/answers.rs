@@ -102,13 +102,15 @@ pub fn expected_print(input: &[u8]) -> String {
     print_of(tape(input, usize::MAX))
 }
 
-/// What the program `speak` prints for the bytes of its standard input, a text in UTF-8.
-pub fn expected_speech(input: &[u8]) -> String {
+/// What the program `speak` prints for the bytes of its standard input, a text in UTF-8. Gives
+/// nothing where they are too many.
+pub fn expected_speech(input: &[u8]) -> Option<String> {
     if input.len() > MAX_INPUT {
-        return print_of(Err(Refusal::new(2, 0)));
+        return None;
     }
     let read = read_utf8(input, usize::MAX);
-    print_of(read.and_then(|read| tape(&edited(&read), usize::MAX)))
+    let tape = read.and_then(|read| tape(&edited(&read), usize::MAX));
+    Some(print_of(tape))
 }
 
 /// What the program `gauge` prints for the bytes of its standard input, a level in decimal. Gives

@@ -38,7 +38,10 @@ pub const GOVORUN: Program = Program {
 pub const SPEAK: Program = Program {
     name: "speak",
     variable: "GOVORUN_SPEAK",
-    expected: |input| good(expected_speech(input)),
+    expected: |input| match expected_speech(input) {
+        Some(print) => good(print),
+        None => (String::new(), TOO_LONG.to_string()),
+    },
 };
 
 /// It takes a level in decimal.
@@ -50,6 +53,9 @@ pub const GAUGE: Program = Program {
         None => (String::new(), NO_NUMBER.to_string()),
     },
 };
+
+/// What `speak` says on standard error where its input is longer than it takes.
+pub const TOO_LONG: &str = "speak: standard input is too long\n";
 
 /// What `gauge` says on standard error where its input is no number.
 pub const NO_NUMBER: &str = "gauge: standard input is no number\n";

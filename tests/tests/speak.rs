@@ -13,7 +13,7 @@ use std::sync::OnceLock;
 
 use govorun_tests::codes::{GAP, NAMES, PAUSE};
 use govorun_tests::gen::lexicon;
-use govorun_tests::program::NO_NUMBER;
+use govorun_tests::program::{NO_NUMBER, TOO_LONG};
 use govorun_tests::{cp1251, edit, expected_level, expected_speech, speak_level, tape};
 
 /// The status, and what went to standard output and to standard error.
@@ -97,7 +97,7 @@ fn a_text_is_spoken() {
     let sentence = "Лесна*я, две*!";
     assert_eq!(
         speak([sentence]),
-        good(expected_speech(sentence.as_bytes()))
+        good(expected_speech(sentence.as_bytes()).expect("a short text"))
     );
 }
 
@@ -109,7 +109,7 @@ fn no_text_means_anything_to_the_script() {
     ] {
         assert_eq!(
             speak([text]),
-            good(expected_speech(text.as_bytes())),
+            good(expected_speech(text.as_bytes()).expect("a short text")),
             "{text}"
         );
     }
@@ -122,12 +122,23 @@ fn a_refusal_is_printed() {
     assert_eq!(speak(["- а, б*"]), good("refused 5 at 3\n"));
     assert_eq!(speak([""]), good("refused 1 at 0\n"));
     assert_eq!(speak([""; 0]), good("refused 1 at 0\n"));
-    assert_eq!(
-        speak(["а ", &"- ".repeat(35_000)]),
-        good("refused 2 at 0\n")
-    );
+    assert_eq!(speak([&"а".repeat(4_097)]), good("refused 2 at 0\n"));
     let malformed = OsStr::from_bytes(b"\xD0\xB4\xFF");
     assert_eq!(speak([malformed]), good("refused 13 at 2\n"));
+}
+
+/// Breaks do not count. A text of more bytes than the program takes is not spoken, and it says so.
+#[test]
+fn long_texts() {
+    let longest = format!("а{}", "-".repeat(65_534));
+    assert_eq!(speak([&longest]), good("7\n"));
+    for longer in [&format!("{longest}-"), &"- ".repeat(35_000)] {
+        for options in ["--", "-s"] {
+            let (status, print, complaint) = speak([options, longer]);
+            assert_ne!(status, Some(0));
+            assert_eq!((&print[..], &complaint[..]), ("", TOO_LONG));
+        }
+    }
 }
 
 /// What is printed with -s for a text that is spoken.

@@ -1,11 +1,11 @@
 -- With buffers as long as the longest text the reader refuses with 13 alone and the editor nothing, so what is answered goes by the text.
-use Rattle.laws.proofs.Kit.{ℕ, _<_, _≤_, arith, _≡_, _≢_, sym, ap, _∙_, Bool, true, false, true≢false, ⊎-elim, List, [], length, take, eq-eqb, ne-eqb, le-leb, lt-leb}
+use Rattle.laws.proofs.Kit.{ℕ, _<_, _≤_, arith, _≡_, _≢_, sym, ap, _∙_, Bool, true, false, true≢false, ⊎-elim, List, [], _++_, length, take, eq-eqb, ne-eqb, le-leb, lt-leb}
 use Rattle.spec.specs.Answers.{numberOf, placeOf, within, tapeAnswer}
 use Rattle.spec.specs.Editing.{edited, editAnswer, EditPromise}
 use Rattle.spec.specs.Utf8.{decoded, readTo, readAnswer, ReadPromise}
-use Rattle.spec.specs.Printed.{printedAnswer, afterWriting, textAnswer}
+use Rattle.spec.specs.Printed.{printedAnswer, afterWriting, textAnswer, printedText}
 use Rattle.spec.specs.Utf8Demands.{ReadDue, unreadable, noRoom}
-use Rattle.spec.specs.{Refusals.refusal, declared.Refusal.Refusal, declared.Answer.Answer, declared.Answer.the-variants.Written, declared.Answer.the-variants.Refused}
+use Rattle.spec.specs.{Tables.ascii, Tape.tape, declared.Refusal.Refusal, declared.Answer.Answer, declared.Answer.the-variants.Written, declared.Answer.the-variants.Refused}
 use Rattle.laws.proofs.{Classes.below-or, Utf8.read-most, Demands.edited-demands, Demands.read-demands}
 use Rattle.console.proofs.Room.{room-for-all}
 use Rattle.console.proofs.Texts.{Part, part, refusal-short}
@@ -58,32 +58,36 @@ module _ (t : List ℕ) {out out′ : List ℕ} {a : Answer} (p : ReadPromise t 
   few = ⊎-elim (λ c. (omega (arith, c .number), omega (arith, c .place))) (λ d. due-few _ _ (d .place))
       (read-demands t .settled out out′ a p .ended)
 
-  module _ (short : length t ≤ 65536) where
-    -- what is read is edited and spoken
-    pub text-spoken : {n k : ℕ} → a ≡ Written n k → textAnswer t ≡ tapeAnswer (edited (decoded t)) 8192
-    unfolding textAnswer afterWriting
-    text-spoken e = rw (le-leb (length t) 65536 short, same-answer, e)
+  -- what is read is edited and spoken
+  pub text-spoken : {n k : ℕ} → a ≡ Written n k → textAnswer t ≡ tapeAnswer (edited (decoded t)) 8192
+  unfolding textAnswer afterWriting
+  text-spoken e = rw (same-answer, e)
 
-    -- what is not is refused, in few digits
-    pub text-refused : {r : Refusal} → a ≡ Refused r → (textAnswer t ≡ Refused r) × (length (printedAnswer (Refused r) []) ≤ 40)
-    unfolding textAnswer afterWriting numberOf placeOf
-    text-refused {r} e =
-        let f = rw e at few in
-        (rw (le-leb (length t) 65536 short, same-answer, e), refusal-short r (omega (arith, f .0)) (omega (arith, f .1)))
+  -- what is not is refused, in few digits where the text is no longer than is taken
+  pub text-refused : {r : Refusal} → length t ≤ 65536 → a ≡ Refused r
+      → (textAnswer t ≡ Refused r) × (length (printedAnswer (Refused r) []) ≤ 40)
+  unfolding textAnswer afterWriting numberOf placeOf
+  text-refused {r} short e =
+      let f = rw e at few in
+      (rw (same-answer, e), refusal-short r (omega (arith, f .0)) (omega (arith, f .1)))
 
--- A text that is too long is refused as such.
-pub text-long : (t : List ℕ) → 65536 < length t → textAnswer t ≡ Refused (refusal 2 0)
-unfolding textAnswer
+-- For a text that is too long nothing is printed,
+pub text-long : (t : List ℕ) → 65536 < length t → printedText t ≡ []
+unfolding printedText
 text-long t h = rw (lt-leb (length t) 65536 h)
+
+-- and for any other its answer and a newline.
+pub text-short : (t : List ℕ) → length t ≤ 65536 → printedText t ≡ printedAnswer (textAnswer t) (tape (edited (decoded t))) ++ ascii "\n"
+unfolding printedText
+text-short t h = rw (le-leb (length t) 65536 h)
 
 -- Number 11 is never printed.
 pub text-never : (t : List ℕ) → numberOf (textAnswer t) ≢ 11
 unfolding textAnswer afterWriting readAnswer within numberOf
-text-never t e = ⊎-elim (λ h. absurd (omega (arith, rw (lt-leb (length t) 65536 h) at e)))
-    (λ s. ⊎-elim (λ h. absurd (omega (arith, rw (le-leb (length t) 65536 s, ne-eqb (readTo t) (length t) (omega arith)) at e)))
+text-never t e = ⊎-elim (λ h. absurd (omega (arith, rw (ne-eqb (readTo t) (length t) (omega arith)) at e)))
     (λ h. absurd (omega (
       arith,
       room-for-all (edited (decoded t)),
-      rw (le-leb (length t) 65536 s, eq-eqb (readTo t) (length t) (omega (arith, read-most t)), le-leb (length (decoded t)) (length t) (read-demands t .size)) at e,
+      rw (eq-eqb (readTo t) (length t) (omega (arith, read-most t)), le-leb (length (decoded t)) (length t) (read-demands t .size)) at e,
     )))
-    (below-or (readTo t) (length t))) (below-or 65536 (length t))
+    (below-or (readTo t) (length t))

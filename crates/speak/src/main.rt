@@ -20,6 +20,10 @@ fn main() {
     let mut plain = [0u8; TEXT_MAX];
     let mut print = [0u8; TEXT];
     let end = print_text(&text[..n], &mut read, &mut plain, &mut print);
+    if end == 0 {
+        io::write_all(STDERR_FILENO, b"speak: standard input is too long\n");
+        return;
+    }
     if io::write_all(STDOUT_FILENO, &print[..end]) {
         return;
     }

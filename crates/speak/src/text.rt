@@ -4,7 +4,6 @@ ghost use Prim.Native.Nat.{_≤_};
 ghost use lib.ListN.{length, take};
 ghost use Rattle.io.specs.Counts.{Counts};
 ghost use Rattle.spec.specs.Tape.{tape};
-ghost use Rattle.spec.specs.Answers.{tapeAnswer};
 ghost use Rattle.spec.specs.Editing.{edited};
 ghost use Rattle.spec.specs.Utf8.{decoded};
 ghost use Rattle.spec.specs.Printed.{printedAnswer, textAnswer, printedText};
@@ -15,46 +14,41 @@ use console::text::put_bytes;
 use console::text::put_refusal;
 use editor::edit;
 use spec::Answer;
-use spec::Refusal;
 use utf8::reader::read_utf8;
 
 // The longest text that is read.
 pub const TEXT_MAX: usize = 65536;
 
-// Edits what was read, and puts what the transcriber answers. The editor has room for every text that long, so it refuses nothing.
-fn put_edited(m: &[u8], plain: &mut [u8], print: &mut [u8]) -> usize
-    requires { ⌜ (length (now m) ≤ length (now plain)) × (32768 ≤ length (now print)) ⌝ }
-    ensures { λ r. ⌜ Put (printedAnswer (tapeAnswer (edited (now (m .entry))) 8192) (tape (edited (now (m .entry))))) (now (print .entry)) (now (print .exit)) 0 r ⌝ }
-    ensures { λ r. ⌜ r ≤ 32768 ⌝ }
+// Edits a text that was read, and answers how long it is then. The editor has room for it, so it
+// refuses nothing.
+fn edit_read(m: &[u8], plain: &mut [u8]) -> usize
+    requires { ⌜ length (now m) ≤ length (now plain) ⌝ }
+    ensures { λ r. ⌜ Counts r (now (plain .exit)) ⌝ }
+    ensures { λ r. ⌜ take r (now (plain .exit)) ≡ edited (now (m .entry)) ⌝ }
 {
     match edit(m, plain) {
-        Answer::Written { length, live: _ } => put_answer(&plain[..length], print),
-        Answer::Refused(r) => put_refusal(r, print),
+        Answer::Written { length, live: _ } => length,
+        Answer::Refused(_) => 0,
     }
 }
 
-// Reads the text, and puts what comes of it.
+// Reads the text and edits it, and puts what the transcriber answers, or the reader's refusal.
 fn put_read(t: &[u8], read: &mut [u8], plain: &mut [u8], print: &mut [u8]) -> usize
-    requires { ⌜ (length (now read) ≡ 65536) × (length (now plain) ≡ 65536) × (32768 ≤ length (now print)) ⌝ }
+    requires { ⌜ (length (now t) ≤ 65536) × (length (now read) ≡ 65536)
+        × (length (now plain) ≡ 65536) × (32768 ≤ length (now print)) ⌝ }
     ensures { λ r. ⌜ Put (printedAnswer (textAnswer (now (t .entry))) (tape (edited (decoded (now (t .entry)))))) (now (print .entry)) (now (print .exit)) 0 r ⌝ }
     ensures { λ r. ⌜ r ≤ 32768 ⌝ }
 {
-    if TEXT_MAX < t.len() {
-        return put_refusal(
-            Refusal {
-                number: 2,
-                place: 0,
-            },
-            print,
-        );
-    }
     match read_utf8(t, read) {
-        Answer::Written { length, live: _ } => put_edited(&read[..length], plain, print),
+        Answer::Written { length, live: _ } => {
+            let n = edit_read(&read[..length], plain);
+            put_answer(&plain[..n], print)
+        }
         Answer::Refused(r) => put_refusal(r, print),
     }
 }
 
-// Puts the whole of what is printed, and answers how long it is.
+// Puts the whole of what is printed, and answers how long it is: 0 where the text is too long.
 pub fn print_text(
     t: &[u8],
     read: &mut [u8; TEXT_MAX],
@@ -64,6 +58,9 @@ pub fn print_text(
     ensures { λ r. ⌜ Counts r (now (print .exit)) ⌝ }
     ensures { λ r. ⌜ take r (now (print .exit)) ≡ printedText (now (t .entry)) ⌝ }
 {
+    if TEXT_MAX < t.len() {
+        return 0;
+    }
     let end = put_read(t, read, plain, print);
     put_bytes(print, end, b"\n")
 }

@@ -130,7 +130,11 @@ pub printed-right : map (λ e. printedText (utf8 (e .typed))) lines ≡ map (λ 
 unfolding everything utf8 lines lastDigits decimal printedCodes printedAnswer afterWriting textAnswer printedText
 printed-right = refl
 
--- one that is too long
-pub long-right : textAnswer (replicate 65537 gap) ≡ Refused (refusal 2 0)
-unfolding everything textAnswer
-long-right = refl
+-- A text as long as the program's buffer has its answer, here 13, which comes before 2; for a longer one nothing is printed.
+pub longest-right : printedText (0x61 ∷ replicate 65535 mark) ≡ ascii "refused 13 at 0\n"
+unfolding everything lastDigits decimal printedCodes printedAnswer afterWriting textAnswer printedText
+longest-right = refl
+
+pub longer-right : printedText (0x61 ∷ replicate 65536 mark) ≡ []
+unfolding everything printedText
+longer-right = refl

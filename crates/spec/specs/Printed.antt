@@ -8,7 +8,6 @@ use lib.ListN.{length, drop}
 use lib.IntN.{ℤ, pos, negℤ}
 use Rattle.spec.specs.Tables.{ascii}
 use Rattle.spec.specs.Tape.{tape}
-use Rattle.spec.specs.Refusals.{refusal}
 use Rattle.spec.specs.Answers.{tapeAnswer}
 use Rattle.spec.specs.Editing.{edited}
 use Rattle.spec.specs.Utf8.{decoded, readAnswer}
@@ -45,12 +44,17 @@ unfoldable pub afterWriting : Answer → Answer → Answer
 afterWriting (Written n k) a = a
 afterWriting (Refused r) a = Refused r
 
--- A text t in UTF-8 is read, lent as much as it has, then edited and transcribed as a message is; the editor, lent as much, refuses nothing. One of over 65,536 bytes is refused as a message of over 4,096 is.
+-- A text t in UTF-8 is read, lent as much as it has, then edited and transcribed as a message is;
+-- the editor, lent as much, refuses nothing.
 unfoldable pub textAnswer : List ℕ → Answer
-textAnswer t = cond (leb (length t) 65536) (afterWriting (readAnswer t (length t)) (tapeAnswer (edited (decoded t)) 8192)) (Refused (refusal 2 0))
+textAnswer t = afterWriting (readAnswer t (length t)) (tapeAnswer (edited (decoded t)) 8192)
 
+-- The whole text for a text t in UTF-8. The program's own buffer has 65,536 bytes: for a longer
+-- text nothing is printed, since that is no refusal of the papers.
 unfoldable pub printedText : List ℕ → List ℕ
-printedText t = printedAnswer (textAnswer t) (tape (edited (decoded t))) ++ ascii "\n"
+printedText t =
+    cond (leb (length t) 65536)
+    (printedAnswer (textAnswer t) (tape (edited (decoded t))) ++ ascii "\n") []
 
 -- A level in decimal, in ASCII, where 45 is the minus sign and 48 to 57 are the digits: the text begins with a minus sign or with none,
 unfoldable pub signLength : List ℕ → ℕ
