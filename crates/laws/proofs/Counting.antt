@@ -1,6 +1,7 @@
 -- The counts of codes and names letter by letter are the lengths of the tape and of the naming, for every message: passes 4 and 5 give each
 -- sound one code, and pass 1 takes away only letters that are then counted none and change nothing about the letter after them.
-use Rattle.laws.proofs.Kit.{ℕ, _+_, _≡_, refl, ap, _∙_, Bool, true, false, cond, _&&_, List, [], _∷_, _++_, arith, eqb, length, length-append}
+use Rattle.laws.proofs.Kit.{ℕ, _+_, _≡_, refl, ap, _∙_, Bool, true, false, cond, _&&_, List, [], _∷_, _++_}
+use Rattle.laws.proofs.Kit.{arith, eqb, length, length-append}
 use Rattle.spec.specs.Alphabet.{«е», «ё», «и», «о», «ю», «я»}
 use Rattle.spec.specs.Letters.{Letter, Message, last, more, read, plainVowels, softeningVowels, isGap, isSign, isVowel}
 use Rattle.spec.specs.Elision.{elideFrom, elide}
@@ -22,7 +23,8 @@ no-glide p cover b n = rw (other «е» refl, other «ё» refl, other «ю» re
     other x i = among-none (plainVowels ++ softeningVowels) b x n i
 
 -- a letter that stays makes as many sounds as are counted
-letter-count : (hard : Bool) (facts : Facts) (p : ℕ) (l : Letter) (w : List Letter) → length (phonesOf hard facts p l w) ≡ soundCount p (l .byte)
+letter-count : (hard : Bool) (facts : Facts) (p : ℕ) (l : Letter) (w : List Letter)
+    → length (phonesOf hard facts p l w) ≡ soundCount p (l .byte)
 unfolding phonesOf vowelPhones soundCount syllableOf
 letter-count hard facts p l w = either (isSign (l .byte)) (λ s. rw s) (λ s. rw s (either (isVowel (l .byte))
     (λ v. rw v (cond-app (length {A = Phone}) (glides p (coverAfter p) (l .byte)) _ _))
@@ -60,7 +62,9 @@ tape-count m = segment-count false false (read m)
 names-left : (facts : Facts) (p : ℕ) (w : List Letter) → length (namesFrom facts p w) ≡ namesLeft p w
 unfolding namesFrom namesLeft
 names-left facts p [] = refl
-names-left facts p (l ∷ w) = let s = names-left facts (l .byte) w in either (isVowel (l .byte)) (λ v. rw v (omega (arith, s))) (λ v. rw v (omega (arith, s)))
+names-left facts p (l ∷ w) =
+    let s = names-left facts (l .byte) w in
+    either (isVowel (l .byte)) (λ v. rw v (omega (arith, s))) (λ v. rw v (omega (arith, s)))
 
 -- pass 1 changes no name, so those of a word are, too
 word-names-count : (w : List Letter) → length (wordNames w) ≡ namesLeft 0 w

@@ -1,7 +1,7 @@
--- The last letter of the word before a place is carried from the left; a letter, a mark and a break each change it in one way, as they change
--- what is read from the place on. All places of an accepted message are steady: a mark stands right after a vowel.
-use Rattle.laws.proofs.Kit.{ℕ, zero, suc, _<_, _≡_, refl, sym, ap, _∙_, ⊎-elim, true, false, true≢false, false≢true, List, [], _∷_, length, getD, drop}
-use Rattle.laws.proofs.Kit.{List·getD-eq-default, drop-cons, drop-length, eqb-true}
+-- The last letter of the word before a place is carried from the left; a letter, a mark and a break each change it in one way, as they
+-- change what is read from the place on. All places of an accepted message are steady: a mark stands right after a vowel.
+use Rattle.laws.proofs.Kit.{ℕ, zero, suc, _<_, _≡_, refl, sym, ap, _∙_, ⊎-elim, true, false, true≢false, false≢true, List, [], _∷_}
+use Rattle.laws.proofs.Kit.{length, getD, drop, List·getD-eq-default, drop-cons, drop-length, eqb-true}
 use Rattle.spec.specs.Letters.{Letter, Message, last, more, putLetter, read, firstWord, small, isMark, isBreak, beginsWithMark}
 use Rattle.spec.specs.{Alphabet.mark, Refusals.vowelByte}
 use Rattle.laws.proofs.Classes.{refuted, below-or}
@@ -68,10 +68,12 @@ module _ (m : List ℕ) (steady : Steady m) where
   pub unmarked-after : (i : ℕ) → vowelByte (getD m i 0) ≡ false → isMark (getD m (suc i) 0) ≡ false
   unfolding isMark
   unmarked-after i v = refuted _ (λ k. ⊎-elim
-      (λ h. true≢false (sym (steady .marks i h k) ∙ v)) (λ o. false≢true (sym (ap isMark (List·getD-eq-default m 0 o)) ∙ k)) (below-or (suc i) (length m)))
+      (λ h. true≢false (sym (steady .marks i h k) ∙ v)) (λ o. false≢true (sym (ap isMark (List·getD-eq-default m 0 o)) ∙ k))
+      (below-or (suc i) (length m)))
 
   -- a letter is the first one of the word from its place on
-  pub word-letter : (i : ℕ) → i < length m → isBreak (getD m i 0) ≡ false → isMark (getD m i 0) ≡ false → wordAt m i ≡ letterOf m i ∷ wordAt m (suc i)
+  pub word-letter : (i : ℕ) → i < length m → isBreak (getD m i 0) ≡ false → isMark (getD m i 0) ≡ false
+      → wordAt m i ≡ letterOf m i ∷ wordAt m (suc i)
   unfolding wordAt
   word-letter i h b k = rw (read-letter m i h b k) (word-put (letterOf m i) (read (drop (suc i) m)))
 

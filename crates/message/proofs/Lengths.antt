@@ -1,7 +1,7 @@
--- The counts of the check are those of the letters and breaks: each byte is counted as many codes and names as it adds to those of what comes
--- after it, told by its class and the kind before it.
-use Rattle.laws.proofs.Kit.{ℕ, zero, suc, _+_, _<_, _≤_, _≡_, refl, sym, _∙_, Bool, true, false, cond, _&&_, _||_, true≢false, List, [], _∷_}
-use Rattle.laws.proofs.Kit.{arith, eqb, length, getD, drop, eqb-true}
+-- The counts of the check are those of the letters and breaks: each byte is counted as many codes and names as it adds to those of what
+-- comes after it, told by its class and the kind before it.
+use Rattle.laws.proofs.Kit.{ℕ, zero, suc, _+_, _<_, _≤_, _≡_, refl, sym, _∙_, Bool, true, false, cond, _&&_, _||_, true≢false, List, []}
+use Rattle.laws.proofs.Kit.{_∷_, arith, eqb, length, getD, drop, eqb-true}
 use Rattle.spec.specs.Letters.{Letter, Message, last, more, putLetter, read, firstWord, small, isMark, isBreak, isVowel}
 use Rattle.spec.specs.Syllables.{coverAfter, incomplete}
 use Rattle.spec.specs.Counting.{soundCount, codesLeft, namesLeft, codeCountFrom, nameCountFrom, codeCount, nameCount}
@@ -15,8 +15,8 @@ use Rattle.message.proofs.Bytes.{by-class, letter-class, vowel-mark}
 use Rattle.message.proofs.{Before.kind-at, Silent.elided-at, StepTable.class-spoken, Faults.kind-small, Computed.everything}
 use Rattle.laws.proofs.Classes.{cond-app, either, refuted, pairs-same, break-vowel}
 
--- how many sounds a letter makes: k, g and y say that a consonant, a sign or ь stands before it, s, e, i and o that it is a sign, one of е ё ю я,
--- и, or о
+-- how many sounds a letter makes: k, g and y say that a consonant, a sign or ь stands before it, s, e, i and o that it is a sign, one of
+-- е ё ю я, и, or о
 abbrev heard : Bool → Bool → Bool → Bool → Bool → Bool → Bool → ℕ
 heard k g y s e i o = cond s 0 (cond ((e && (bare (cond (k || g) Covered Bare) || g)) || ((i && g) || (o && y))) 2 1)
 
@@ -69,12 +69,14 @@ module _ (m : List ℕ) (steady : Steady m) where
 
   -- a letter as many as it makes
   width-letter : (i : ℕ) → i < length m → isBreak (getD m i 0) ≡ false → isMark (getD m i 0) ≡ false
-      → cond (elides (lastAt m i) (small (getD m i 0)) (wordAt m (suc i))) 0 (soundCount (lastAt m i) (small (getD m i 0))) ≡ widthAt m i (kindAt m i)
+      → cond (elides (lastAt m i) (small (getD m i 0)) (wordAt m (suc i))) 0 (soundCount (lastAt m i) (small (getD m i 0)))
+      ≡ widthAt m i (kindAt m i)
   unfolding soundCount glides coverAfter widthAt signByte
   width-letter i h b k =
       let t = steady .bytes i in
       let c = by-class (getD m i 0) t in
-      let n = heard-counted (kindAt m i) (classOf (getD m i 0)) (kind-small m (steady .bytes) i) (c .class) (letter-class (getD m i 0) t b k (steady .named i h)) in
+      let l = letter-class (getD m i 0) t b k (steady .named i h) in
+      let n = heard-counted (kindAt m i) (classOf (getD m i 0)) (kind-small m (steady .bytes) i) (c .class) l in
       let a = kind-at m steady i (omega arith) in
       rw (elided-at m steady i h b k, a .consonant, a .sign, a .softSign, c .sign, c .iotatedVowel, c .vowelI, c .vowelO, n)
 
@@ -85,7 +87,8 @@ module _ (m : List ℕ) (steady : Steady m) where
       (λ s. rw (read-break m i h s, last-break m i s, width-break i (kindAt m i) s) (omega arith))
       (λ s. either (isMark (getD m i 0))
       (λ e. rw (read-mark m i h e, last-mark m i e, width-mark i (kindAt m i) e) (omega arith))
-      (λ e. rw (read-letter m i h s e, last-letter m i s e, ← width-letter i h s e) (put-codes (lastAt m i) (letterOf m i) (read (drop (suc i) m)))))
+      (λ e. rw (read-letter m i h s e, last-letter m i s e, ← width-letter i h s e)
+      (put-codes (lastAt m i) (letterOf m i) (read (drop (suc i) m)))))
 
   -- the codes of the bytes before a place and from it on are all
   codes-from : (i : ℕ) → i ≤ length m → codesTo m i + codesFrom m i ≡ codeCount m

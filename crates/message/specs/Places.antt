@@ -1,5 +1,6 @@
--- What stands beside a place of a message: the last letter of the word before it, and the letters of
--- the word from there on. These are not the paper's words: `proofs/` shows that they agree with them.
+-- What stands beside a place of a message: the last letter of the word before it, and the letters
+-- of the word from there on. These are not the paper's words: `proofs/` shows that they agree with
+-- them.
 -- Assumes nothing: these are definitions.
 use Prim.Native.Nat.{ℕ, zero, suc, _<_, _≤_}
 use mathlib.Core.Path.{_≡_}
@@ -25,8 +26,8 @@ wordAt m i = firstWord (read (drop i m))
 unfoldable pub letterOf : List ℕ → ℕ → Letter
 letterOf m i = record { byte = small (getD m i 0); stressed = beginsWithMark (drop (suc i) m) }
 
--- Steady: no more than 4,096 bytes, each below 256 and named, and a mark stands right after a vowel.
--- The check's acceptance gives it.
+-- Steady: no more than 4,096 bytes, each below 256 and named, and a mark stands right after a
+-- vowel. The check's acceptance gives it.
 pub record Steady (m : List ℕ) : Type 0 where
   pub short : length m ≤ 4096
   pub bytes : (i : ℕ) → getD m i 0 < 256

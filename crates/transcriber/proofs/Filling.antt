@@ -11,9 +11,11 @@ pub record Pieces (m : List ℕ) (rest piece : ℕ → List ℕ) (all : ℕ) : T
   pub whole : length (rest 0) ≤ all
 
 -- so no rest is longer than all
-pub pieces-part : {m : List ℕ} {rest piece : ℕ → List ℕ} {all : ℕ} → Pieces m rest piece all → (i : ℕ) → i ≤ length m → length (rest i) ≤ all
+pub pieces-part : {m : List ℕ} {rest piece : ℕ → List ℕ} {all : ℕ} → Pieces m rest piece all
+    → (i : ℕ) → i ≤ length m → length (rest i) ≤ all
 pieces-part p zero h = p .whole
-pieces-part {rest = rest} {piece} p (suc i) h = omega (arith, pieces-part p i (omega arith), ap length (p .step i h) ∙ length-append (piece i) (rest (suc i)))
+pieces-part {rest = rest} {piece} p (suc i) h =
+    omega (arith, pieces-part p i (omega arith), ap length (p .step i h) ∙ length-append (piece i) (rest (suc i)))
 
 -- the walk stands at place i: `rest i` stands right before place `end`, and there is room for all
 pub record Writing (Right : ℕ → Type 0) (m : List ℕ) (rest piece : ℕ → List ℕ) (all : ℕ) (out₀ out : List ℕ) (end i at : ℕ) : Type 0 where

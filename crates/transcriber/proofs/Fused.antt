@@ -1,6 +1,7 @@
 -- All five passes of a word as one recursion over its letters as written, from the right: a letter's codes are settled by the letter before it,
 -- the letters after it as written, and the finished codes after it. Equal to the passes one after the other, because elision changes nothing that
--- the letters around it go by (Elided.antt of crate `laws`), and palatalization does not change whether a sound voices or devoices the one before it.
+-- the letters around it go by (Elided.antt of crate `laws`), and palatalization does not change whether a sound voices or devoices the one
+-- before it.
 use Rattle.laws.proofs.Kit.{ℕ, _≡_, refl, Bool, true, false, cond, List, [], _∷_, _++_}
 use Rattle.spec.specs.Letters.{Letter, paired, firstByte, isPaired, isSign, isVowel, isObstruent}
 use Rattle.spec.specs.Vowels.{glides}

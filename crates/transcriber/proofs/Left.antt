@@ -1,5 +1,5 @@
--- The left context of a place is the letters of the word before it and the boundary there, carried from the left: its last letter is the one that
--- the check goes by. A letter, a mark and a break each change it in one way.
+-- The left context of a place is the letters of the word before it and the boundary there, carried from the left: its last letter is the
+-- one that the check goes by. A letter, a mark and a break each change it in one way.
 use Rattle.laws.proofs.Kit.{ℕ, zero, suc, _<_, _≡_, refl, sym, _∙_, Bool, true, false, cond, _&&_, _||_, not, List, [], _∷_, length, getD}
 use Rattle.spec.specs.Letters.{Letter, more, putLetter, read, firstWord, small, isMark, isBreak, isGap, beginsWithMark}
 use Rattle.spec.specs.{Syllables.hasMark, Vowels.hardEnd}

@@ -60,7 +60,9 @@ module _ {m out : List ℕ} {i : ℕ} {v : NameState} (ready : NameReady m out i
 module _ {m out : List ℕ} {n : ℕ} (due : NamesDue m out n) where
   -- each byte's names stand before the rest's, and all are n
   names-pieces : Pieces m (namesAt m) (namePiece m) n
-  names-pieces = let y = due .steady in record { steady = y; step = name-step m y; whole = omega (arith, ap length (names-start m y), due .total) }
+  names-pieces =
+      let y = due .steady in
+      record { steady = y; step = name-step m y; whole = omega (arith, ap length (names-start m y), due .total) }
 
   -- there is room for an incomplete syllable's name at the end
   pub end-ends : WordEnd m out (length m) n

@@ -8,7 +8,8 @@ use Rattle.spec.specs.{Elision.elide, Codes.markOf, Codes.isVoicing, Vowels.end
 use Rattle.message.specs.Places.{wordAt, letterOf, Steady}
 use Rattle.message.proofs.Left.{mark-within, word-put, begins-at, read-letter, read-mark, read-break, read-end, unmarked-after}
 use Rattle.message.proofs.Bytes.{vowel-break, vowel-mark}
-use Rattle.laws.proofs.{Classes.cond-app, Classes.either, Classes.break-vowel, Elided.names-elide, Stretch.voices-over, Stretch.voices-first}
+use Rattle.laws.proofs.Classes.{cond-app, either, break-vowel}
+use Rattle.laws.proofs.{Elided.names-elide, Stretch.voices-over, Stretch.voices-first}
 use Rattle.transcriber.specs.Places.{Left, leftAt, markBefore, markFrom, markedAt, factsAt, tailTape, tailNext, tailWord, tapeAt}
 use Rattle.transcriber.specs.Places.{toneAt, soundAt, codesAt, toneAfter, soundAfter, tailNamesOf, namesAt}
 use Rattle.transcriber.specs.Fused.{toneBefore, letterCodes, fusedFrom}

@@ -4,7 +4,8 @@ use Rattle.spec.specs.Tape.{tape}
 use Rattle.laws.proofs.Putting.{put-none}
 use Rattle.transcriber.specs.{Places.tapeAt, Walk.Stands, Walk.pieceAt}
 use Rattle.transcriber.proofs.Filling.{Writing, writing-length, writing-ready, writing-more}
-use Rattle.transcriber.proofs.{Levelling.levels-done, Levelling.end-due, Tail.tape-start, Tail.tape-end, Walking.piece-step, Walking.stands-end}
+use Rattle.transcriber.proofs.{Levelling.levels-done, Levelling.end-due, Walking.piece-step, Walking.stands-end}
+use Rattle.transcriber.proofs.Tail.{tape-start, tape-end}
 use Rattle.transcriber.proofs.tape.walk.Statement.{statement}
 use Rattle.transcriber.proofs.tape.walk.Tie as tie
 
