@@ -1,12 +1,17 @@
--- Two messages with a break between them: a pause splits the tape, any break the names, since nothing crosses them; and accepted messages with a break between, short enough, are an accepted one.
+-- Two messages with a break between them: a pause splits the tape, any break the names, since nothing crosses them; so a message's tape is
+-- the tapes of its phrases with 63 between them. And accepted messages with a break between, short enough, are an accepted one.
 use Rattle.laws.proofs.Kit.{ℕ, _<_, _≤_, _≡_, refl, sym, _∙_, true, false, List, [], _∷_, _++_, append-assoc, arith, length}
+use Rattle.laws.proofs.Kit.{ap, map, eqb, eqb-true, eqb-false, ne-eqb}
 use Rattle.spec.specs.Letters.{Message, last, more, read, isBreak}
 use Rattle.spec.specs.Tape.{sounds, wordNames, namesOf, names}
+use Rattle.spec.specs.Phrases.{putByte, phrases, separated}
+use Rattle.spec.specs.Tables.{among}
+use Rattle.spec.specs.SpokenLevels.{Each}
 use Rattle.spec.specs.Refusals.{letterByte, first, none, row3, row4, row5, row6, row7, row8, row9, row10, rows, fitsIn, beforeAt, NoneFits}
 use Rattle.spec.specs.Alphabet.{pause}
 use Rattle.spec.proofs.Computed.{everything}
 use Rattle.laws.proofs.Accepted.{Clear, ClearFrom, places-clear, each-place, Passes, passes-none, none-passes}
-use Rattle.laws.proofs.Classes.{cond-same, break-mark, break-vowel, break-sign, break-consonant}
+use Rattle.laws.proofs.Classes.{either, cond-both, cond-same, break-mark, break-vowel, break-sign, break-consonant}
 use Rattle.laws.proofs.PartsAccepted.{Opens, rows-over, rows-after, clear-followed, last-firm}
 use Rattle.laws.proofs.Stretch.{meet, read-join, segment-join}
 
@@ -14,6 +19,61 @@ use Rattle.laws.proofs.Stretch.{meet, read-join, segment-join}
 pub tape-pause : (a b : List ℕ) → sounds (a ++ (pause ∷ b)) ≡ sounds a ++ (63 ∷ sounds b)
 unfolding everything
 tape-pause a b = rw (read-join a b pause refl, segment-join false false (read a) pause (read b))
+
+-- So the tape of phrases with pauses between them, whatever they are, is their tapes with 63 between them.
+pub tape-separated : (fs : List (List ℕ)) → sounds (separated pause fs) ≡ separated 63 (map sounds fs)
+unfolding everything
+tape-separated [] = refl
+tape-separated (f ∷ []) = refl
+tape-separated (f ∷ g ∷ fs) = tape-pause f (separated pause (g ∷ fs)) ∙ ap (λ t. sounds f ++ (63 ∷ t)) (tape-separated (g ∷ fs))
+
+-- A message has a phrase,
+put-some : (b : ℕ) (fs : List (List ℕ)) → 0 < length (putByte b fs)
+unfolding putByte
+put-some b [] = omega arith
+put-some b (f ∷ fs) = omega arith
+
+phrases-some : (m : List ℕ) → 0 < length (phrases m)
+unfolding phrases
+phrases-some [] = omega arith
+phrases-some (b ∷ m) = cond-both {A = List (List ℕ)} (λ fs. 0 < length fs) (eqb b pause) (omega arith) (put-some b (phrases m))
+
+-- a byte of a phrase and a pause before phrases stand before them when they are put together,
+put-separated : (b : ℕ) (fs : List (List ℕ)) → separated pause (putByte b fs) ≡ b ∷ separated pause fs
+unfolding putByte separated
+put-separated b [] = refl
+put-separated b (f ∷ []) = refl
+put-separated b (f ∷ g ∷ fs) = refl
+
+pause-separated : (fs : List (List ℕ)) → 0 < length fs → separated pause ([] ∷ fs) ≡ pause ∷ separated pause fs
+unfolding separated
+pause-separated [] h = absurd (omega arith)
+pause-separated (f ∷ fs) h = refl
+
+-- so the message is its phrases with pauses between them,
+pub phrases-message : (m : List ℕ) → separated pause (phrases m) ≡ m
+unfolding phrases separated
+phrases-message [] = refl
+phrases-message (b ∷ m) = either (eqb b pause)
+    (λ e. rw (e, pause-separated (phrases m) (phrases-some m), phrases-message m, eqb-true b pause e) refl)
+    (λ e. rw (e, put-separated b (phrases m), phrases-message m) refl)
+
+-- no phrase has a pause,
+put-without : (b : ℕ) (fs : List (List ℕ)) → eqb b pause ≡ false → Each (λ f. among f pause ≡ false) fs
+    → Each (λ f. among f pause ≡ false) (putByte b fs)
+unfolding putByte among
+put-without b [] e w = (rw (ne-eqb pause b (λ q. eqb-false b pause e (sym q))), tt)
+put-without b (f ∷ fs) e w = (rw (ne-eqb pause b (λ q. eqb-false b pause e (sym q)), w .0), w .1)
+
+pub phrases-without : (m : List ℕ) → Each (λ f. among f pause ≡ false) (phrases m)
+unfolding phrases among
+phrases-without [] = (refl, tt)
+phrases-without (b ∷ m) = either (eqb b pause) (λ e. rw e (refl, phrases-without m))
+    (λ e. rw e (put-without b (phrases m) e (phrases-without m)))
+
+-- and its tape is their tapes with 63 between them.
+pub phrases-tape : (m : List ℕ) → sounds m ≡ separated 63 (map sounds (phrases m))
+phrases-tape m = ap sounds (sym (phrases-message m)) ∙ tape-separated (phrases m)
 
 -- A break of either kind splits the names.
 names-meet : (a : Message) (x : ℕ) (b : Message) → namesOf (meet a x b) ≡ namesOf a ++ namesOf b

@@ -6,7 +6,9 @@ use mathlib.Core.Bool.{cond}
 use mathlib.Core.List.{List, [], _∷_, _++_}
 use lib.Dec.{eqb}
 use lib.ListN.{length}
-use Rattle.spec.specs.SpokenLevels.{hundreds, wordIn, thousands, belowHundred, afterGaps, spaced}
+use lib.IntN.{ℤ, pos, negsuc}
+use Rattle.spec.specs.SpokenLevels.{bytes, units, teens, tens, hundreds, wordIn, thousands}
+use Rattle.spec.specs.SpokenLevels.{afterGaps, spaced}
 use Rattle.laws.proofs.Putting.{Put}
 use Rattle.levels.specs.declared.Parts.{Parts}
 
@@ -28,12 +30,24 @@ pub record Adds (words : List (List ℕ)) (out out′ : List ℕ) (at r : ℕ) :
   pub put : Put (placed at words) out out′ r at
   pub begun : Begun words r
 
+-- the word that stands before the number's: below zero a minus
+unfoldable pub signWords : ℤ → List (List ℕ)
+signWords (pos n) = []
+signWords (negsuc n) = bytes "ми*нус" ∷ []
+
 -- the parts of a number
 pub record Splits (n : ℕ) (p : Parts) : Type 0 where
   pub thousands : p .thousands ≡ n / 1000
   pub hundreds : p .hundreds ≡ n % 1000 / 100 * 100
-  pub rest : p .rest ≡ n % 100
+  pub tens : p .tens ≡ n % 100 / 10 * 10
+  pub units : p .units ≡ n % 10
 
--- and their words
+-- the words of tens and units: from 10 to 19 one for both
+unfoldable pub lowWords : ℕ → ℕ → List (List ℕ)
+lowWords ten unit =
+    cond (eqb ten 10) (wordIn teens (10 + unit)) (wordIn tens ten ++ wordIn units unit)
+
+-- the words of the parts
 abbrev pub partWords : Parts → List (List ℕ)
-partWords p = thousands (p .thousands) ++ (wordIn hundreds (p .hundreds) ++ belowHundred (p .rest))
+partWords p =
+    thousands (p .thousands) ++ (wordIn hundreds (p .hundreds) ++ lowWords (p .tens) (p .units))

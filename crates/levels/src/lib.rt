@@ -6,7 +6,7 @@ ghost use lib.ListN.{length};
 ghost use lib.IntN.{pos, natAbs};
 ghost use Rattle.spec.specs.SpokenLevels.{spoken, InRange, LevelPromise};
 ghost use Rattle.laws.proofs.Putting.{Put};
-ghost use Rattle.levels.specs.Placing.{Room, Adds, Splits, partWords};
+ghost use Rattle.levels.specs.Placing.{Room, Adds, Splits, signWords, partWords};
 use spec::Answer;
 use spec::Refusal;
 use words::put_below_hundred;
@@ -22,11 +22,13 @@ const FARTHEST: i32 = 9999;
 // No level has words of more bytes.
 pub const LONGEST: usize = 54;
 
-// The parts that a number of centimetres is spoken in: how many thousands, the hundreds as they are, 0 to 900, and what is left.
+// The parts that a number of centimetres is spoken in: how many thousands; the hundreds and the
+// tens as they are, 0 to 900 and 0 to 90; and the units.
 pub struct Parts {
     pub thousands: usize,
     pub hundreds: usize,
-    pub rest: usize,
+    pub tens: usize,
+    pub units: usize,
 }
 
 // Is the level outside the range?
@@ -53,21 +55,35 @@ fn split(level: i32) -> Parts
     ensures { λ r. ⌜ Splits (natAbs level) r ⌝ }
 {
     let n = magnitude(level);
+    let below = n % 1000;
+    let rest = below % 100;
     Parts {
         thousands: (n / 1000) as usize,
-        hundreds: (n % 1000 / 100 * 100) as usize,
-        rest: (n % 100) as usize,
+        hundreds: (below / 100 * 100) as usize,
+        tens: (rest / 10 * 10) as usize,
+        units: (rest % 10) as usize,
     }
+}
+
+// Puts ми*нус where the level is below zero.
+fn put_sign(out: &mut [u8], level: i32) -> usize
+    requires { ⌜ InRange level × Room (signWords level) (now out) 0 ⌝ }
+    ensures { λ r. ⌜ Adds (signWords level) (now (out .entry)) (now (out .exit)) 0 r ⌝ }
+{
+    if level < 0 {
+        return put_word(out, 0, b"\xEC\xE8*\xED\xF3\xF1"); // ми*нус
+    }
+    0
 }
 
 // Puts the words of the parts, one part after the other.
 fn put_parts(out: &mut [u8], at: usize, p: Parts) -> usize
-    requires { ⌜ Room (partWords p) (now out) at ⌝ }
+    requires { ⌜ (p .units ≤ 9) × Room (partWords p) (now out) at ⌝ }
     ensures { λ r. ⌜ Adds (partWords p) (now (out .entry)) (now (out .exit)) at r ⌝ }
 {
     let thousands = put_thousands(out, at, p.thousands);
     let hundreds = put_hundreds(out, thousands, p.hundreds);
-    put_below_hundred(out, hundreds, p.rest)
+    put_below_hundred(out, hundreds, p.tens, p.units)
 }
 
 // Writes the words of a level, where there is room for them, and answers how long they are.
@@ -78,11 +94,8 @@ fn write_level(level: i32, out: &mut [u8]) -> usize
     if level == 0 {
         return put_word(out, 0, b"\xED\xEE*\xEB\xFC"); // но*ль
     }
-    if level < 0 {
-        let at = put_word(out, 0, b"\xEC\xE8*\xED\xF3\xF1"); // ми*нус
-        return put_parts(out, at, split(level));
-    }
-    put_parts(out, 0, split(level))
+    let at = put_sign(out, level);
+    put_parts(out, at, split(level))
 }
 
 // How long they are: they are written where there is room for every level.

@@ -1,9 +1,10 @@
 // The words of numbers, put into a lent output one after the other: the table of paper 02, slip 5, row by row.
 ghost use mathlib.Core.List.{[], _∷_};
-ghost use Prim.Native.Nat.{_<_};
+ghost use Prim.Native.Nat.{_<_, _≤_};
 ghost use lib.ListN.{length};
-ghost use Rattle.spec.specs.SpokenLevels.{units, teens, tens, hundreds, feminine, wordIn, thousand, thousands, belowHundred};
-ghost use Rattle.levels.specs.Placing.{Room, Adds};
+ghost use Rattle.spec.specs.SpokenLevels.{units, teens, tens, hundreds, feminine, wordIn};
+ghost use Rattle.spec.specs.SpokenLevels.{thousand, thousands};
+ghost use Rattle.levels.specs.Placing.{Room, Adds, lowWords};
 use bytes::copy;
 
 const GAP: u8 = 0x20;
@@ -147,17 +148,17 @@ pub fn put_thousands(out: &mut [u8], at: usize, n: usize) -> usize
     put_thousand(out, end, n)
 }
 
-// A number below 100: up to 19 one word, from there on tens and units.
-pub fn put_below_hundred(out: &mut [u8], at: usize, n: usize) -> usize
-    requires { ⌜ Room (belowHundred n) (now out) at ⌝ }
-    ensures { λ r. ⌜ Adds (belowHundred n) (now (out .entry)) (now (out .exit)) at r ⌝ }
+// A number below 100 by its tens and units: from 10 to 19 one word, else a word for each.
+pub fn put_below_hundred(out: &mut [u8], at: usize, ten: usize, unit: usize) -> usize
+    requires { ⌜ (unit ≤ 9) × Room (lowWords ten unit) (now out) at ⌝ }
+    ensures { λ r. ⌜ Adds (lowWords ten unit) (now (out .entry)) (now (out .exit)) at r ⌝ }
 {
-    if n <= 9 {
-        return put_unit(out, at, n);
+    if ten == 0 {
+        return put_unit(out, at, unit);
     }
-    if n <= 19 {
-        return put_teen(out, at, n);
+    if ten == 10 {
+        return put_teen(out, at, 10 + unit);
     }
-    let end = put_tens(out, at, n / 10 * 10);
-    put_unit(out, end, n % 10)
+    let end = put_tens(out, at, ten);
+    put_unit(out, end, unit)
 }

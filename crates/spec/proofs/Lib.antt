@@ -3,6 +3,7 @@ pub mod Computed
 pub mod EditingExamples
 pub mod LevelExamples
 pub mod NameExamples
+pub mod PhraseExamples
 pub mod PrintedExamples
 pub mod RefusalExamples
 pub mod Utf8Examples

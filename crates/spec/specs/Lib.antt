@@ -10,6 +10,7 @@ pub mod Voicing
 pub mod Palatalization
 pub mod Tape
 pub mod Counting
+pub mod Phrases
 pub mod Refusals
 pub mod Joints
 pub mod Answers

@@ -18,11 +18,11 @@ same s = toZ-ofZ w32 (s .args .level) (s .fits .level)
 told : (c : tie.After-is-outside) → c .is-outside .result ≡ leb 10000 (natAbs (c .before .before .args .level))
 told c = rw (same (c .before .before)) at (c .is-outside .ensures)
 
-outside : (c : tie.Then1) → 9999 < natAbs (c .before .before .before .args .level)
-outside c = omega (arith, leb-true 10000 (natAbs (c .before .before .before .args .level)) (sym (told (c .before)) ∙ c .if1 .taken))
-
 inside : (c : tie.Else1) → InRange (c .before .before .before .args .level)
 inside c = omega (arith, leb-false 10000 (natAbs (c .before .before .before .args .level)) (sym (told (c .before)) ∙ c .if1 .left))
+
+outside : (c : tie.Then1) → 9999 < natAbs (c .before .before .before .args .level)
+outside c = omega (arith, leb-true 10000 (natAbs (c .before .before .before .args .level)) (sym (told (c .before)) ∙ c .if1 .taken))
 
 -- how long the words are
 measured : (c : tie.After-measure) → c .measure .result ≡ length (spoken (c .before .before .before .before .before .args .level))

@@ -18,25 +18,60 @@ held c = rw (c .magnitude .ensures, near-same (c .before .args .level) (c .befor
 part : (c : tie.After-magnitude) (k : ℕ) → k ≤ number c → toZ w32 (ofZ w32 (pos k)) ≡ pos k
 part c k h = near-same (pos k) (omega (arith, h, c .before .pre))
 
+-- what is left below a thousand and below a hundred
+abbrev below : tie.After-magnitude → ℕ
+below c = number c % 1000
+
+abbrev rest : tie.After-magnitude → ℕ
+rest c = number c % 1000 % 100
+
+rest-same : (n : ℕ) → n % 1000 % 100 ≡ n % 100
+rest-same n = omega arith
+
 pub split-spec : {M : Type 1} → statement M
 split-spec =
     tie.close
     (tie.spec
     (λ c κs. search needs)
     (λ c. (omega arith, rw (held c) (near-fits (pos (number c / 1000)) (omega (arith, c .before .pre)))))
-    (λ c. rw (held c, part c (number c / 1000) (omega arith)) (tt, record { fits = omega (arith, c .before .pre) }))
+    (λ c. (omega arith, rw (held c, part c (below c) (omega arith)) (near-fits (pos (below c / 100)) (omega arith))))
     (λ c. (omega arith, rw (held c) (near-fits (pos (number c / 1000)) (omega (arith, c .before .pre)))))
-    (λ c. (omega arith, rw (held c, part c (number c % 1000) (omega arith)) (near-fits (pos (number c % 1000 / 100)) (omega arith))))
-    (λ c. rw (held c, part c (number c % 1000) (omega arith), part c (number c % 1000 / 100) (omega arith)) (near-fits (pos (number c % 1000 / 100 * 100)) (omega arith)))
-    (λ c. rw (held c, part c (number c % 1000) (omega arith), part c (number c % 1000 / 100) (omega arith), part c (number c % 1000 / 100 * 100) (omega arith)) (tt, record { fits = omega arith }))
-    (λ c. (omega arith, rw (held c) (near-fits (pos (number c / 100)) (omega (arith, c .before .pre)))))
-    (λ c. rw (held c, part c (number c % 100) (omega arith)) (tt, record { fits = omega arith }))
+    (λ c. rw (held c, part c (number c / 1000) (omega arith)) (tt, record { fits = omega (arith, c .before .pre) }))
+    (λ c. (omega arith, rw (held c, part c (below c) (omega arith)) (near-fits (pos (below c / 100)) (omega arith))))
+    (λ c.
+    rw (held c, part c (below c) (omega arith), part c (below c / 100) (omega arith))
+    (near-fits (pos (below c / 100 * 100)) (omega arith)))
+    (λ c.
+    rw (held c, part c (below c) (omega arith), part c (below c / 100) (omega arith), part c (below c / 100 * 100) (omega arith))
+    (tt, record { fits = omega arith }))
+    (λ c.
+    (omega arith, rw (held c, part c (below c) (omega arith), part c (rest c) (omega arith)) (near-fits (pos (rest c / 10)) (omega arith))))
+    (λ c.
+    rw (held c, part c (below c) (omega arith), part c (rest c) (omega arith), part c (rest c / 10) (omega arith))
+    (near-fits (pos (rest c / 10 * 10)) (omega arith)))
+    (λ c.
+    rw (
+      held c,
+      part c (below c) (omega arith),
+      part c (rest c) (omega arith),
+      part c (rest c / 10) (omega arith),
+      part c (rest c / 10 * 10) (omega arith),
+    ) (tt, record { fits = omega arith }))
+    (λ c.
+    (omega arith, rw (held c, part c (below c) (omega arith), part c (rest c) (omega arith)) (near-fits (pos (rest c / 10)) (omega arith))))
+    (λ c.
+    rw (held c, part c (below c) (omega arith), part c (rest c) (omega arith), part c (rest c % 10) (omega arith))
+    (tt, record { fits = omega arith }))
     (λ c.
     rw (
       held c,
       part c (number c / 1000) (omega arith),
-      part c (number c % 1000) (omega arith),
-      part c (number c % 1000 / 100) (omega arith),
-      part c (number c % 1000 / 100 * 100) (omega arith),
-      part c (number c % 100) (omega arith),
-    ) (record { thousands = refl; hundreds = refl; rest = refl })))
+      part c (below c) (omega arith),
+      part c (below c / 100) (omega arith),
+      part c (below c / 100 * 100) (omega arith),
+      part c (rest c) (omega arith),
+      part c (rest c / 10) (omega arith),
+      part c (rest c / 10 * 10) (omega arith),
+      part c (rest c % 10) (omega arith),
+      rest-same (number c),
+    ) (record { thousands = refl; hundreds = refl; tens = refl; units = omega arith })))
