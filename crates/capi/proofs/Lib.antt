@@ -1,1 +1,2 @@
+pub mod AdditionsInC
 pub mod SilenceInC

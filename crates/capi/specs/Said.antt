@@ -1,15 +1,15 @@
 -- What the C interface says of an answer: the paper's four numbers; of the editor's, the reader's and an addition's three, since no cut is live there; and of a lookup's five.
 -- Assumes nothing: these are definitions.
-use Prim.Native.Nat.{ℕ}
+use Prim.Native.Nat.{ℕ, _<_}
 use mathlib.Core.Path.{_≡_}
-use mathlib.Core.Bool.{cond}
-use mathlib.Core.List.{List, []}
+use mathlib.Core.Bool.{Bool, cond}
+use mathlib.Core.List.{List, [], _∷_}
 use lib.Dec.{eqb}
 use lib.ListN.{take, drop}
 use Rattle.spec.specs.Answers.{numberOf, placeOf, lengthOf, liveOf, checkedNumber, checkedPlace, checkedCodes, checkedNames, Promise, Carried}
 use Rattle.spec.specs.Listeners.{withheld}
-use Rattle.spec.specs.Book.{readBook, bookIn, unheard, LocatePromise, AddPromise}
-use Rattle.spec.specs.BookDemands.{BothSound, AgreeFor}
+use Rattle.spec.specs.Book.{Phrase, readBook, bookIn, unheard, LocatePromise, phraseOf, AddPromise}
+use Rattle.spec.specs.BookDemands.{HoldsJust, BothSound, AgreeFor}
 use Rattle.spec.specs.declared.Listener.the-variants.{Pump, Road, Dispatch}
 use Rattle.spec.specs.declared.Answer.{Answer}
 use Rattle.spec.specs.declared.Answer.the-variants as answer
@@ -94,6 +94,56 @@ FindsFor Other buffer used n r = r ≡ Refused (unheard (readBook (bookIn buffer
 abbrev pub AddsFor : Named → List ℕ → ℕ → ℕ → ℕ → List ℕ → List ℕ → Answer → Type 0
 AddsFor (Known l) buffer used n set m buffer′ r = AddPromise l buffer used n set m buffer′ r
 AddsFor Other buffer used n set m buffer′ r = Promise (answer.Refused withheld) [] buffer buffer′ r
+
+-- Request 6, the list of additions in C. One call of govorun_book_add: whom the caller names and what
+-- he asks for, what is said to him, and what the buffer holds afterwards.
+pub record Call : Type 0 where
+  pub listener : ℕ
+  pub number : ℕ
+  pub set : ℕ
+  pub message : List ℕ
+  pub said : GovorunAdded
+  pub after : List ℕ
+
+-- on this buffer, with this count handed over: its number has two bytes and its set one, and it keeps its promise
+pub record CalledOn (buffer : List ℕ) (used : ℕ) (c : Call) : Type 0 where
+  pub number : c .number < 65536
+  pub set : c .set < 256
+  pub promise : Carried
+      (AddsFor (named (c .listener)) buffer used (c .number) (c .set) (c .message) (c .after)) SaidAdded (c .said)
+
+-- Number 0 says that it is accepted; then the caller takes the count that is said, and else he keeps his own.
+abbrev pub isAccepted : Call → Bool
+isAccepted c = eqb (c .said .number) 0
+
+abbrev pub countAfter : Call → ℕ → ℕ
+countAfter c used = cond (isAccepted c) (c .said .used) used
+
+-- calls one after the other, from this buffer and count on
+abbrev pub CallByCall : List ℕ → ℕ → List Call → Type 0
+CallByCall buffer used [] = Unit {0}
+CallByCall buffer used (c ∷ more) = CalledOn buffer used c × CallByCall (c .after) (countAfter c used) more
+
+-- the buffer and the count after the last, and the phrases of the accepted, in order
+abbrev pub bufferAfterAll : List ℕ → List Call → List ℕ
+bufferAfterAll buffer [] = buffer
+bufferAfterAll buffer (c ∷ more) = bufferAfterAll (c .after) more
+
+abbrev pub countAfterAll : ℕ → List Call → ℕ
+countAfterAll used [] = used
+countAfterAll used (c ∷ more) = countAfterAll (countAfter c used) more
+
+abbrev pub acceptedCalls : List Call → List Phrase
+acceptedCalls [] = []
+acceptedCalls (c ∷ more) =
+    let f = phraseOf (c .number) (c .set) (c .message) in
+    cond (isAccepted c) (f ∷ acceptedCalls more) (acceptedCalls more)
+
+-- After every list of calls to an empty book, whoever calls and whatever stood in the buffer, it holds
+-- just the tapes of the accepted, under their numbers and with their sets, in order.
+abbrev pub AdditionsInC : List ℕ → List Call → Type 0
+AdditionsInC buffer calls =
+    CallByCall buffer 0 calls → HoldsJust (bufferAfterAll buffer calls) (countAfterAll 0 calls) (acceptedCalls calls)
 
 -- Slip 7, the law of silence in C. Two sound books agree in what the one who is named may hear; where he is no listener, it is enough that both are sound.
 abbrev pub AgreeIn : Named → List ℕ → List ℕ → Type 0

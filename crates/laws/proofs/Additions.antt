@@ -1,12 +1,12 @@
 -- Additions to a phrase book: each ends in one of the ways that its numbers tell, and one after the other, from an empty book on, they leave just the records of those that were accepted.
-use Rattle.laws.proofs.Kit.{ℕ, suc, _+_, _≤_, _≡_, refl, sym, ap, _∙_, true, _⊎_, inl, inr, ⊎-elim, List, [], _∷_, _++_, append-assoc, append-nil, arith, length, take, drop, take-append-drop, take-at, le-leb, lt-leb}
-use Rattle.spec.specs.Book.{Phrase, recordOf, records, readBook, unsound, bookIn, findAnswer, tapeAfter, locateAnswer, leastAfter, afterListener, afterBook, phraseOf, withAddition, addAnswer, Fits, RisingFrom, Sound}
+use Rattle.laws.proofs.Kit.{ℕ, zero, suc, _+_, _*_, _≤_, _≡_, refl, sym, ap, _∙_, true, _⊎_, inl, inr, ⊎-elim, List, [], _∷_, _++_, append-assoc, append-nil, arith, leb, length, take, drop, length-append, take-append-drop, take-at, le-leb, lt-leb}
+use Rattle.spec.specs.Book.{Phrase, recordOf, records, row15, row16, Reading, holds, unsound, _then_, readFrom, readBook, Bytes, bookIn, findAnswer, tapeAfter, locateAnswer, leastAfter, afterListener, afterBook, phraseOf, withAddition, addAnswer, Fits, RisingFrom, Sound}
 use Rattle.spec.specs.BookDemands.{BookDemands, MayAdd, AddDue, notDispatch, ofMessage, ofBook, notAboveLast, noRoomBehind, Addition, AddedTo, usedAfter, addedBy, OneByOne, lastBuffer, lastUsed, accepted, HoldsJust, AdditionsKept}
 use Rattle.spec.specs.Answers.{within, afterCheck, outputAfter}
 use Rattle.spec.specs.{Listeners.mayWrite, declared.Listener.Listener, Tape.tape, Refusals.refusal, Refusals.NoneFits, declared.Answer.Answer, declared.Answer.the-variants.Written, declared.Answer.the-variants.Refused, declared.Refusal.Refusal}
 use Rattle.laws.proofs.Accepted.{Passes, check-finds, passes-none, passes-accepted, none-accepted, given-refused, given-range}
 use Rattle.laws.proofs.Demands.{Ways, settled, exactly}
-use Rattle.laws.proofs.Book.{Bytes, Judged, isSound, isRefused, judge, sound-read, due-read, bytes-in}
+use Rattle.laws.proofs.Book.{Judged, isSound, isRefused, judge, record-size, sound-read, due-read, bytes-in}
 use Rattle.laws.proofs.{Classes.either, Classes.below-or, Sizes.tape-size, Lookup.looks-up, Lookup.find-promised}
 
 -- an addition ends in these ways
@@ -56,6 +56,13 @@ book-left buffer used n set m (Written k live) =
     rw (append-assoc book (recordOf (phraseOf n set m)) (drop k buffer)) (take-at book (recordOf (phraseOf n set m) ++ drop k buffer) (length book) refl)
 book-left buffer used n set m (Refused r) = rw (take-append-drop used buffer) at (take-at (take used buffer) (drop used buffer) (length (take used buffer)) refl)
 
+-- a record has a head and a tape, which has at most two codes for each byte
+added-size : (book : List ℕ) (n set : ℕ) (m : List ℕ) → length (withAddition book n set m) ≤ length book + (7 + 2 * length m)
+unfolding withAddition
+added-size book n set m =
+    let f = phraseOf n set m in
+    omega (arith, length-append book (recordOf f), record-size f, tape-size m)
+
 -- What holds of a book.
 pub book-demands : (buffer : List ℕ) (used : ℕ) → Bytes buffer → BookDemands buffer used
 book-demands buffer used b =
@@ -66,8 +73,48 @@ book-demands buffer used b =
       rest = λ buffer₂ used₂ e l n old new new₂ r r₂ k k₂. (k₂ .answer ∙ rw e (sym (k .answer)), k₂ .tape ∙ rw e (sym (k .tape)));
       settled = λ l n set m buffer′ r k. settled (add-ways l (bookIn buffer used) n set m buffer inside) k;
       exact = λ l n set m buffer′ r k. exactly (add-ways l (bookIn buffer used) n set m buffer inside) k;
+      most = λ n set m. added-size (bookIn buffer used) n set m;
       leaves = λ l n set m buffer′ r k. rw (k .output) (book-left buffer used n set m (addAnswer l (bookIn buffer used) n set m (length buffer)));
     }
+
+-- A book that is not sound is refused with a number,
+abbrev NumberedBook : Reading → Type 0
+NumberedBook (holds fs) = Unit {0}
+NumberedBook (unsound r) = 1 ≤ r .number
+
+then-numbered : (f : Phrase) (x : Reading) → NumberedBook x → NumberedBook (f then x)
+unfolding _then_
+then-numbered f (holds fs) h = tt
+then-numbered f (unsound r) h = h
+
+read-numbered : (skip place least : ℕ) (x : List ℕ) → NumberedBook (readFrom skip place least x)
+unfolding readFrom
+read-numbered skip place least [] = tt
+read-numbered (suc skip) place least (b ∷ x) = read-numbered skip (suc place) least x
+read-numbered zero place least (b ∷ x) = either (row15 (b ∷ x)) (λ p. rw p (omega arith))
+    (λ p. either (row16 least (b ∷ x)) (λ q. rw (p, q) (omega arith)) (λ q. rw (p, q) (then-numbered _ _ (read-numbered _ _ _ x))))
+
+-- and so is an addition: no refusal has number 0.
+abbrev pub Numbered : Answer → Type 0
+Numbered (Written n k) = Unit {0}
+Numbered (Refused r) = 1 ≤ r .number
+
+room-numbered : (room size : ℕ) → Numbered (within room size 0)
+unfolding within
+room-numbered room size = either (leb size room) (λ h. rw h tt) (λ h. rw h (omega arith))
+
+book-numbered : (x : Reading) (n bookEnd : ℕ) (a : Answer) → NumberedBook x → Numbered a → Numbered (afterBook x n bookEnd a)
+unfolding afterBook
+book-numbered (holds fs) n bookEnd a h g = either (leb (leastAfter 0 fs) n) (λ q. rw q g) (λ q. rw q (omega arith))
+book-numbered (unsound r) n bookEnd a h g = h
+
+pub add-numbered : (l : Listener) (book : List ℕ) (n set : ℕ) (m : List ℕ) (room : ℕ) → Numbered (addAnswer l book n set m room)
+unfolding addAnswer afterListener afterCheck readBook
+add-numbered l book n set m room = either (mayWrite l)
+    (λ w. ⊎-elim
+    (λ c. rw (w, passes-accepted m (c .1)) (book-numbered _ n (length book) _ (read-numbered 0 0 0 book) (room-numbered room (length (withAddition book n set m)))))
+    (λ c. rw (w, c .refused) (given-range (c .given) .0)) (check-finds m))
+    (λ w. rw w (omega arith))
 
 -- records with one more behind
 records-more : (fs : List Phrase) (f : Phrase) → records fs ++ recordOf f ≡ records (fs ++ (f ∷ []))

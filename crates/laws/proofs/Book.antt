@@ -1,6 +1,6 @@
 -- The phrase book: a record that is written reads back, and what reads as a record was written so; hence any bytes are the records of some rising phrases and then their end or the first place of a refusal.
 use Rattle.laws.proofs.Kit.{ℕ, zero, suc, _+_, _-_, _*_, _/_, _%_, _<_, _≤_, _≡_, refl, sym, ap, _∙_, true, false, not, _&&_, true≢false, false≢true, _⊎_, inl, inr, ⊎-elim, List, [], _∷_, _++_, append-assoc, append-nil, arith, eqb, leb, length, take, drop, getD, length-append, length-drop, take-append-drop, take-at, drop-at, getD-drop, getD-take, List·getD-eq-default, drop-drop, length-take, length-take-le, eqb-true, leb-true, le-leb, lt-leb}
-use Rattle.spec.specs.Book.{Phrase, recordMark, twoBytes, headOf, recordOf, records, headSize, numberIn, setIn, lengthIn, spanIn, pairAt, phraseIn, hasRecordMark, isWhole, isRecord, row15, row16, Reading, holds, unsound, _then_, readFrom, readBook, bookIn, leastAfter, Fits, RisingFrom, Sound}
+use Rattle.spec.specs.Book.{Phrase, recordMark, twoBytes, headOf, recordOf, records, headSize, numberIn, setIn, lengthIn, spanIn, pairAt, phraseIn, hasRecordMark, isWhole, isRecord, row15, row16, Reading, holds, unsound, _then_, readFrom, readBook, Bytes, bookIn, leastAfter, Fits, RisingFrom, Sound}
 use Rattle.spec.specs.{Utf8.same, Refusals.refusal, declared.Refusal.Refusal, BookDemands.UpTo, BookDemands.BookDue, BookDemands.noRecord, BookDemands.notAbove}
 use Rattle.laws.proofs.{Classes.either, Classes.below-or}
 
@@ -98,10 +98,7 @@ pub record-size : (f : Phrase) → length (recordOf f) ≡ headSize + length (f 
 unfolding recordOf headOf recordMark twoBytes
 record-size f = omega arith
 
--- each is a byte
-abbrev pub Bytes : List ℕ → Type 0
-Bytes x = (j : ℕ) → getD x j 0 < 256
-
+-- bytes behind others are bytes
 pub bytes-behind : (k : ℕ) (x : List ℕ) → Bytes x → Bytes (drop k x)
 bytes-behind k x b = λ j. rw (getD-drop k x j 0) (b (k + j))
 

@@ -1,9 +1,9 @@
 -- The law of silence: what a listener is told of a sound book is made of what he hears under the numbers he asks for, and where two books have the same for him he hears the same.
 use Rattle.laws.proofs.Kit.{ℕ, _≡_, refl, sym, ap, _∙_, false, true≢false, _⊎_, inl, inr, ⊎-elim, _↔_, List, [], _∷_, _++_, arith, length}
-use Rattle.spec.specs.Book.{Phrase, bookIn, readBook, findAnswer, tapeAfter, Sound}
+use Rattle.spec.specs.Book.{Phrase, Bytes, bookIn, readBook, findAnswer, tapeAfter, Sound}
 use Rattle.spec.specs.BookDemands.{Listed, IsFor, Addition, usedAfter, asked, AnswerAlike, Silence, UnheardAddition}
 use Rattle.spec.specs.{Listeners.mayHear, declared.Listener.Listener}
-use Rattle.laws.proofs.{Book.Bytes, Book.Judged, Book.isSound, Book.isRefused, Book.judge, Book.sound-read, Book.bytes-in, Lookup.heard-same}
+use Rattle.laws.proofs.{Book.Judged, Book.isSound, Book.isRefused, Book.judge, Book.sound-read, Book.bytes-in, Lookup.heard-same}
 use Rattle.laws.proofs.Additions.{added, AsBefore, Next, asBefore, oneMore, sound-next, unsound-next}
 
 -- Two books that tell a listener the same of every number answer him alike.

@@ -122,6 +122,10 @@ readFrom zero place least (b ∷ x) =
 unfoldable pub readBook : List ℕ → Reading
 readBook book = readFrom 0 0 0 book
 
+-- what a buffer holds: bytes, each below 256
+abbrev pub Bytes : List ℕ → Type 0
+Bytes x = (j : ℕ) → getD x j 0 < 256
+
 -- The book is the first part of a lent buffer, as long as the used count says; where the count is above the buffer's length it is the whole buffer.
 unfoldable pub bookIn : List ℕ → ℕ → List ℕ
 bookIn buffer used = take used buffer

@@ -1,7 +1,7 @@
 -- What holds of a phrase book (paper 02, requests 6 and 7): of one lookup or addition (`book-demands` of crate laws proves it), of a list of additions
 -- (`additions-kept`), and that a listener learns nothing of what is not for him (`silence`, and for one addition `unheard-addition`).
 -- Assumes nothing: these are definitions.
-use Prim.Native.Nat.{ℕ, _<_, _≤_}
+use Prim.Native.Nat.{ℕ, _+_, _*_, _<_, _≤_}
 use mathlib.Core.Path.{_≡_}
 use mathlib.Core.Bool.{true, false}
 use mathlib.Core.Logic.{_⊎_, _↔_}
@@ -95,6 +95,9 @@ pub record BookDemands (buffer : List ℕ) (used : ℕ) : Type 0 where
   -- and exact
   pub exact : (l : Listener) (n set : ℕ) (m buffer′ : List ℕ) (r : Answer) → AddPromise l buffer used n set m buffer′ r
       → Exactly (MayAdd l (bookIn buffer used) n m) (AddDue l (bookIn buffer used) n set m (length buffer)) (withAddition (bookIn buffer used) n set m) 0 buffer buffer′ r
+  -- the book gets longer by a head, 7 bytes, and by at most two bytes for each byte of the message
+  pub most : (n set : ℕ) (m : List ℕ)
+      → length (withAddition (bookIn buffer used) n set m) ≤ length (bookIn buffer used) + (7 + 2 * length m)
   -- it leaves the records before it
   pub leaves : (l : Listener) (n set : ℕ) (m buffer′ : List ℕ) (r : Answer) → AddPromise l buffer used n set m buffer′ r → take (length (bookIn buffer used)) buffer′ ≡ bookIn buffer used
 

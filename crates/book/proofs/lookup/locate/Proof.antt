@@ -1,7 +1,8 @@
 -- The walk over the book tells where the tape stands.
 use Rattle.laws.proofs.Kit.{_≡_, sym, _∙_, arith, length-take-le, needs}
 use Rattle.spec.specs.{Book.readBook, Book.bookIn, Book.locateAnswer, declared.Answer.the-variants.Written}
-use Rattle.laws.proofs.{Book.Bytes, Book.bytes-in, Lookup.locate-promised}
+use Rattle.spec.specs.Book.{Bytes}
+use Rattle.laws.proofs.{Book.bytes-in, Lookup.locate-promised}
 use Rattle.book.specs.{Walking.walkedOf, Walking.PlaceIn, Walking.toldAt}
 use Rattle.book.proofs.Walks.{told-walked, walked-unsound}
 use Rattle.book.proofs.lookup.locate.Statement.{statement}
