@@ -33,6 +33,9 @@ unfoldable pub classOf : ℕ → ℕ
 classOf b = cond (isMark b) 1 (cond (eqb b gap) 2 (cond (eqb b pause) 3 (letterClass (small b))))
 
 -- those that are asked for by themselves
+abbrev pub gapClass : ℕ
+gapClass = 2
+
 abbrev pub pauseClass : ℕ
 pauseClass = 3
 

@@ -1,17 +1,18 @@
 -- What the code reads off the bytes beside a place is what the left context of the place says: in a steady message the byte before and its class tell of the last letter of the word what is asked.
-use Rattle.laws.proofs.Kit.{ℕ, zero, suc, _-_, _<_, _≤_, _≡_, refl, sym, ap, _∙_, Bool, true, false, true≢false, cond, _&&_, _||_, not, and-false, List, [], _∷_, _++_, map, _⊎_, inl, inr, arith, eqb, length, getD, eq-eqb, eqb-true, le-leb, ne-eqb}
-use Rattle.spec.specs.Alphabet.{gap, pause, mark, «ь»}
+use Rattle.laws.proofs.Kit.{ℕ, zero, suc, _-_, _<_, _≤_, _≡_, refl, sym, ap, _∙_, Bool, true, false, true≢false, cond, _&&_, _||_, not, List, [], _∷_, _++_, map, _⊎_, inl, inr, arith, eqb, length, getD, eq-eqb, eqb-true, le-leb, ne-eqb}
+use Rattle.spec.specs.Alphabet.{pause, mark, «ь»}
 use Rattle.spec.specs.Letters.{between, small, plainVowels, softeningVowels, isBreak, isGap, isHardOnly, isPaired, isSoftOnly, isConsonant, isSign, isVowel, isMark}
 use Rattle.spec.specs.Syllables.{coverAfter, incomplete, syllableOf}
 use Rattle.spec.specs.{Tables.among, Vowels.initial, Vowels.hardEnd, Vowels.glides, declared.Cover.Cover}
-use Rattle.message.specs.Classes.{classOf, pauseClass, softSignClass, isBreakClass, isSignClass, isCoveringClass, isVowelClass, isLetterClass}
+use Rattle.message.specs.Classes.{classOf, gapClass, pauseClass, softSignClass, isBreakClass, isSignClass, isCoveringClass, isVowelClass, isLetterClass}
 use Rattle.message.specs.Places.{Steady, letterOf, wordAt}
-use Rattle.message.proofs.Bytes.{by-class, letter-class, vowel-break, vowel-mark}
+use Rattle.message.proofs.Bytes.{by-class, letter-class, not-both, vowel-break, vowel-mark}
 use Rattle.message.proofs.{Before.vowel-before, Computed.everything}
-use Rattle.laws.proofs.Classes.{among-same, either, refuted, or-false, break-both, below, below-same}
-use Rattle.transcriber.specs.Sounds.{byteBefore, classBefore, ByteTells, ClassTells, syllableBy, glideBy, endsHardAt, hardBefore}
+use Rattle.laws.proofs.Classes.{among-same, either, below, below-same}
+use Rattle.transcriber.specs.Sounds.{byteBefore, classBefore, ByteTells, ClassTells, Told, letterBefore, hardBefore, syllableBy, glideBy}
 use Rattle.transcriber.specs.Levels.{levelAt}
 use Rattle.transcriber.specs.Places.{Left, stepLeft, leftAt, factsAt}
+use Rattle.transcriber.specs.{declared.LetterBefore.LetterBefore, declared.LetterBefore.the-variants.None, declared.LetterBefore.the-variants.Byte}
 use Rattle.transcriber.proofs.Left.{left-last, left-letter}
 
 -- a number between two others
@@ -69,20 +70,6 @@ pub inside : {A : Type 0} {keys : List ℕ} {b : ℕ} (lo hi : ℕ) (f : ℕ →
 inside {A} {keys} {b} lo hi f d k e h l u =
     rw (between-true lo hi b l u, not-among k) at (below-same (λ x. cond (between lo hi x && not (among keys x)) (f x) d) (λ _. d) 256 b e h)
 
--- a class of letters has no break
-no-break : (class : ℕ → Bool) → class gap ≡ false → class pause ≡ false → (b : ℕ) → class b ≡ true → isBreak b ≡ false
-no-break class g p b e = refuted (isBreak b) (λ k. true≢false (sym e ∙ break-both (λ x. class x ≡ false) g p b k))
-
--- so a letter of class T is none
-pub hard-only-letter : (b : ℕ) → isHardOnly (small b) ≡ true → isBreak b ≡ false
-unfolding everything
-hard-only-letter = no-break (λ x. isHardOnly (small x)) refl refl
-
--- nor one of class Q
-pub soft-only-letter : (b : ℕ) → isSoftOnly (small b) ≡ true → isBreak b ≡ false
-unfolding everything
-soft-only-letter = no-break (λ x. isSoftOnly (small x)) refl refl
-
 -- what is asked of the last letter, 0 for none
 abbrev asked : ℕ → List Bool
 asked q = initial q ∷ isHardOnly q ∷ isPaired q ∷ isSoftOnly q ∷ eqb q «ь» ∷ (isConsonant q || isSign q) ∷ isSign q ∷ []
@@ -97,8 +84,9 @@ Tell b q = ByteTells b q × ClassTells (classOf b) q
 
 told-asked : (b : ℕ) → b < 256 → {q : ℕ} → asked q ≡ answers b → Tell b q
 told-asked b h e =
+    let k = by-class b h .break in
     let s = by-class b h .softSign in
-    (record { first = cc; hardOnly = cc; paired = cc; softOnly = cc; softSign = cc }, record { covers = cc; sign = cc; softSign = cc })
+    (record { first = cc; hardOnly = cc; paired = cc; softOnly = cc; softSign = cc }, record { first = cc; covers = cc; sign = cc; softSign = cc })
 
 -- a letter is told by its byte
 told-letter : (b : ℕ) → b < 256 → isLetterClass (classOf b) ≡ true → Tell b (small b)
@@ -115,28 +103,33 @@ told-mark : (b : ℕ) → isMark b ≡ true → (q : ℕ) → isVowel q ≡ true
 unfolding everything
 told-mark b k q e = rw (eqb-true b mark k) (told-asked mark (omega arith) (among-same asked (λ _. answers mark) (plainVowels ++ softeningVowels) q refl e))
 
--- no byte but a break is a gap
-within-gap : (b : ℕ) → isBreak b ≡ false → isGap b ≡ false
-unfolding isBreak isGap
-within-gap b s = or-false (eqb b gap) (eqb b pause) s .0
+-- a gap's class is its own
+gap-class : (b : ℕ) → b < 256 → isGap b ≡ eqb (classOf b) gapClass
+unfolding everything
+gap-class b h = below-same isGap (λ x. eqb (classOf x) gapClass) 256 b refl h
+
+-- no byte but a break has it
+within-gap : (b : ℕ) → b < 256 → isBreak b ≡ false → eqb (classOf b) gapClass ≡ false
+unfolding everything
+within-gap b h s = not-both (λ x. not (isBreak x)) (λ x. eqb (classOf x) gapClass) b refl h (ap not s)
 
 -- a message begins as after a pause
 pub start-class : (m : List ℕ) → classBefore m 0 ≡ pauseClass
 unfolding everything byteBefore
 start-class m = refl
 
--- only at the start is the byte before a place a pause that is not there
-pub past-start : (m : List ℕ) (i : ℕ) {b : ℕ} → b ≡ byteBefore m i → (b ≡ pause → ⊥) → 0 < i
-unfolding byteBefore
-past-start m zero e n = absurd (n e)
-past-start m (suc i) e n = omega arith
+-- what is told where no letter stands before
+pub told-none : {b : LetterBefore} {q : ℕ} → b ≡ None → Told b q → q ≡ 0
+told-none e t = rw e at t
 
--- a hard boundary stands only before a word's first letter
-pub boundary-initial : (m : List ℕ) (i : ℕ) {q : ℕ} → ByteTells (byteBefore m i) q → (initial q && hardBefore m i) ≡ hardBefore m i
-unfolding hardBefore isBreak isGap
-boundary-initial m i w =
-    let p = byteBefore m i in
-    rw (w .first) (either (eqb p gap) (λ d. rw d) (λ d. rw d (and-false (eqb p pause))))
+-- and where a letter does
+pub told-byte : {b : LetterBefore} {p q : ℕ} → b ≡ Byte p → Told b q → (initial q ≡ false) × ByteTells p q
+told-byte e t = let u = rw e at t in (u .1 .first ∙ u .0, u .1)
+
+-- only at the start is the byte before a place a pause that is not there
+pub past-start : (m : List ℕ) (i : ℕ) {k : ℕ} → k ≡ classBefore m i → (k ≡ pauseClass → ⊥) → 0 < i
+past-start m zero e n = absurd (n (e ∙ start-class m))
+past-start m (suc i) e n = omega arith
 
 module _ (m : List ℕ) (steady : Steady m) where
   -- the byte before a place and its class tell the last letter of the word
@@ -157,9 +150,18 @@ module _ (m : List ℕ) (steady : Steady m) where
   pub class-tells : (i : ℕ) → i ≤ length m → ClassTells (classBefore m i) (leftAt m i .p)
   class-tells i h = tell-at i h .1
 
+  -- so the letter before is told
+  pub told-at : (i : ℕ) → i ≤ length m → Told (letterBefore m i) (leftAt m i .p)
+  unfolding letterBefore initial
+  told-at i h =
+      let t = tell-at i h in
+      cond-by (λ b. Told b (leftAt m i .p)) (isBreakClass (classBefore m i))
+      (λ e. eqb-true (leftAt m i .p) 0 (t .1 .first ∙ e))
+      (λ e. (sym (t .0 .first) ∙ t .1 .first ∙ e, t .0))
+
   -- the two bytes before a place tell whether the word before it ends hard
-  end-raw : (i : ℕ) → i ≤ length m → hardEnd (leftAt m i .q) (leftAt m i .p) ≡ endsHardAt m i
-  unfolding everything leftAt byteBefore endsHardAt
+  end-raw : (i : ℕ) → i ≤ length m → hardEnd (leftAt m i .q) (leftAt m i .p) ≡ hardEnd (small (byteBefore m (i - 1))) (small (byteBefore m i))
+  unfolding everything leftAt byteBefore
   end-raw zero h = refl
   end-raw (suc i) h =
       let b = getD m i 0 in
@@ -182,13 +184,15 @@ module _ (m : List ℕ) (steady : Steady m) where
 
   -- whether a hard boundary stands before the place
   pub hard-raw : (i : ℕ) → i ≤ length m → leftAt m i .hard ≡ hardBefore m i
-  unfolding everything leftAt stepLeft byteBefore hardBefore
-  hard-raw zero h = refl
+  unfolding leftAt stepLeft byteBefore hardBefore
+  hard-raw zero h = rw (start-class m)
   hard-raw (suc i) h =
       let b = getD m i 0 in
+      let t = steady .bytes i in
       let x : suc i - 1 ≡ i = omega arith in
+      let y : suc i - 2 ≡ i - 1 = omega arith in
       let P : Left → Type 0 = λ l. l .hard ≡ hardBefore m (suc i) in
-      cond-by P (isBreak b) (λ s. rw (end-raw i (omega arith), x)) (λ s. cond-by P (isMark b) (λ k. rw (mark-soft i h k, within-gap b s)) (λ k. rw (within-gap b s)))
+      cond-by P (isBreak b) (λ s. rw (gap-class b t, end-raw i (omega arith), x, y)) (λ s. cond-by P (isMark b) (λ k. rw (mark-soft i h k, within-gap b t s)) (λ k. rw (within-gap b t s)))
 
   -- whether a syllable is left incomplete after it
   pub incomplete-raw : (i : ℕ) → i ≤ length m → incomplete (leftAt m i .p) ≡ cond (isCoveringClass (classBefore m i)) (7 ∷ []) []

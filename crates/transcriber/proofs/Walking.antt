@@ -15,7 +15,7 @@ use Rattle.transcriber.specs.Walk.{VowelAt, syllableAt, Stands, Sung, su
 use Rattle.transcriber.specs.Levels.{countedBy, numbered, endRun, stepOver, StepDue, LookDue, Looked}
 use Rattle.transcriber.specs.declared.{LevelRun.LevelRun, Right.Right, Vowel.Vowel}
 use Rattle.transcriber.proofs.Levelling.{levels-found, levels-due, levels-over, break-due, levels-break, levels-end}
-use Rattle.transcriber.proofs.Raw.{where-same, byte-tells, hard-raw, syllable-raw, glide-raw}
+use Rattle.transcriber.proofs.Raw.{where-same, told-at, hard-raw, syllable-raw, glide-raw}
 use Rattle.transcriber.proofs.{Left.left-last, SoundTable.code-read}
 use Rattle.transcriber.proofs.Tail.{tape-letter, tape-mark, tape-break, tone-letter, sound-letter, tone-mark, sound-mark}
 use Rattle.transcriber.proofs.Tail.{tone-break, sound-break, tone-end, sound-end}
@@ -231,14 +231,14 @@ module _ {m : List ℕ} {i c : ℕ} {level : Level} (a : VowelAt m i c level) wh
   pub class-small : c < classCount
   class-small = rw (a .class) (by-class (getD m i 0) (a .steady .bytes i) .class)
 
-  -- what is found of it by the byte before it and its class, its own class, and the level is what the passes make of it
+  -- what is found of it by the letter before it, the class of the byte before, its own class, and the level is what the passes make of it
   pub sung-by : {k : ℕ} {s : Syllable} {v : Vowel} → k ≡ classBefore m i → s ≡ syllableBy k level
       → RowAt (rowOf (small (getD m i 0))) m i s (v .sound) → v .glide ≡ glideBy c (s .cover) k → Sung m i v
   sung-by {s = s} e y o g =
       let h : i ≤ length m = omega (arith, a .within) in
       let z : syllableAt m i ≡ s = rw (y, e, a .level) (syllable-raw m (a .steady) i (a .within)) in
       record {
-        sound = rw (z, hard-raw m (a .steady) i h) (o (leftAt m i .p) (byte-tells m (a .steady) i h));
+        sound = rw (z, hard-raw m (a .steady) i h) (o (leftAt m i .p) (told-at m (a .steady) i h));
         glide = rw (z, glide-raw m (a .steady) i (a .within) (s .cover), ← a .class, ← e) g;
       }
 

@@ -1,24 +1,26 @@
 -- How the code finds a letter's codes: by the byte before it, that byte's class, and one table. These are not the paper's words: `proofs/` shows that they agree with them.
 -- Assumes nothing: these are definitions.
-use Prim.Native.Nat.{ℕ, zero, suc, _+_, _-_, _*_, _%_, _<_}
+use Prim.Native.Nat.{ℕ, zero, suc, _+_, _-_, _*_, _%_, _<_, _≤_}
 use mathlib.Core.Path.{_≡_}
-use mathlib.Core.Bool.{Bool, true, cond, _&&_, _||_}
+use mathlib.Core.Bool.{Bool, true, false, cond, _&&_, _||_}
 use mathlib.Core.List.{List, [], _∷_, _++_}
 use lib.Dec.{eqb, leb}
-use lib.ListN.{getD}
+use lib.ListN.{length, getD}
 use Rattle.spec.specs.Alphabet.{pause, «ь»}
 use Rattle.spec.specs.Refusals.{consonantByte}
 use Rattle.spec.specs.Tables.{among}
-use Rattle.spec.specs.Letters.{small, isBreak, isGap, isHardOnly, isPaired, isSoftOnly, isConsonant, isSign}
+use Rattle.spec.specs.Letters.{small, isBreak, isHardOnly, isPaired, isSoftOnly, isConsonant, isSign}
 use Rattle.spec.specs.Codes.{А*, Б, Б', В', Г, Г', Х1, Х1', Д, Д', Ж, Ж', З, З', К, К', Л', М', Н', П, П', Р', С, С', Т, Т', Ф, Ф', Х, Х', Ц, Ц1, Ч, Ч1, Ш, Щ}
 use Rattle.spec.specs.Vowels.{hardEnd, initial, vowelSound, bare}
 use Rattle.spec.specs.Voicing.{Tone, voiced, voiceless, asWritten}
-use Rattle.message.specs.Classes.{classOf, softSignClass, vowelOClass, iotatedClass, vowelIClass, isSignClass, isCoveringClass, tabulate}
+use Rattle.message.specs.Classes.{classOf, gapClass, softSignClass, vowelOClass, iotatedClass, vowelIClass, isBreakClass, isSignClass, isCoveringClass, tabulate}
 use Rattle.spec.specs.declared.Cover.{Cover}
 use Rattle.spec.specs.declared.Cover.the-variants.{Bare, Covered}
 use Rattle.spec.specs.declared.Level.{Level}
 use Rattle.spec.specs.declared.Syllable.{Syllable}
 use Rattle.transcriber.specs.Fused.{toneBefore, consonantCode}
+use Rattle.transcriber.specs.declared.LetterBefore.{LetterBefore}
+use Rattle.transcriber.specs.declared.LetterBefore.the-variants.{None, Byte}
 
 -- the byte before place i; a pause at the start of the message
 unfoldable pub byteBefore : List ℕ → ℕ → ℕ
@@ -39,25 +41,36 @@ pub record ByteTells (p q : ℕ) : Type 0 where
 
 -- what that byte's class k tells of it
 pub record ClassTells (k q : ℕ) : Type 0 where
+  pub first : initial q ≡ isBreakClass k
   pub covers : (isConsonant q || isSign q) ≡ isCoveringClass k
   pub sign : isSign q ≡ isSignClass k
   pub softSign : eqb q «ь» ≡ eqb k softSignClass
 
--- r is what a row says of syllable s after every letter that the byte p tells; where the row's line does not ask for the boundary, hard is all one
-abbrev pub ByRow : (Bool → ℕ → Syllable → ℕ) → Bool → ℕ → Syllable → ℕ → Type 0
-ByRow row hard p s r = (q : ℕ) → ByteTells p q → r ≡ row hard q s
+-- what is told of the letter q before, 0 for none: q is none, or the byte before, no break, tells of it
+abbrev pub Told : LetterBefore → ℕ → Type 0
+Told None q = q ≡ 0
+Told (Byte p) q = (isBreak p ≡ false) × ByteTells p q
 
--- the word that ends at place i ends hard, as its last two bytes tell
-unfoldable pub endsHardAt : List ℕ → ℕ → Bool
-endsHardAt m i = hardEnd (small (byteBefore m (i - 1))) (small (byteBefore m i))
+-- r is what a row says of syllable s after every letter that is told of; where the row's line does not ask for the boundary, hard is all one
+abbrev pub ByRow : (Bool → ℕ → Syllable → ℕ) → Bool → LetterBefore → Syllable → ℕ → Type 0
+ByRow row hard before s r = (q : ℕ) → Told before q → r ≡ row hard q s
 
--- a hard boundary stands before place i: a gap is there, and the word before it ends hard
+-- the letter before place i
+unfoldable pub letterBefore : List ℕ → ℕ → LetterBefore
+letterBefore m i = cond (isBreakClass (classBefore m i)) None (Byte (byteBefore m i))
+
+-- a hard boundary stands before place i: a gap is there, and the word before it ends hard, as its last two bytes tell
 unfoldable pub hardBefore : List ℕ → ℕ → Bool
-hardBefore m i = isGap (byteBefore m i) && endsHardAt m (i - 1)
+hardBefore m i = eqb (classBefore m i) gapClass && hardEnd (small (byteBefore m (i - 2))) (small (byteBefore m (i - 1)))
 
--- r is what it says at place i
+-- the byte before place i has class k
+pub record Before (m : List ℕ) (i k : ℕ) : Type 0 where
+  pub within : i ≤ length m
+  pub class : k ≡ classBefore m i
+
+-- r is what a row says at place i
 abbrev pub RowAt : (Bool → ℕ → Syllable → ℕ) → List ℕ → ℕ → Syllable → ℕ → Type 0
-RowAt row m i s r = ByRow row (hardBefore m i) (byteBefore m i) s r
+RowAt row m i s r = ByRow row (hardBefore m i) (letterBefore m i) s r
 
 -- the row of the vowel b
 abbrev pub rowOf : ℕ → Bool → ℕ → Syllable → ℕ

@@ -1,21 +1,20 @@
-// The sounds of vowels (paper 01, pass 3): an arm for each row. A row that asks of the letter before,
-// or of the boundary, is a function: the answer chooses the sounds, and the level one of them.
-// The letter before is told by the byte before, p: a break at the start of a word, and after
-// a stressed vowel its mark.
+// The sounds of vowels (paper 01, pass 3): an arm for each row. A row that asks of the letter before
+// is a function of it: what is told by that letter's class, or by the boundary where there is no
+// letter, chooses the sounds, and the level one of them.
 ghost use mathlib.Core.Path.{_≡_};
 ghost use mathlib.Core.Bool.{false, cond};
-ghost use Prim.Native.Nat.{_<_, _≤_};
-ghost use lib.ListN.{length};
-ghost use Rattle.spec.specs.Letters.{small, isBreak};
+ghost use Prim.Native.Nat.{_<_};
+ghost use Rattle.spec.specs.Letters.{small};
 ghost use Rattle.spec.specs.Vowels.{byLevel, byStress, rowА, rowО, rowЭ, rowЕ, rowЯ, rowИ};
 ghost use Rattle.spec.specs.Codes.{J};
 ghost use Rattle.message.specs.Classes.{classCount, classes, isSignClass};
-ghost use Rattle.transcriber.specs.Sounds.{ByRow, RowAt, coverClass, glideBy, rowOf};
+ghost use Rattle.transcriber.specs.Sounds.{Before, ByRow, RowAt, coverClass, glideBy, rowOf};
 ghost use Rattle.transcriber.specs.Walk.{VowelAt, Sung};
+use crate::LetterBefore;
 use crate::Vowel;
-use crate::before::byte_before;
 use crate::before::class_before;
 use crate::before::hard_before;
+use crate::before::letter_before;
 use crate::codes;
 use crate::letter_classes::is_hard_only;
 use crate::letter_classes::is_soft_only;
@@ -26,15 +25,6 @@ use message::classes::ClassTable;
 use spec::Cover;
 use spec::Level;
 use spec::Syllable;
-
-fn is_initial(p: u8) -> bool
-    ensures { λ r. ⌜ r ≡ isBreak p ⌝ }
-{
-    match p {
-        alphabet::GAP | alphabet::PAUSE => true,
-        _ => false,
-    }
-}
 
 // A row that has one sound for level S, and one for levels 1 and 2.
 fn by_stress(s: Syllable, stressed: u8, other: u8) -> u8
@@ -61,95 +51,112 @@ fn by_level(s: Syllable, stressed: u8, first: u8, second: u8) -> u8
 }
 
 // Row а: of the letters before it only ч щ й change it, and at level 2 that there is none.
-fn row_a(s: Syllable, p: u8) -> u8
-    ensures { λ r. ⌜ ByRow rowА false p s r ⌝ }
+fn row_a(s: Syllable, before: LetterBefore) -> u8
+    ensures { λ r. ⌜ ByRow rowА false before s r ⌝ }
 {
-    if is_soft_only(p) {
-        return by_level(s, codes::A_STRESSED, codes::E1, codes::E2);
+    match before {
+        LetterBefore::None => by_level(s, codes::A_STRESSED, codes::A1, codes::A1),
+        LetterBefore::Byte(p) => {
+            if is_soft_only(p) {
+                return by_level(s, codes::A_STRESSED, codes::E1, codes::E2);
+            }
+            by_level(s, codes::A_STRESSED, codes::A1, codes::A2)
+        }
     }
-    if is_initial(p) {
-        return by_level(s, codes::A_STRESSED, codes::A1, codes::A1);
-    }
-    by_level(s, codes::A_STRESSED, codes::A1, codes::A2)
 }
 
 // Row о, which sounds as а where it is not stressed, but for level 1 after ч щ й.
-fn row_o(s: Syllable, p: u8) -> u8
-    ensures { λ r. ⌜ ByRow rowО false p s r ⌝ }
+fn row_o(s: Syllable, before: LetterBefore) -> u8
+    ensures { λ r. ⌜ ByRow rowО false before s r ⌝ }
 {
-    if is_soft_only(p) {
-        return by_level(s, codes::O_STRESSED, codes::A1, codes::E2);
+    match before {
+        LetterBefore::None => by_level(s, codes::O_STRESSED, codes::A1, codes::A1),
+        LetterBefore::Byte(p) => {
+            if is_soft_only(p) {
+                return by_level(s, codes::O_STRESSED, codes::A1, codes::E2);
+            }
+            by_level(s, codes::O_STRESSED, codes::A1, codes::A2)
+        }
     }
-    if is_initial(p) {
-        return by_level(s, codes::O_STRESSED, codes::A1, codes::A1);
-    }
-    by_level(s, codes::O_STRESSED, codes::A1, codes::A2)
 }
 
 // Row э: a hard boundary makes it sound as ы where it is not stressed.
-fn row_e(s: Syllable, m: &[u8], i: usize) -> u8
-    requires { ⌜ i ≤ length (now m) ⌝ }
-    ensures { λ r. ⌜ RowAt rowЭ (now (m .entry)) i s r ⌝ }
+fn row_e(s: Syllable, before: LetterBefore, hard: bool) -> u8
+    ensures { λ r. ⌜ ByRow rowЭ hard before s r ⌝ }
 {
-    if hard_before(m, i) {
-        return by_level(s, codes::E_STRESSED, codes::Y1, codes::Y1);
+    match before {
+        LetterBefore::None => {
+            if hard {
+                return by_level(s, codes::E_STRESSED, codes::Y1, codes::Y1);
+            }
+            by_level(s, codes::E_STRESSED, codes::E1, codes::E2)
+        }
+        LetterBefore::Byte(_) => by_level(s, codes::E_STRESSED, codes::E1, codes::E2),
     }
-    by_level(s, codes::E_STRESSED, codes::E1, codes::E2)
 }
 
 // Row е: of the letters before it only ж ш ц change it, and at level 2 that there is none.
-fn row_ie(s: Syllable, p: u8) -> u8
-    ensures { λ r. ⌜ ByRow rowЕ false p s r ⌝ }
+fn row_ie(s: Syllable, before: LetterBefore) -> u8
+    ensures { λ r. ⌜ ByRow rowЕ false before s r ⌝ }
 {
-    if is_hard_only(p) {
-        return by_level(s, codes::E_STRESSED, codes::Y1, codes::A2);
+    match before {
+        LetterBefore::None => by_level(s, codes::E_STRESSED, codes::E1, codes::E1),
+        LetterBefore::Byte(p) => {
+            if is_hard_only(p) {
+                return by_level(s, codes::E_STRESSED, codes::Y1, codes::A2);
+            }
+            by_level(s, codes::E_STRESSED, codes::E1, codes::E2)
+        }
     }
-    if is_initial(p) {
-        return by_level(s, codes::E_STRESSED, codes::E1, codes::E1);
-    }
-    by_level(s, codes::E_STRESSED, codes::E1, codes::E2)
 }
 
 // Row я: it matters only whether it is initial.
-fn row_ya(s: Syllable, p: u8) -> u8
-    ensures { λ r. ⌜ ByRow rowЯ false p s r ⌝ }
+fn row_ya(s: Syllable, before: LetterBefore) -> u8
+    ensures { λ r. ⌜ ByRow rowЯ false before s r ⌝ }
 {
-    if is_initial(p) {
-        return by_level(s, codes::A_STRESSED, codes::E1, codes::E1);
+    match before {
+        LetterBefore::None => by_level(s, codes::A_STRESSED, codes::E1, codes::E1),
+        LetterBefore::Byte(_) => by_level(s, codes::A_STRESSED, codes::E1, codes::E2),
     }
-    by_level(s, codes::A_STRESSED, codes::E1, codes::E2)
 }
 
 // Row и: ж ш ц before it, or a hard boundary, make it sound as ы.
-fn row_i(s: Syllable, m: &[u8], i: usize) -> u8
-    requires { ⌜ i ≤ length (now m) ⌝ }
-    ensures { λ r. ⌜ RowAt rowИ (now (m .entry)) i s r ⌝ }
+fn row_i(s: Syllable, before: LetterBefore, hard: bool) -> u8
+    ensures { λ r. ⌜ ByRow rowИ hard before s r ⌝ }
 {
-    if is_hard_only(byte_before(m, i)) {
-        return by_stress(s, codes::Y_STRESSED, codes::Y1);
+    match before {
+        LetterBefore::None => {
+            if hard {
+                return by_stress(s, codes::Y_STRESSED, codes::Y1);
+            }
+            by_stress(s, codes::I_STRESSED, codes::I1)
+        }
+        LetterBefore::Byte(p) => {
+            if is_hard_only(p) {
+                return by_stress(s, codes::Y_STRESSED, codes::Y1);
+            }
+            by_stress(s, codes::I_STRESSED, codes::I1)
+        }
     }
-    if hard_before(m, i) {
-        return by_stress(s, codes::Y_STRESSED, codes::Y1);
-    }
-    by_stress(s, codes::I_STRESSED, codes::I1)
 }
 
-// The sound of the vowel b, small or capital, of syllable s at place i: an arm for each row.
-pub fn vowel_sound(b: u8, s: Syllable, m: &[u8], i: usize) -> u8
-    requires { ⌜ i ≤ length (now m) ⌝ }
+// The sound of the vowel b, small or capital, of syllable s at place i: an arm for each row. The byte
+// before has class k.
+pub fn vowel_sound(b: u8, s: Syllable, m: &[u8], i: usize, k: usize) -> u8
+    requires { ⌜ Before (now m) i k ⌝ }
     ensures { λ r. ⌜ RowAt (rowOf (small b)) (now (m .entry)) i s r ⌝ }
 {
     match b {
-        alphabet::A | alphabet::CAPITAL_A => row_a(s, byte_before(m, i)),
-        alphabet::O | alphabet::CAPITAL_O => row_o(s, byte_before(m, i)),
+        alphabet::A | alphabet::CAPITAL_A => row_a(s, letter_before(m, i, k)),
+        alphabet::O | alphabet::CAPITAL_O => row_o(s, letter_before(m, i, k)),
         alphabet::U | alphabet::CAPITAL_U => by_stress(s, codes::U_STRESSED, codes::U1),
         alphabet::YERU | alphabet::CAPITAL_YERU => by_stress(s, codes::Y_STRESSED, codes::Y1),
-        alphabet::E | alphabet::CAPITAL_E => row_e(s, m, i),
-        alphabet::IE | alphabet::CAPITAL_IE => row_ie(s, byte_before(m, i)),
+        alphabet::E | alphabet::CAPITAL_E => row_e(s, letter_before(m, i, k), hard_before(m, i, k)),
+        alphabet::IE | alphabet::CAPITAL_IE => row_ie(s, letter_before(m, i, k)),
         alphabet::IO | alphabet::CAPITAL_IO => codes::O_STRESSED,
         alphabet::YU | alphabet::CAPITAL_YU => by_stress(s, codes::U_STRESSED, codes::U1),
-        alphabet::YA | alphabet::CAPITAL_YA => row_ya(s, byte_before(m, i)),
-        alphabet::I | alphabet::CAPITAL_I => row_i(s, m, i),
+        alphabet::YA | alphabet::CAPITAL_YA => row_ya(s, letter_before(m, i, k)),
+        alphabet::I | alphabet::CAPITAL_I => row_i(s, letter_before(m, i, k), hard_before(m, i, k)),
         _ => 0, // no vowel
     }
 }
@@ -182,7 +189,7 @@ pub fn vowel_at(m: &[u8], i: usize, c: usize, level: Level, t: &ClassTable) -> V
 {
     let k = class_before(m, i, t);
     let s = syllable_by(k, level);
-    let sound = vowel_sound(m[i], s, m, i);
+    let sound = vowel_sound(m[i], s, m, i, k);
     let glide = has_glide(c, s, k);
     Vowel { sound, glide }
 }

@@ -1,20 +1,17 @@
--- A hard boundary stands only before a word's first letter.
+-- A hard boundary counts only where there is no letter before.
 use Rattle.laws.proofs.Kit.{needs}
-use Rattle.spec.specs.Vowels.{rowЭ}
-use Rattle.transcriber.proofs.Raw.{boundary-initial}
+use Rattle.message.proofs.Computed.{everything}
+use Rattle.transcriber.proofs.Raw.{told-none, told-byte}
 use Rattle.transcriber.proofs.vowels.row_e.Statement.{statement}
 use Rattle.transcriber.proofs.vowels.row_e.Tie as tie
 
--- where the boundary is known
-abbrev start : tie.After-hard-before → tie.Start
-start h = h .before .before
-
 pub row-e-spec : {M : Type 1} → statement M
-unfolding rowЭ
+unfolding everything
 row-e-spec =
     tie.close
     (tie.spec
-    (λ c κs. search needs) (search needs)
-    (λ c q t. let h = c .before .before in let s = start h in rw (boundary-initial (s .args .m .now) (s .args .i) t, ← h .hard-before .ensures, c .before .if1 .taken) (c .by-level .ensures))
-    (search needs)
-    (λ c q t. let h = c .before .before in let s = start h in rw (boundary-initial (s .args .m .now) (s .args .i) t, ← h .hard-before .ensures, c .before .if1 .left) (c .by-level2 .ensures)))
+    (search needs) (search needs)
+    (λ c q t. rw (told-none (c .before .before .enum-told .given .1) t, c .before .if1 .taken) (c .by-level .ensures))
+    (search needs) (search needs) (search needs)
+    (λ c q t. rw (told-none (c .before .before .enum-told .given .1) t, c .before .if1 .left) (c .by-level2 .ensures))
+    (λ c q t. rw (told-byte (c .before .enum-told2 .given .1) t .0) (c .by-level3 .ensures)))

@@ -1,13 +1,15 @@
--- The byte before tells whether the vowel is initial.
+-- Only at the word's start is there no letter before.
 use Rattle.laws.proofs.Kit.{needs}
-use Rattle.spec.specs.Vowels.{rowЯ}
+use Rattle.message.proofs.Computed.{everything}
+use Rattle.transcriber.proofs.Raw.{told-none, told-byte}
 use Rattle.transcriber.proofs.vowels.row_ya.Statement.{statement}
 use Rattle.transcriber.proofs.vowels.row_ya.Tie as tie
 
 pub row-ya-spec : {M : Type 1} → statement M
-unfolding rowЯ
+unfolding everything
 row-ya-spec =
     tie.close
     (tie.spec
-    (search needs) (search needs) (λ c q t. rw (t .first, ← c .before .before .is-initial .ensures, c .before .if1 .taken) (c .by-level .ensures))
-    (search needs) (λ c q t. rw (t .first, ← c .before .before .is-initial .ensures, c .before .if1 .left) (c .by-level2 .ensures)))
+    (search needs) (search needs) (search needs) (search needs)
+    (λ c q t. rw (told-none (c .before .enum-told .given .1) t) (c .by-level .ensures))
+    (λ c q t. rw (told-byte (c .before .enum-told2 .given .1) t .0) (c .by-level2 .ensures)))
