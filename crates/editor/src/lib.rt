@@ -83,15 +83,15 @@ fn last_word(text: &[u8]) -> usize
 fn first_breaks(text: &[u8]) -> usize
     ensures { λ r. ⌜ r ≡ leading breaks (now (text .entry)) ⌝ }
 {
-    let mut k = 0;
-    while k < text.len() {
-        if is_break(text[k]) {
-            k += 1;
+    let mut from = 0;
+    while from < text.len() {
+        if is_break(text[from]) {
+            from += 1;
         } else {
-            return k;
+            return from;
         }
     }
-    k
+    from
 }
 
 // How many bytes the first word has. A break follows it, so no end is asked for.

@@ -2,9 +2,10 @@
 use Rattle.laws.proofs.Kit.{ℕ, _+_, _*_, _<_, _≤_, _≡_, _≢_, refl, sym, ap, _∙_, true, false, cond, not, true≢false, false≢true, List, [], _∷_, _++_, append-assoc, append-nil, map, arith, eqb, leb, length, take, drop, length-append, take-at, drop-at, take-append-drop, length-take-le, eq-eqb, eqb-true, ne-eqb, leb-true, leb-false, lt-leb, not-true, or-true, and-false}
 use Rattle.spec.specs.Letters.{small, hardOnly, paired, softOnly, signs, plainVowels, softeningVowels, isConsonant, isSign, isVowel, isBreak, isMark}
 use Rattle.spec.specs.Alphabet.{gap, pause, mark}
-use Rattle.spec.specs.Tables.{among}
+use Rattle.spec.specs.Tables.{among, same}
 use Rattle.spec.specs.Refusals.{consonantByte, signByte, vowelByte, letterByte, row3, rows, fitsIn, beforeAt, NoneFits}
-use Rattle.spec.specs.Utf8.{octets, isCharacter, WellFormed, ended, begun, Character, _is_, characters, rowBytes, hasRow, same, sequenceIn, byteIn, sequence, byteOf, isTaken, encoded, decoded, readTo, AllRows, RunOf, StopsAt}
+use Rattle.spec.specs.Utf8.{octets, isCharacter, WellFormed, ended, begun, Character, _is_, characters, rowBytes, hasRow}
+use Rattle.spec.specs.Utf8.{sequenceIn, byteIn, sequence, byteOf, isTaken, encoded, decoded, readTo, AllRows, RunOf, StopsAt}
 use Rattle.spec.proofs.Computed.{everything}
 use Rattle.laws.proofs.Classes.{either, refuted, cond-both, among-same, below-same}
 use Rattle.laws.proofs.Accepted.{ClearFrom, places-clear, none-passes}

@@ -1,6 +1,6 @@
 -- Every definition of the papers by one name, for proofs that compute an example: `unfolding everything`.
 -- Assumes nothing.
-use Rattle.spec.specs.Tables.{among, entry, ascii}
+use Rattle.spec.specs.Tables.{among, same, entry, ascii}
 use Rattle.spec.specs.Letters.{isGap, isBreak, isMark, small, isHardOnly, isPaired, isSoftOnly, isConsonant, isSign, isSofteningVowel, isVowel, isObstruent, firstByte, beginsWithMark, putLetter, read, firstWord, lastWord}
 use Rattle.spec.specs.Codes.{markOf, isVoicing, isDevoicing}
 use Rattle.spec.specs.Elision.{secondByte, elidesT, elidesD, elidesAmong, elides, elideFrom, elide}
@@ -16,7 +16,7 @@ use Rattle.spec.specs.Refusals.{vowelByte, signByte, hardSignByte, conso
 use Rattle.spec.specs.Joints.{joinedFrom, joined, markIndex, wordBefore, wordAfter, endsInObstruentFrom, endsInObstruent, beginsWithIOrE, liveByVoice, liveByHardness, isLive, liveCount, row12, badCutFrom, badCut}
 use Rattle.spec.specs.Answers.{numberOf, placeOf, lengthOf, liveOf, within, afterCheck, outputAfter, nameAnswer, tapeAnswer, joinAnswer}
 use Rattle.spec.specs.Editing.{pauseMarks, gapMarks, replaced, oneBreak, putBreak, merged, withoutFirst, withoutLast, edited, editAnswer}
-use Rattle.spec.specs.Utf8.{continuation, octets, isCharacter, letters, asciiBytes, characters, rowBytes, hasRow, same, sequenceIn, byteIn, sequence, byteOf, isTaken, encoded, decoded, readTo, readAnswer, writeAnswer}
+use Rattle.spec.specs.Utf8.{continuation, octets, isCharacter, letters, asciiBytes, characters, rowBytes, hasRow, sequenceIn, byteIn, sequence, byteOf, isTaken, encoded, decoded, readTo, readAnswer, writeAnswer}
 use Rattle.spec.specs.SpokenLevels.{byteNumbered, bytes, units, teens, tens, hundreds, feminine, wordIn, thousand, thousands, belowHundred, numberWords, levelWords, afterGaps, spaced, marksIn, spoken, levelAnswer}
 use Rattle.spec.specs.Book.{recordMark, twoBytes, headOf, recordOf, records, pairAt, phraseIn, hasRecordMark, isWhole, isRecord, row15, row16, _then_, readFrom, readBook, bookIn, search, recordAt, heard, told, handed, findAnswer, tapeAfter, placed, locateAnswer, toldOf, partAt, endOf, standsAfter, unheard, afterListener, leastAfter, afterBook, withAddition, addAnswer}
 

@@ -7,7 +7,7 @@ use mathlib.Core.List.{List, [], _∷_, _++_}
 use lib.Dec.{eqb, leb}
 use lib.ListN.{length, take, drop, getD}
 use Rattle.spec.specs.Tape.{tape}
-use Rattle.spec.specs.Utf8.{same}
+use Rattle.spec.specs.Tables.{same}
 use Rattle.spec.specs.Refusals.{refusal, checkOf}
 use Rattle.spec.specs.Answers.{within, afterCheck, Promise}
 use Rattle.spec.specs.Listeners.{mayHear, mayWrite, withheld}

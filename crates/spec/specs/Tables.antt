@@ -3,7 +3,7 @@
 use Prim.Native.Nat.{ℕ}
 use Prim.Native.Char.{code}
 use Prim.Native.String as text
-use mathlib.Core.Bool.{Bool, false, cond, _||_}
+use mathlib.Core.Bool.{Bool, true, false, cond, _&&_, _||_}
 use mathlib.Core.List.{List, [], _∷_}
 use lib.Dec.{eqb}
 
@@ -12,6 +12,13 @@ infix 40 _gives_
 unfoldable pub among : List ℕ → ℕ → Bool
 among [] b = false
 among (x ∷ xs) b = eqb b x || among xs b
+
+-- are two lists the same?
+unfoldable pub same : List ℕ → List ℕ → Bool
+same [] [] = true
+same [] (b ∷ t) = false
+same (a ∷ s) [] = false
+same (a ∷ s) (b ∷ t) = eqb a b && same s t
 
 -- an entry of a table from letters to codes
 pub data Entry : Type 0 where

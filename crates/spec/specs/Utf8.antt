@@ -2,13 +2,13 @@
 -- Assumes nothing: these are definitions.
 use Prim.Native.Nat.{ℕ, _+_, _/_, _%_, _<_}
 use mathlib.Core.Path.{_≡_}
-use mathlib.Core.Bool.{Bool, true, false, cond, _&&_, not}
+use mathlib.Core.Bool.{Bool, true, cond, _&&_, not}
 use mathlib.Core.Logic.{_≢_}
 use mathlib.Core.List.{List, [], _∷_, _++_, map}
 use lib.Dec.{eqb, leb}
 use lib.ListN.{length, take, drop}
 use Rattle.spec.specs.Alphabet.{gap, pause, mark}
-use Rattle.spec.specs.Tables.{among}
+use Rattle.spec.specs.Tables.{among, same}
 use Rattle.spec.specs.Refusals.{refusal, checkOf}
 use Rattle.spec.specs.Answers.{within, afterCheck, Promise}
 use Rattle.spec.specs.Editing.{pauseMarks, gapMarks}
@@ -74,13 +74,6 @@ rowBytes (x is c ∷ rows) = x ∷ rowBytes rows
 
 unfoldable pub hasRow : ℕ → Bool
 hasRow b = among (rowBytes characters) b
-
--- are two sequences the same?
-unfoldable pub same : List ℕ → List ℕ → Bool
-same [] [] = true
-same [] (b ∷ t) = false
-same (a ∷ s) [] = false
-same (a ∷ s) (b ∷ t) = eqb a b && same s t
 
 -- the octets of a byte's row; none where it has no row
 unfoldable pub sequenceIn : List Character → ℕ → List ℕ
