@@ -1,7 +1,10 @@
--- What the code reads off the bytes beside a place is what the left context of the place says: in a steady message the byte before and its class tell of the last letter of the word what is asked.
-use Rattle.laws.proofs.Kit.{ℕ, zero, suc, _-_, _<_, _≤_, _≡_, refl, sym, ap, _∙_, Bool, true, false, true≢false, cond, _&&_, _||_, not, List, [], _∷_, _++_, map, _⊎_, inl, inr, arith, eqb, length, getD, eq-eqb, eqb-true, le-leb, ne-eqb}
+-- What the code reads off the bytes beside a place is what the left context of the place says: in a steady message
+-- the byte before and its class tell of the last letter of the word what is asked.
+use Rattle.laws.proofs.Kit.{ℕ, zero, suc, _-_, _<_, _≤_, _≡_, refl, sym, ap, _∙_, Bool, true, false, true≢false, cond, _&&_, _||_, not}
+use Rattle.laws.proofs.Kit.{List, [], _∷_, _++_, map, _⊎_, inl, inr, arith, eqb, length, getD, eq-eqb, eqb-true, le-leb, ne-eqb}
 use Rattle.spec.specs.Alphabet.{pause, mark, «ь»}
-use Rattle.spec.specs.Letters.{between, small, plainVowels, softeningVowels, isBreak, isGap, isHardOnly, isPaired, isSoftOnly, isConsonant, isSign, isVowel, isMark}
+use Rattle.spec.specs.Letters.{between, small, plainVowels, softeningVowels, isBreak, isGap, isHardOnly, isPaired, isSoftOnly, isConsonant}
+use Rattle.spec.specs.Letters.{isSign, isVowel, isMark}
 use Rattle.spec.specs.Syllables.{coverAfter, incomplete, syllableOf}
 use Rattle.spec.specs.{Tables.among, Vowels.initial, Vowels.hardEnd, Vowels.glides, declared.Cover.Cover}
 use Rattle.message.specs.Classes.{classOf, gapClass, pauseClass, softSignClass, isBreakClass, isSignClass, isCoveringClass, isVowelClass, isLetterClass}
@@ -9,7 +12,8 @@ use Rattle.message.specs.Places.{Steady, letterOf, wordAt}
 use Rattle.message.proofs.Bytes.{by-class, letter-class, not-both, vowel-break, vowel-mark}
 use Rattle.message.proofs.{Before.vowel-before, Computed.everything}
 use Rattle.laws.proofs.Classes.{among-same, either, below, below-same}
-use Rattle.transcriber.specs.Sounds.{byteBefore, classBefore, ByteTells, ClassTells, Told, letterBefore, hardBefore, syllableBy, glideBy}
+use Rattle.transcriber.specs.Sounds.{byteBefore, classBefore, ByteTells, ClassTells, Told, letterBefore, hardBefore}
+use Rattle.transcriber.specs.Sounds.{syllableBy, glideBy}
 use Rattle.transcriber.specs.Levels.{levelAt}
 use Rattle.transcriber.specs.Places.{Left, stepLeft, leftAt, factsAt}
 use Rattle.transcriber.specs.{declared.LetterBefore.LetterBefore, declared.LetterBefore.the-variants.None, declared.LetterBefore.the-variants.Byte}
@@ -58,7 +62,8 @@ unfolding among
 not-among none = refl
 not-among (other n k) = rw (ne-eqb _ _ n) (not-among k)
 not-among (neither n k) = rw (ne-eqb _ _ (λ h. n (inl h)), ne-eqb _ _ (λ h. n (inr h))) (not-among k)
-not-among (no-third n k) = rw (ne-eqb _ _ (λ h. n (inl h)), ne-eqb _ _ (λ h. n (inr (inl h))), ne-eqb _ _ (λ h. n (inr (inr h)))) (not-among k)
+not-among (no-third n k) =
+    rw (ne-eqb _ _ (λ h. n (inl h)), ne-eqb _ _ (λ h. n (inr (inl h))), ne-eqb _ _ (λ h. n (inr (inr h)))) (not-among k)
 
 -- at such a byte a function that is d at all other bytes is d
 pub outside : {A : Type 0} {keys : List ℕ} {b : ℕ} (f : ℕ → A) (d : A) → NoKey b keys → map (λ x. cond (among keys x) d (f x)) (below 256) ≡ map (λ _. d) (below 256) → b < 256 → f b ≡ d
@@ -66,9 +71,11 @@ outside {A} {keys} {b} f d k e h = rw (not-among k) at (below-same (λ x. cond (
 
 -- and one that is d at all other bytes of a range is d at such a byte of it
 pub inside : {A : Type 0} {keys : List ℕ} {b : ℕ} (lo hi : ℕ) (f : ℕ → A) (d : A) → NoKey b keys
-    → map (λ x. cond (between lo hi x && not (among keys x)) (f x) d) (below 256) ≡ map (λ _. d) (below 256) → b < 256 → lo ≤ b → b ≤ hi → f b ≡ d
+    → map (λ x. cond (between lo hi x && not (among keys x)) (f x) d) (below 256) ≡ map (λ _. d) (below 256)
+    → b < 256 → lo ≤ b → b ≤ hi → f b ≡ d
 inside {A} {keys} {b} lo hi f d k e h l u =
-    rw (between-true lo hi b l u, not-among k) at (below-same (λ x. cond (between lo hi x && not (among keys x)) (f x) d) (λ _. d) 256 b e h)
+    rw (between-true lo hi b l u, not-among k)
+    at (below-same (λ x. cond (between lo hi x && not (among keys x)) (f x) d) (λ _. d) 256 b e h)
 
 -- what is asked of the last letter, 0 for none
 abbrev asked : ℕ → List Bool
@@ -76,7 +83,9 @@ asked q = initial q ∷ isHardOnly q ∷ isPaired q ∷ isSoftOnly q ∷ eqb q �
 
 -- what a byte and its class answer
 abbrev answers : ℕ → List Bool
-answers b = isBreak b ∷ isHardOnly (small b) ∷ isPaired (small b) ∷ isSoftOnly (small b) ∷ eqb (small b) «ь» ∷ isCoveringClass (classOf b) ∷ isSignClass (classOf b) ∷ []
+answers b =
+    isBreak b ∷ isHardOnly (small b) ∷ isPaired (small b) ∷ isSoftOnly (small b) ∷ eqb (small b) «ь»
+    ∷ isCoveringClass (classOf b) ∷ isSignClass (classOf b) ∷ []
 
 -- so they tell the letter
 abbrev Tell : ℕ → ℕ → Type 0
@@ -85,8 +94,10 @@ Tell b q = ByteTells b q × ClassTells (classOf b) q
 told-asked : (b : ℕ) → b < 256 → {q : ℕ} → asked q ≡ answers b → Tell b q
 told-asked b h e =
     let k = by-class b h .break in
-    let s = by-class b h .softSign in
-    (record { first = cc; hardOnly = cc; paired = cc; softOnly = cc; softSign = cc }, record { first = cc; covers = cc; sign = cc; softSign = cc })
+    let s = by-class b h .softSign in (
+      record { first = cc; hardOnly = cc; paired = cc; softOnly = cc; softSign = cc },
+      record { first = cc; covers = cc; sign = cc; softSign = cc },
+    )
 
 -- a letter is told by its byte
 told-letter : (b : ℕ) → b < 256 → isLetterClass (classOf b) ≡ true → Tell b (small b)
@@ -101,7 +112,8 @@ told-break b h e = told-asked b h (where-same isBreak (λ _. asked 0) answers []
 -- a mark, before which a vowel stands, tells of a vowel
 told-mark : (b : ℕ) → isMark b ≡ true → (q : ℕ) → isVowel q ≡ true → Tell b q
 unfolding everything
-told-mark b k q e = rw (eqb-true b mark k) (told-asked mark (omega arith) (among-same asked (λ _. answers mark) (plainVowels ++ softeningVowels) q refl e))
+told-mark b k q e =
+    rw (eqb-true b mark k) (told-asked mark (omega arith) (among-same asked (λ _. answers mark) (plainVowels ++ softeningVowels) q refl e))
 
 -- a gap's class is its own
 gap-class : (b : ℕ) → b < 256 → isGap b ≡ eqb (classOf b) gapClass
@@ -160,7 +172,8 @@ module _ (m : List ℕ) (steady : Steady m) where
       (λ e. (sym (t .0 .first) ∙ t .1 .first ∙ e, t .0))
 
   -- the two bytes before a place tell whether the word before it ends hard
-  end-raw : (i : ℕ) → i ≤ length m → hardEnd (leftAt m i .q) (leftAt m i .p) ≡ hardEnd (small (byteBefore m (i - 1))) (small (byteBefore m i))
+  end-raw : (i : ℕ) → i ≤ length m
+      → hardEnd (leftAt m i .q) (leftAt m i .p) ≡ hardEnd (small (byteBefore m (i - 1))) (small (byteBefore m i))
   unfolding everything leftAt byteBefore
   end-raw zero h = refl
   end-raw (suc i) h =
@@ -170,7 +183,8 @@ module _ (m : List ℕ) (steady : Steady m) where
       let e : suc i - 1 ≡ i = omega arith in
       rw (t .hardOnly, t .paired, t .softSign, e)
       (either (eqb (small b) «ь»)
-      (λ d. let f = eqb-true (classOf b) softSignClass (sym (c .softSign) ∙ d) in rw (left-letter m i h (rw f at (c .break)) (rw f at (c .mark)), byte-tells i (omega arith) .hardOnly))
+      (λ d. let f = eqb-true (classOf b) softSignClass (sym (c .softSign) ∙ d) in
+      rw (left-letter m i h (rw f at (c .break)) (rw f at (c .mark)), byte-tells i (omega arith) .hardOnly))
       (λ d. rw d))
 
   -- before a mark stands a vowel, and no boundary

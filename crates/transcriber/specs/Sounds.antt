@@ -1,4 +1,5 @@
--- How the code finds a letter's codes: by the byte before it, that byte's class, and one table. These are not the paper's words: `proofs/` shows that they agree with them.
+-- How the code finds a letter's codes: by the byte before it, that byte's class, and one table.
+-- These are not the paper's words: `proofs/` shows that they agree with them.
 -- Assumes nothing: these are definitions.
 use Prim.Native.Nat.{ℕ, zero, suc, _+_, _-_, _*_, _%_, _<_, _≤_}
 use mathlib.Core.Path.{_≡_}
@@ -9,11 +10,13 @@ use lib.ListN.{length, getD}
 use Rattle.spec.specs.Alphabet.{pause, «ь»}
 use Rattle.spec.specs.Refusals.{consonantByte}
 use Rattle.spec.specs.Tables.{among}
-use Rattle.spec.specs.Letters.{small, isBreak, isHardOnly, isPaired, isSoftOnly, isConsonant, isSign}
+use Rattle.spec.specs.Letters.{small, isBreak, isHardOnly, isPaired, isSoftOnly}
+use Rattle.spec.specs.Letters.{isConsonant, isSign}
 use Rattle.spec.specs.Codes.{А*, Б, Б', В', Г, Г', Х1, Х1', Д, Д', Ж, Ж', З, З', К, К', Л', М', Н', П, П', Р', С, С', Т, Т', Ф, Ф', Х, Х', Ц, Ц1, Ч, Ч1, Ш, Щ}
 use Rattle.spec.specs.Vowels.{hardEnd, initial, vowelSound, bare}
 use Rattle.spec.specs.Voicing.{Tone, voiced, voiceless, asWritten}
-use Rattle.message.specs.Classes.{classOf, gapClass, softSignClass, vowelOClass, iotatedClass, vowelIClass, isBreakClass, isSignClass, isCoveringClass, tabulate}
+use Rattle.message.specs.Classes.{classOf, gapClass, softSignClass, vowelOClass, iotatedClass}
+use Rattle.message.specs.Classes.{vowelIClass, isBreakClass, isSignClass, isCoveringClass, tabulate}
 use Rattle.spec.specs.declared.Cover.{Cover}
 use Rattle.spec.specs.declared.Cover.the-variants.{Bare, Covered}
 use Rattle.spec.specs.declared.Level.{Level}
@@ -31,7 +34,8 @@ byteBefore m (suc i) = getD m i 0
 abbrev pub classBefore : List ℕ → ℕ → ℕ
 classBefore m i = classOf (byteBefore m i)
 
--- What the byte p before a place tells of the letter q before it, 0 for none: the byte is q, small or capital, or a break where there is none, or the mark of a vowel.
+-- What the byte p before a place tells of the letter q before it, 0 for none: the byte is q, small
+-- or capital, or a break where there is none, or the mark of a vowel.
 pub record ByteTells (p q : ℕ) : Type 0 where
   pub first : initial q ≡ isBreak p
   pub hardOnly : isHardOnly q ≡ isHardOnly (small p)
@@ -46,12 +50,14 @@ pub record ClassTells (k q : ℕ) : Type 0 where
   pub sign : isSign q ≡ isSignClass k
   pub softSign : eqb q «ь» ≡ eqb k softSignClass
 
--- what is told of the letter q before, 0 for none: q is none, or the byte before, no break, tells of it
+-- what is told of the letter q before, 0 for none: it is none, or the byte before is no break and
+-- tells of it
 abbrev pub Told : LetterBefore → ℕ → Type 0
 Told None q = q ≡ 0
 Told (Byte p) q = (isBreak p ≡ false) × ByteTells p q
 
--- r is what a row says of syllable s after every letter that is told of; where the row's line does not ask for the boundary, hard is all one
+-- r is what a row says of syllable s after every letter that is told of; where the row's line does
+-- not ask for the boundary, hard is all one
 abbrev pub ByRow : (Bool → ℕ → Syllable → ℕ) → Bool → LetterBefore → Syllable → ℕ → Type 0
 ByRow row hard before s r = (q : ℕ) → Told before q → r ≡ row hard q s
 
@@ -59,9 +65,12 @@ ByRow row hard before s r = (q : ℕ) → Told before q → r ≡ row hard q s
 unfoldable pub letterBefore : List ℕ → ℕ → LetterBefore
 letterBefore m i = cond (isBreakClass (classBefore m i)) None (Byte (byteBefore m i))
 
--- a hard boundary stands before place i: a gap is there, and the word before it ends hard, as its last two bytes tell
+-- a hard boundary stands before place i: a gap is there, and the word before it ends hard, as its
+-- last two bytes tell
 unfoldable pub hardBefore : List ℕ → ℕ → Bool
-hardBefore m i = eqb (classBefore m i) gapClass && hardEnd (small (byteBefore m (i - 2))) (small (byteBefore m (i - 1)))
+hardBefore m i =
+    eqb (classBefore m i) gapClass
+    && hardEnd (small (byteBefore m (i - 2))) (small (byteBefore m (i - 1)))
 
 -- the byte before place i has class k
 pub record Before (m : List ℕ) (i k : ℕ) : Type 0 where
@@ -86,7 +95,9 @@ syllableBy k level = record { cover = coverClass k; level = level }
 
 -- a vowel of class c has a glide after a byte of class k
 abbrev pub glideBy : ℕ → Cover → ℕ → Bool
-glideBy c cover k = (eqb c iotatedClass && (bare cover || isSignClass k)) || ((eqb c vowelIClass && isSignClass k) || (eqb c vowelOClass && eqb k softSignClass))
+glideBy c cover k =
+    (eqb c iotatedClass && (bare cover || isSignClass k))
+    || ((eqb c vowelIClass && isSignClass k) || (eqb c vowelOClass && eqb k softSignClass))
 
 -- How the code says by one number what stands right of a letter: the code of the next sound of its word, or 57 or 0 where it has none and the next word voices an obstruent or does not; and 64 more where the next letter palatalizes.
 -- What an obstruent is before it

@@ -5,7 +5,8 @@ ghost use lib.ListN.{length};
 ghost use Rattle.spec.specs.Letters.{small};
 ghost use Rattle.spec.specs.Vowels.{hardEnd};
 ghost use Rattle.message.specs.Classes.{classes, isBreakClass};
-ghost use Rattle.transcriber.specs.Sounds.{Before, byteBefore, classBefore, hardBefore, letterBefore};
+ghost use Rattle.transcriber.specs.Sounds.{byteBefore, classBefore, Before};
+ghost use Rattle.transcriber.specs.Sounds.{letterBefore, hardBefore};
 use crate::LetterBefore;
 use crate::letter_classes::is_hard_only;
 use crate::letter_classes::is_paired;
@@ -53,8 +54,8 @@ pub fn letter_before(m: &[u8], i: usize, k: usize) -> LetterBefore
     LetterBefore::Byte(m[i - 1])
 }
 
-// Does a word end hard whose last two bytes are q and p? It ends in a letter of T or P, or in ь with
-// a letter of T before it.
+// Does a word end hard whose last two bytes are q and p? It ends in a letter of T or P, or in ь
+// with a letter of T before it.
 fn ends_hard(q: u8, p: u8) -> bool
     ensures { λ r. ⌜ r ≡ hardEnd (small q) (small p) ⌝ }
 {
@@ -69,8 +70,8 @@ fn ends_hard(q: u8, p: u8) -> bool
     }
 }
 
-// Does a hard boundary stand before place i? The byte before, of class k, is then a gap, and the word
-// before that ends hard. It asks at two places, so that the compiler does not copy the whole
+// Does a hard boundary stand before place i? The byte before, of class k, is then a gap, and the
+// word before that ends hard. It asks at two places, so that the compiler does not copy the whole
 // question into the caller's loop.
 pub fn hard_before(m: &[u8], i: usize, k: usize) -> bool
     requires { ⌜ Before (now m) i k ⌝ }

@@ -1,5 +1,6 @@
-// The classes of consonants (paper 01, 'Letters'), each told by a match over the Windows-1251 codes
-// of its letters, small and capital, with a range where letters of the class are neighbours.
+// The classes of consonants (paper 01, 'Bytes of a message'), each told by a match over the
+// Windows-1251 codes of its letters, small and capital, with a range where letters of the class are
+// neighbours in the alphabet.
 ghost use mathlib.Core.Path.{_≡_};
 ghost use Rattle.spec.specs.Letters.{small, isHardOnly, isPaired, isSoftOnly};
 use message::alphabet;

@@ -1,6 +1,6 @@
-// The sounds of vowels (paper 01, pass 3): an arm for each row. A row that asks of the letter before
-// is a function of it: what is told by that letter's class, or by the boundary where there is no
-// letter, chooses the sounds, and the level one of them.
+// The sounds of vowels (paper 01, pass 3): an arm for each row. A row that asks of the letter
+// before is a function of it: that letter's class, or the boundary where there is no letter,
+// chooses the sounds, and the level one of them.
 ghost use mathlib.Core.Path.{_≡_};
 ghost use mathlib.Core.Bool.{false, cond};
 ghost use Prim.Native.Nat.{_<_};
@@ -140,8 +140,8 @@ fn row_i(s: Syllable, before: LetterBefore, hard: bool) -> u8
     }
 }
 
-// The sound of the vowel b, small or capital, of syllable s at place i: an arm for each row. The byte
-// before has class k.
+// The sound of the vowel b, small or capital, of syllable s at place i: an arm for each row. The
+// byte before has class k.
 pub fn vowel_sound(b: u8, s: Syllable, m: &[u8], i: usize, k: usize) -> u8
     requires { ⌜ Before (now m) i k ⌝ }
     ensures { λ r. ⌜ RowAt (rowOf (small b)) (now (m .entry)) i s r ⌝ }

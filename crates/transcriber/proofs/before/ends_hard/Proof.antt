@@ -27,7 +27,9 @@ unfolding hardEnd
 other-end q b h n = rw (no-sign b h n, or-false (isPaired (small b)))
 
 -- where it does
-other : (c : tie.At-match-rest) → let s = c .before in hardEnd (small (s .args .q)) (small (s .args .p)) ≡ (isHardOnly (small (s .args .p)) || isPaired (small (s .args .p)))
+other : (c : tie.At-match-rest)
+    → let s = c .before in
+    hardEnd (small (s .args .q)) (small (s .args .p)) ≡ (isHardOnly (small (s .args .p)) || isPaired (small (s .args .p)))
 other c = let s = c .before in other-end (small (s .args .q)) (s .args .p) (omega (arith, s .fits .p)) (c .match .rest .1)
 
 pub ends-hard-spec : {M : Type 1} → statement M

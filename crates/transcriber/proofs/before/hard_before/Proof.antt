@@ -8,7 +8,8 @@ use Rattle.transcriber.proofs.before.hard_before.Statement.{statement}
 use Rattle.transcriber.proofs.before.hard_before.Tie as tie
 
 -- the word's end decides
-at-gap : (m : List ℕ) (i : ℕ) {k p q : ℕ} {r : Bool} → k ≡ classBefore m i → k ≡ gapClass → q ≡ byteBefore m (i - 2) → p ≡ byteBefore m (i - 1)
+at-gap : (m : List ℕ) (i : ℕ) {k p q : ℕ} {r : Bool} → k ≡ classBefore m i → k ≡ gapClass
+    → q ≡ byteBefore m (i - 2) → p ≡ byteBefore m (i - 1)
     → r ≡ hardEnd (small q) (small p) → r ≡ hardBefore m i
 unfolding hardBefore
 at-gap m i e g f h x = rw (← e, g, ← f, ← h) x
@@ -28,8 +29,10 @@ hard-before-spec =
     (λ c κs. search needs)
     (search needs)
     (λ c. let b = c .before .before in let s = b .before .before .before in
-    at-gap (s .args .m .now) (s .args .i) (s .pre .class) (b .before .if1 .left) (only-one (s .args .m .now) (s .args .i) (c .before .if2 .taken)) (b .byte-before .ensures) (c .ends-hard .ensures))
+    let one = only-one (s .args .m .now) (s .args .i) (c .before .if2 .taken) in
+    at-gap (s .args .m .now) (s .args .i) (s .pre .class) (b .before .if1 .left) one (b .byte-before .ensures) (c .ends-hard .ensures))
     (λ c κs. search needs)
     (search needs)
     (λ c. let b = c .before .before .before in let s = b .before .before .before in
-    at-gap (s .args .m .now) (s .args .i) (s .pre .class) (b .before .if1 .left) (c .before .byte-before2 .ensures) (b .byte-before .ensures) (c .ends-hard2 .ensures)))
+    let two = c .before .byte-before2 .ensures in
+    at-gap (s .args .m .now) (s .args .i) (s .pre .class) (b .before .if1 .left) two (b .byte-before .ensures) (c .ends-hard2 .ensures)))

@@ -17,7 +17,8 @@ past : (c : tie.Else1) → 0 < c .before .before .before .args .i
 past c =
     let k = c .before in
     let s = k .before .before in
-    past-start (s .args .m .now) (s .args .i) (s .pre .class) (λ e. let x : true ≡ false = rw e at (sym (k .is-break-class .ensures) ∙ c .if1 .left) in true≢false x)
+    let n = sym (k .is-break-class .ensures) ∙ c .if1 .left in
+    past-start (s .args .m .now) (s .args .i) (s .pre .class) (λ e. let x : true ≡ false = rw e at n in true≢false x)
 
 pub letter-before-spec : {M : Type 1} → statement M
 unfolding letterBefore
@@ -29,4 +30,5 @@ letter-before-spec =
     past
     (λ c. let s = c .before .before .before .before in omega (arith, past (c .before), s .pre .within))
     (λ c. let k = c .before .before in let s = k .before .before in
-    rw (← s .pre .class, ← k .is-break-class .ensures, c .before .if1 .left) (ap Byte (byte-at (s .args .m .now) (s .args .i) (past (c .before))))))
+    rw (← s .pre .class, ← k .is-break-class .ensures, c .before .if1 .left)
+    (ap Byte (byte-at (s .args .m .now) (s .args .i) (past (c .before))))))

@@ -13,4 +13,5 @@ is-soft-only-spec =
     (tie.spec
     (λ c. ⊎-elim (λ e. rw e) (⊎-elim (λ e. rw e) (λ e. rw e)) (c .match .keys1))
     (λ c. ⊎-elim (λ e. rw e) (⊎-elim (λ e. rw e) (λ e. rw e)) (c .match .keys2))
-    (λ c. let r = c .match .rest in sym (outside (λ x. isSoftOnly (small x)) false (no-third (r .0 .1) (no-third (r .1) none)) refl (omega (arith, c .before .fits .b)))))
+    (λ c. let r = c .match .rest in let n = no-third (r .0 .1) (no-third (r .1) none) in
+    sym (outside (λ x. isSoftOnly (small x)) false n refl (omega (arith, c .before .fits .b)))))

@@ -11,7 +11,9 @@ row-ie-spec =
     tie.close
     (tie.spec
     (search needs) (search needs) (search needs) (search needs) (search needs)
-    (λ c q t. let k = c .before .before in let u = told-byte (k .before .before .before2 .given .1) t in rw (u .0, u .1 .hardOnly, ← k .is-hard-only .ensures, c .before .if1 .taken) (c .by-level2 .ensures))
+    (λ c q t. let k = c .before .before in let u = told-byte (k .before .before .before2 .given .1) t in
+    rw (u .0, u .1 .hardOnly, ← k .is-hard-only .ensures, c .before .if1 .taken) (c .by-level2 .ensures))
     (search needs)
     (λ c q t. rw (told-none (c .before .enum-told .given .1) t) (c .by-level .ensures))
-    (λ c q t. let k = c .before .before in let u = told-byte (k .before .before .before2 .given .1) t in rw (u .0, u .1 .hardOnly, ← k .is-hard-only .ensures, c .before .if1 .left) (c .by-level3 .ensures)))
+    (λ c q t. let k = c .before .before in let u = told-byte (k .before .before .before2 .given .1) t in
+    rw (u .0, u .1 .hardOnly, ← k .is-hard-only .ensures, c .before .if1 .left) (c .by-level3 .ensures)))
