@@ -1,10 +1,10 @@
 pub mod Answering
+pub mod Boundaries
 pub mod Filling
 pub mod Fused
-pub mod Left
-pub mod Levelling
+pub mod Keys
 pub mod Namings
-pub mod Raw
 pub mod SoundTable
 pub mod Tail
+pub mod VowelSounds
 pub mod Walking

@@ -4,12 +4,17 @@ use Rattle.spec.specs.{Letters.isBreak, Refusals.vowelByte, Syllables.incomplet
 use Rattle.message.specs.{Classes.classOf, Classes.isVowelClass, Places.Steady}
 use Rattle.message.proofs.Bytes.{by-class, vowel-break}
 use Rattle.laws.proofs.Putting.{Put, put-none, put-length, put-again}
-use Rattle.transcriber.specs.Places.{leftAt, namesAt}
+use Rattle.stress.specs.Places.{leftAt}
+use Rattle.transcriber.specs.Places.{namesAt}
 use Rattle.transcriber.specs.Walk.{namePiece, NameReady, Named, NamesDue, WordEnd}
-use Rattle.transcriber.specs.{declared.LevelRun.LevelRun, declared.NameState.NameState, Levels.countedBy, Levels.numbered, Levels.endRun, Levels.stepOver, Levels.Looked, Levels.LevelsAt, Sounds.classBefore, Sounds.syllableBy}
-use Rattle.transcriber.proofs.Levelling.{levels-found, levels-over, levels-break, levels-end}
+use Rattle.stress.specs.declared.LevelRun.{LevelRun}
+use Rattle.transcriber.specs.declared.NameState.{NameState}
+use Rattle.stress.specs.Levels.{countedBy, numbered, endRun, stepOver, Looked, LevelsAt}
+use Rattle.stress.specs.Before.{classBefore, syllableBy}
+use Rattle.stress.proofs.Levelling.{levels-found, levels-over, levels-break, levels-end}
 use Rattle.transcriber.proofs.Tail.{names-start, names-end, names-vowel, names-other, names-break}
-use Rattle.transcriber.proofs.{Filling.Pieces, Filling.pieces-part, Filling.Writing, Raw.syllable-raw}
+use Rattle.transcriber.proofs.Filling.{Pieces, pieces-part, Writing}
+use Rattle.stress.proofs.Raw.{syllable-raw}
 
 -- the names from a place on are those that its byte settles and the rest's
 name-step : (m : List ℕ) → Steady m → (i : ℕ) → i < length m → namesAt m i ≡ namePiece m i ++ namesAt m (suc i)

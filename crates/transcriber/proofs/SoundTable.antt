@@ -4,8 +4,9 @@ use Rattle.laws.proofs.Classes.{below-same, pairs-same}
 use Rattle.spec.specs.{Letters.small, Letters.isConsonant, Refusals.consonantByte, Codes.isSound, Codes.isVoicing}
 use Rattle.message.proofs.Computed.{everything}
 use Rattle.transcriber.specs.Fused.{toneBefore, consonantCode}
-use Rattle.transcriber.specs.Sounds.{toneBy, codeBy, codeBefore, Heard, alike, rowIn, softRow, soundRow, codeRow, firstRows, soundTable}
-use Rattle.transcriber.proofs.Raw.{where-same}
+use Rattle.transcriber.specs.Sounds.{toneBy, codeBy, codeBefore, Heard, alike, rowIn, softRow, soundRow, codeRow, firstRows}
+use Rattle.transcriber.specs.Sounds.{soundTable}
+use Rattle.stress.proofs.Raw.{where-same}
 
 -- every definition of the table
 unfoldable pub table : Unit {0}

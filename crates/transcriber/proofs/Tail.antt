@@ -1,24 +1,21 @@
 -- The tape and the names from a place on: what the byte there puts before what comes after it. A place's tape is what the walk from the right has written when it stands there.
-use Rattle.laws.proofs.Kit.{ℕ, suc, _<_, _≡_, refl, sym, ap, Bool, true, false, cond, _&&_, or-assoc, or-comm, or-false, List, [], _∷_, _++_, append-assoc, append-nil, length, getD, drop, drop-cons, drop-length}
+use Rattle.laws.proofs.Kit.{ℕ, suc, _<_, _≡_, refl, sym, ap, Bool, true, false, cond, _&&_, List, [], _∷_, _++_, append-assoc, append-nil, length, getD, drop}
 use Rattle.spec.specs.Letters.{Letter, Message, last, more, putLetter, read, firstWord, isMark, isBreak, isGap, isVowel}
-use Rattle.spec.specs.Syllables.{Facts, factsOf, hasMark, namesFrom, incomplete, nameOf, syllableOf}
+use Rattle.spec.specs.Syllables.{Facts, factsOf, namesFrom, incomplete, nameOf, syllableOf}
 use Rattle.spec.specs.Voicing.{voiced, voiceless, voices, toneOf}
 use Rattle.spec.specs.Tape.{segment, sounds, tape, namesOf, names, wordNames}
 use Rattle.spec.specs.{Elision.elide, Codes.markOf, Codes.isVoicing, Vowels.endsHardFrom, Vowels.endsHard, Palatalization.firstCode, Refusals.vowelByte}
 use Rattle.message.specs.Places.{wordAt, letterOf, Steady}
-use Rattle.message.proofs.Left.{mark-within, word-put, begins-at, read-letter, read-mark, read-break, read-end, unmarked-after}
+use Rattle.message.proofs.Left.{mark-within, word-put, read-letter, read-mark, read-break, read-end}
 use Rattle.message.proofs.Bytes.{vowel-break, vowel-mark}
-use Rattle.laws.proofs.Classes.{cond-app, either, break-vowel}
-use Rattle.laws.proofs.{Elided.names-elide, Stretch.voices-over, Stretch.voices-first}
-use Rattle.transcriber.specs.Places.{Left, leftAt, markBefore, markFrom, markedAt, factsAt, tailTape, tailNext, tailWord, tapeAt}
-use Rattle.transcriber.specs.Places.{toneAt, soundAt, codesAt, toneAfter, soundAfter, tailNamesOf, namesAt}
+use Rattle.laws.proofs.{Classes.cond-app, Classes.either, Elided.names-elide, Stretch.voices-over, Stretch.voices-first}
+use Rattle.stress.specs.Places.{Left, leftAt, markBefore, factsAt}
+use Rattle.transcriber.specs.Places.{tailTape, tailNext, tailWord, tapeAt, toneAt, soundAt, codesAt, toneAfter, soundAfter}
+use Rattle.transcriber.specs.Places.{tailNamesOf, namesAt}
 use Rattle.transcriber.specs.Fused.{toneBefore, letterCodes, fusedFrom}
-use Rattle.transcriber.proofs.Left.{afterLetter, mark-first, left-letter, left-mark, left-break}
+use Rattle.stress.proofs.Left.{start, afterLetter, left-letter, left-mark, left-break}
+use Rattle.stress.proofs.Marked.{marked-within, marked-first, marked-after}
 use Rattle.transcriber.proofs.Fused.{word-fused}
-
--- the left context at the start of a word
-abbrev start : Bool → Left
-start hard = record { p = 0; q = 0; hard = hard }
 
 -- there its stretch is the tape of what follows
 start-tape : (hard : Bool) (r : Message) → segment hard false r ≡ tailTape (start hard) (factsOf (firstWord r)) r
@@ -98,35 +95,10 @@ voices-start hard r =
     rw (start-tape hard r, word-rest (start hard) (factsOf (firstWord r)) r, voices-word (start hard) w r) (voices-first w)
 
 module _ (m : List ℕ) (steady : Steady m) where
-  -- whether the word has a mark does not change within it
-  pub marked-within : (i : ℕ) → i < length m → isBreak (getD m i 0) ≡ false → markedAt m i ≡ markedAt m (suc i)
-  unfolding markedAt markBefore markFrom
-  marked-within i h b = rw (drop-cons m i 0 h, b, ← or-assoc (markBefore m i) (isMark (getD m i 0)) (markFrom (drop (suc i) m)), or-comm (markBefore m i) (isMark (getD m i 0)))
-
-  -- at its end it is told by the bytes before
-  pub marked-break : (i : ℕ) → i < length m → isBreak (getD m i 0) ≡ true → markedAt m i ≡ markBefore m i
-  unfolding markedAt markFrom
-  marked-break i h b = rw (drop-cons m i 0 h, b) (or-false (markBefore m i))
-
-  -- and so at the last
-  pub marked-end : markedAt m (length m) ≡ markBefore m (length m)
-  unfolding markedAt markFrom
-  marked-end = rw (drop-length m) (or-false (markBefore m (length m)))
-
-  -- at the start of a word the mark is told by its letters
-  pub marked-first : (i : ℕ) → markBefore m i ≡ false → isMark (getD m i 0) ≡ false → markedAt m i ≡ hasMark (wordAt m i)
-  unfolding markedAt wordAt
-  marked-first i b k = rw (b, ← mark-first (drop i m), begins-at m i, k)
-
-  -- so it is after a break
-  pub marked-after : (i : ℕ) → isBreak (getD m i 0) ≡ true → markedAt m (suc i) ≡ hasMark (wordAt m (suc i))
-  unfolding markBefore
-  marked-after i b = marked-first (suc i) (rw b) (unmarked-after m steady i (break-vowel (getD m i 0) b))
-
   -- the whole tape is the tape at the first place
   pub tape-start : tapeAt m 0 ≡ tape m
   unfolding tapeAt sounds leftAt markBefore wordAt
-  tape-start = rw (marked-first 0 refl (steady .first)) (sym (start-tape false (read m)))
+  tape-start = rw (marked-first m steady 0 refl (steady .first)) (sym (start-tape false (read m)))
 
   -- nothing is left at the end
   pub tape-end : tapeAt m (length m) ≡ []
@@ -136,44 +108,44 @@ module _ (m : List ℕ) (steady : Steady m) where
   -- a letter's codes stand before the rest's
   pub tape-letter : (i : ℕ) → i < length m → isBreak (getD m i 0) ≡ false → isMark (getD m i 0) ≡ false → tapeAt m i ≡ codesAt m i ++ tapeAt m (suc i)
   unfolding tapeAt codesAt toneAt soundAt wordAt
-  tape-letter i h b k = rw (← marked-within i h b, left-letter m i h b k, read-letter m i h b k) (put-tape (leftAt m i) (factsAt m i) (letterOf m i) (read (drop (suc i) m)))
+  tape-letter i h b k = rw (← marked-within m steady i h b, left-letter m i h b k, read-letter m i h b k) (put-tape (leftAt m i) (factsAt m i) (letterOf m i) (read (drop (suc i) m)))
 
   -- a mark makes no code
   pub tape-mark : (i : ℕ) → i < length m → isMark (getD m i 0) ≡ true → tapeAt m i ≡ tapeAt m (suc i)
   unfolding tapeAt
-  tape-mark i h k = rw (← marked-within i h (mark-within (getD m i 0) k), left-mark m i h k, read-mark m i h k)
+  tape-mark i h k = rw (← marked-within m steady i h (mark-within (getD m i 0) k), left-mark m i h k, read-mark m i h k)
 
   -- a break makes its own
   pub tape-break : (i : ℕ) → i < length m → isBreak (getD m i 0) ≡ true → tapeAt m i ≡ markOf (getD m i 0) ∷ tapeAt m (suc i)
   unfolding tapeAt tailTape fusedFrom endsHardFrom wordAt
-  tape-break i h b = rw (read-break m i h b, left-break m i h b, marked-after i b) (ap (λ (t : List ℕ). markOf (getD m i 0) ∷ t) (start-tape _ (read (drop (suc i) m))))
+  tape-break i h b = rw (read-break m i h b, left-break m i h b, marked-after m steady i b) (ap (λ (t : List ℕ). markOf (getD m i 0) ∷ t) (start-tape _ (read (drop (suc i) m))))
 
   -- the tone after a place, when a letter has put its codes there
   pub tone-letter : (i : ℕ) → i < length m → isBreak (getD m i 0) ≡ false → isMark (getD m i 0) ≡ false
       → toneAt m i ≡ toneAfter (codesAt m i) (toneAt m (suc i))
   unfolding toneAt soundAt codesAt wordAt
-  tone-letter i h b k = rw (← marked-within i h b, left-letter m i h b k, read-letter m i h b k) (put-heard (leftAt m i) (factsAt m i) (letterOf m i) (read (drop (suc i) m)) .0)
+  tone-letter i h b k = rw (← marked-within m steady i h b, left-letter m i h b k, read-letter m i h b k) (put-heard (leftAt m i) (factsAt m i) (letterOf m i) (read (drop (suc i) m)) .0)
 
   -- the first sound then
   pub sound-letter : (i : ℕ) → i < length m → isBreak (getD m i 0) ≡ false → isMark (getD m i 0) ≡ false
       → soundAt m i ≡ soundAfter (codesAt m i) (soundAt m (suc i))
   unfolding toneAt soundAt codesAt wordAt
-  sound-letter i h b k = rw (← marked-within i h b, left-letter m i h b k, read-letter m i h b k) (put-heard (leftAt m i) (factsAt m i) (letterOf m i) (read (drop (suc i) m)) .1)
+  sound-letter i h b k = rw (← marked-within m steady i h b, left-letter m i h b k, read-letter m i h b k) (put-heard (leftAt m i) (factsAt m i) (letterOf m i) (read (drop (suc i) m)) .1)
 
   -- a mark changes no tone
   pub tone-mark : (i : ℕ) → i < length m → isMark (getD m i 0) ≡ true → toneAt m i ≡ toneAt m (suc i)
   unfolding toneAt
-  tone-mark i h k = rw (← marked-within i h (mark-within (getD m i 0) k), left-mark m i h k, read-mark m i h k)
+  tone-mark i h k = rw (← marked-within m steady i h (mark-within (getD m i 0) k), left-mark m i h k, read-mark m i h k)
 
   -- and no sound
   pub sound-mark : (i : ℕ) → i < length m → isMark (getD m i 0) ≡ true → soundAt m i ≡ soundAt m (suc i)
   unfolding soundAt
-  sound-mark i h k = rw (← marked-within i h (mark-within (getD m i 0) k), left-mark m i h k, read-mark m i h k)
+  sound-mark i h k = rw (← marked-within m steady i h (mark-within (getD m i 0) k), left-mark m i h k, read-mark m i h k)
 
   -- before a break the tone is told by the first sound after it
   pub tone-break : (i : ℕ) → i < length m → isBreak (getD m i 0) ≡ true → toneAt m i ≡ cond (isGap (getD m i 0) && isVoicing (soundAt m (suc i))) voiced voiceless
   unfolding toneAt soundAt wordAt toneOf tailNext tailWord fusedFrom firstWord endsHardFrom
-  tone-break i h b = rw (read-break m i h b, left-break m i h b, marked-after i b, voices-start)
+  tone-break i h b = rw (read-break m i h b, left-break m i h b, marked-after m steady i b, voices-start)
 
   -- and the word has no sound left
   pub sound-break : (i : ℕ) → i < length m → isBreak (getD m i 0) ≡ true → soundAt m i ≡ 0
@@ -193,7 +165,7 @@ module _ (m : List ℕ) (steady : Steady m) where
   -- the names from the first place on are all of them
   pub names-start : namesAt m 0 ≡ names m
   unfolding namesAt names leftAt markBefore wordAt
-  names-start = rw (marked-first 0 refl (steady .first)) (sym (start-names false (read m)))
+  names-start = rw (marked-first m steady 0 refl (steady .first)) (sym (start-names false (read m)))
 
   -- at the end only an incomplete syllable is left to name
   pub names-end : namesAt m (length m) ≡ incomplete (leftAt m (length m) .p)
@@ -204,7 +176,7 @@ module _ (m : List ℕ) (steady : Steady m) where
   pub names-letter : (i : ℕ) → i < length m → isBreak (getD m i 0) ≡ false → isMark (getD m i 0) ≡ false
       → namesAt m i ≡ cond (vowelByte (getD m i 0)) (nameOf (syllableOf (factsAt m i) (leftAt m i .p) (letterOf m i) (wordAt m (suc i))) ∷ namesAt m (suc i)) (namesAt m (suc i))
   unfolding namesAt vowelByte letterOf wordAt
-  names-letter i h b k = rw (← marked-within i h b, left-letter m i h b k, read-letter m i h b k) (put-names (leftAt m i) (factsAt m i) (letterOf m i) (read (drop (suc i) m)))
+  names-letter i h b k = rw (← marked-within m steady i h b, left-letter m i h b k, read-letter m i h b k) (put-names (leftAt m i) (factsAt m i) (letterOf m i) (read (drop (suc i) m)))
 
   -- so a vowel puts a name before the rest's
   pub names-vowel : (i : ℕ) → i < length m → vowelByte (getD m i 0) ≡ true
@@ -215,9 +187,9 @@ module _ (m : List ℕ) (steady : Steady m) where
   pub names-other : (i : ℕ) → i < length m → isBreak (getD m i 0) ≡ false → vowelByte (getD m i 0) ≡ false → namesAt m i ≡ namesAt m (suc i)
   unfolding namesAt
   names-other i h b v =
-      either (isMark (getD m i 0)) (λ k. rw (← marked-within i h b, left-mark m i h k, read-mark m i h k)) (λ k. rw v at (names-letter i h b k))
+      either (isMark (getD m i 0)) (λ k. rw (← marked-within m steady i h b, left-mark m i h k, read-mark m i h k)) (λ k. rw v at (names-letter i h b k))
 
   -- at a break an incomplete syllable is named
   pub names-break : (i : ℕ) → i < length m → isBreak (getD m i 0) ≡ true → namesAt m i ≡ incomplete (leftAt m i .p) ++ namesAt m (suc i)
   unfolding namesAt tailNamesOf namesFrom wordAt
-  names-break i h b = rw (read-break m i h b, left-break m i h b, marked-after i b) (ap (λ (t : List ℕ). incomplete (leftAt m i .p) ++ t) (start-names _ (read (drop (suc i) m))))
+  names-break i h b = rw (read-break m i h b, left-break m i h b, marked-after m steady i b) (ap (λ (t : List ℕ). incomplete (leftAt m i .p) ++ t) (start-names _ (read (drop (suc i) m))))

@@ -2,23 +2,27 @@
 use Rattle.laws.proofs.Kit.{ℕ, suc, _+_, _%_, _<_, _≤_, arith, _≡_, refl, sym, ap, _∙_, Bool, true, false, cond, _&&_, not, true≢false, List, [], _∷_, _++_, map, eqb, length, getD, le-leb, lt-leb, ne-eqb}
 use Rattle.spec.specs.Letters.{small, firstByte, isBreak, isGap, isMark}
 use Rattle.spec.specs.Codes.{J, markOf, isSound, isVoicing}
-use Rattle.spec.specs.{Phones.softens, Voicing.Tone, Voicing.voiced, Voicing.voiceless, Refusals.vowelByte, Refusals.signByte, Refusals.consonantByte, declared.Level.Level, declared.Syllable.Syllable}
-use Rattle.message.specs.Classes.{classCount, classes, classOf, isBreakClass, isSignClass, isConsonantClass, isVowelClass, isSofteningClass, elidedAt}
+use Rattle.spec.specs.{Phones.softens, Voicing.Tone, Voicing.voiced, Voicing.voiceless, Refusals.vowelByte, Refusals.signByte, Refusals.consonantByte, declared.Level.Level}
+use Rattle.message.specs.Classes.{classes, classOf, isBreakClass, isSignClass, isConsonantClass, isVowelClass, isSofteningClass, elidedAt}
 use Rattle.message.specs.Places.{Steady, letterOf, wordAt}
 use Rattle.message.proofs.Left.{mark-within, word-letter, word-mark, word-break, word-end}
 use Rattle.message.proofs.{Bytes.by-class, Computed.everything, StepTable.class-spoken, Silent.elided-at}
 use Rattle.laws.proofs.{Classes.cond-same, Codes.vowel-sound, MarkIndex.sound-range, Putting.Put, Putting.put-none, Classes.below}
 use Rattle.transcriber.specs.Fused.{toneBefore, vowelCodes, consonantCode, letterCodes}
-use Rattle.transcriber.specs.Places.{leftAt, tapeAt, toneAt, soundAt, codesAt, toneAfter, soundAfter}
-use Rattle.transcriber.specs.Sounds.{classBefore, RowAt, rowOf, syllableBy, glideBy, toneBy, codeBy, Tells, codeBefore, Heard, soundTable}
-use Rattle.transcriber.specs.Walk.{VowelAt, syllableAt, Stands, Sung, sungCodes, pieceAt, Ready, ReadyFor, Stepped}
-use Rattle.transcriber.specs.Levels.{countedBy, numbered, endRun, stepOver, StepDue, LookDue, Looked}
-use Rattle.transcriber.specs.declared.{LevelRun.LevelRun, Right.Right, Vowel.Vowel}
-use Rattle.transcriber.proofs.Levelling.{levels-found, levels-due, levels-over, break-due, levels-break, levels-end}
-use Rattle.transcriber.proofs.Raw.{where-same, told-at, hard-raw, syllable-raw, glide-raw}
-use Rattle.transcriber.proofs.{Left.left-last, SoundTable.code-read}
-use Rattle.transcriber.proofs.Tail.{tape-letter, tape-mark, tape-break, tone-letter, sound-letter, tone-mark, sound-mark}
-use Rattle.transcriber.proofs.Tail.{tone-break, sound-break, tone-end, sound-end}
+use Rattle.stress.specs.Places.{leftAt, syllableAt}
+use Rattle.transcriber.specs.Places.{tapeAt, toneAt, soundAt, codesAt, toneAfter, soundAfter}
+use Rattle.transcriber.specs.Sounds.{toneBy, codeBy, Tells, codeBefore, Heard, soundTable}
+use Rattle.transcriber.specs.Walk.{VowelAt, Stands, Sung, sungCodes, pieceAt, Ready, ReadyFor, Stepped}
+use Rattle.stress.specs.Levels.{countedBy, numbered, endRun, stepOver, StepDue, LookDue, Looked}
+use Rattle.stress.specs.declared.LevelRun.{LevelRun}
+use Rattle.transcriber.specs.declared.Right.{Right}
+use Rattle.transcriber.specs.declared.Vowel.{Vowel}
+use Rattle.stress.proofs.Levelling.{levels-found, levels-due, levels-over, break-due, levels-break, levels-end}
+use Rattle.stress.proofs.Raw.{where-same}
+use Rattle.stress.proofs.Left.{left-last}
+use Rattle.transcriber.proofs.SoundTable.{code-read}
+use Rattle.transcriber.proofs.Tail.{tape-letter, tape-mark, tape-break, tone-letter, sound-letter, tone-mark, sound-mark, tone-break}
+use Rattle.transcriber.proofs.Tail.{sound-break, tone-end, sound-end}
 
 -- 64 more can be told from less
 tells : (n : ℕ) (soft : Bool) → n < 64 → Tells (n + cond soft 64 0) soft (toneBy n) (codeBy n)
@@ -224,23 +228,6 @@ module _ {m out : List ℕ} {i c : ℕ} {r : Right} (a : ReadyFor isConsonantCla
         let x : isSound code ≡ true = rw coded (code-read soundTable (getD m i 0) (r .sound) refl (a .ready .steady .bytes i) consonant-before .sound) in
         let z : code + 0 ≡ code = omega arith in
         letter-steps (a .ready) spelt codes (rw z at (tells-sound code false x)) l q
-
--- a vowel may be sung
-module _ {m : List ℕ} {i c : ℕ} {level : Level} (a : VowelAt m i c level) where
-  -- its class is a byte's
-  pub class-small : c < classCount
-  class-small = rw (a .class) (by-class (getD m i 0) (a .steady .bytes i) .class)
-
-  -- what is found of it by the letter before it, the class of the byte before, its own class, and the level is what the passes make of it
-  pub sung-by : {k : ℕ} {s : Syllable} {v : Vowel} → k ≡ classBefore m i → s ≡ syllableBy k level
-      → RowAt (rowOf (small (getD m i 0))) m i s (v .sound) → v .glide ≡ glideBy c (s .cover) k → Sung m i v
-  sung-by {s = s} e y o g =
-      let h : i ≤ length m = omega (arith, a .within) in
-      let z : syllableAt m i ≡ s = rw (y, e, a .level) (syllable-raw m (a .steady) i (a .within)) in
-      record {
-        sound = rw (z, hard-raw m (a .steady) i h) (o (leftAt m i .p) (told-at m (a .steady) i h));
-        glide = rw (z, glide-raw m (a .steady) i (a .within) (s .cover), ← a .class, ← e) g;
-      }
 
 module _ {m out : List ℕ} {i c : ℕ} {r : Right} (a : ReadyFor isVowelClass m out i c r) where
   -- of the vowels the highest classes soften

@@ -1,53 +1,20 @@
--- The tape and the names from a place of a message on, as a walk from the right leaves them, and
--- what the bytes before a place say. These are not the paper's words: `proofs/` shows that they
--- agree with them.
+-- The tape and the names from a place of a message on, as a walk from the right leaves them. These
+-- are not the paper's words: `proofs/` shows that they agree with them.
 -- Assumes nothing: these are definitions.
-use Prim.Native.Nat.{ℕ, zero, suc}
-use mathlib.Core.Bool.{Bool, false, cond, _&&_, _||_, not}
+use Prim.Native.Nat.{ℕ, suc}
+use mathlib.Core.Bool.{Bool, false, _&&_}
 use mathlib.Core.List.{List, [], _∷_, _++_}
-use lib.ListN.{getD, drop}
-use Rattle.spec.specs.Letters.{Message, last, more, read, firstWord, small, isMark, isBreak, isGap}
+use lib.ListN.{drop}
+use Rattle.spec.specs.Letters.{Message, last, more, read, firstWord, isGap}
 use Rattle.spec.specs.Codes.{markOf}
 use Rattle.spec.specs.Syllables.{Facts, namesFrom}
-use Rattle.spec.specs.Vowels.{endsHardFrom, hardEnd}
+use Rattle.spec.specs.Vowels.{endsHardFrom}
 use Rattle.spec.specs.Voicing.{Tone, voices, toneOf}
 use Rattle.spec.specs.Palatalization.{firstCode}
 use Rattle.spec.specs.Tape.{segment, namesOf}
 use Rattle.message.specs.Places.{wordAt, letterOf}
+use Rattle.stress.specs.Places.{Left, leftAt, factsAt}
 use Rattle.transcriber.specs.Fused.{toneBefore, letterCodes, fusedFrom}
-
--- what the bytes before a place say: the last letter of the word, the one before it (0 for none),
--- and whether a hard boundary stands right before the place
-pub record Left : Type 0 where
-  pub p : ℕ
-  pub q : ℕ
-  pub hard : Bool
-
-unfoldable pub stepLeft : ℕ → Left → Left
-stepLeft b l =
-    cond (isBreak b) (record { p = 0; q = 0; hard = isGap b && hardEnd (l .q) (l .p) })
-    (cond (isMark b) l (record { p = small b; q = l .p; hard = false }))
-
-unfoldable pub leftAt : List ℕ → ℕ → Left
-leftAt m zero = record { p = 0; q = 0; hard = false }
-leftAt m (suc i) = stepLeft (getD m i 0) (leftAt m i)
-
--- is there a mark among the bytes of this word before place i, or from there on?
-unfoldable pub markBefore : List ℕ → ℕ → Bool
-markBefore m zero = false
-markBefore m (suc i) = not (isBreak (getD m i 0)) && (isMark (getD m i 0) || markBefore m i)
-
-unfoldable pub markFrom : List ℕ → Bool
-markFrom [] = false
-markFrom (b ∷ m) = not (isBreak b) && (isMark b || markFrom m)
-
--- has the word at place i a mark?
-unfoldable pub markedAt : List ℕ → ℕ → Bool
-markedAt m i = markBefore m i || markFrom (drop i m)
-
--- the facts of the word at place i
-abbrev pub factsAt : List ℕ → ℕ → Facts
-factsAt m i = record { marked = markedAt m i }
 
 -- the codes of the rest of a word, w, and of what follows it, after the letters of the left context
 unfoldable pub tailTape : Left → Facts → Message → List ℕ

@@ -1,54 +1,25 @@
 -- How the code finds a letter's codes: by the byte before it, that byte's class, and one table.
 -- These are not the paper's words: `proofs/` shows that they agree with them.
 -- Assumes nothing: these are definitions.
-use Prim.Native.Nat.{ℕ, zero, suc, _+_, _-_, _*_, _%_, _<_, _≤_}
+use Prim.Native.Nat.{ℕ, suc, _+_, _-_, _*_, _%_, _<_}
 use mathlib.Core.Path.{_≡_}
 use mathlib.Core.Bool.{Bool, true, false, cond, _&&_, _||_}
 use mathlib.Core.List.{List, [], _∷_, _++_}
 use lib.Dec.{eqb, leb}
-use lib.ListN.{length, getD}
-use Rattle.spec.specs.Alphabet.{pause, «ь»}
 use Rattle.spec.specs.Refusals.{consonantByte}
 use Rattle.spec.specs.Tables.{among}
-use Rattle.spec.specs.Letters.{small, isBreak, isHardOnly, isPaired, isSoftOnly}
-use Rattle.spec.specs.Letters.{isConsonant, isSign}
+use Rattle.spec.specs.Letters.{small, isBreak}
 use Rattle.spec.specs.Codes.{А*, Б, Б', В', Г, Г', Х1, Х1', Д, Д', Ж, Ж', З, З', К, К', Л', М', Н', П, П', Р', С, С', Т, Т', Ф, Ф', Х, Х', Ц, Ц1, Ч, Ч1, Ш, Щ}
-use Rattle.spec.specs.Vowels.{hardEnd, initial, vowelSound, bare}
+use Rattle.spec.specs.Vowels.{hardEnd, vowelSound, bare}
 use Rattle.spec.specs.Voicing.{Tone, voiced, voiceless, asWritten}
-use Rattle.message.specs.Classes.{classOf, gapClass, softSignClass, vowelOClass, iotatedClass}
-use Rattle.message.specs.Classes.{vowelIClass, isBreakClass, isSignClass, isCoveringClass, tabulate}
+use Rattle.message.specs.Classes.{gapClass, softSignClass, vowelOClass, iotatedClass, vowelIClass}
+use Rattle.message.specs.Classes.{isBreakClass, isSignClass, tabulate}
 use Rattle.spec.specs.declared.Cover.{Cover}
-use Rattle.spec.specs.declared.Cover.the-variants.{Bare, Covered}
-use Rattle.spec.specs.declared.Level.{Level}
 use Rattle.spec.specs.declared.Syllable.{Syllable}
+use Rattle.stress.specs.Before.{byteBefore, classBefore, ByteTells}
 use Rattle.transcriber.specs.Fused.{toneBefore, consonantCode}
 use Rattle.transcriber.specs.declared.LetterBefore.{LetterBefore}
 use Rattle.transcriber.specs.declared.LetterBefore.the-variants.{None, Byte}
-
--- the byte before place i; a pause at the start of the message
-unfoldable pub byteBefore : List ℕ → ℕ → ℕ
-byteBefore m zero = pause
-byteBefore m (suc i) = getD m i 0
-
--- its class
-abbrev pub classBefore : List ℕ → ℕ → ℕ
-classBefore m i = classOf (byteBefore m i)
-
--- What the byte p before a place tells of the letter q before it, 0 for none: the byte is q, small
--- or capital, or a break where there is none, or the mark of a vowel.
-pub record ByteTells (p q : ℕ) : Type 0 where
-  pub first : initial q ≡ isBreak p
-  pub hardOnly : isHardOnly q ≡ isHardOnly (small p)
-  pub paired : isPaired q ≡ isPaired (small p)
-  pub softOnly : isSoftOnly q ≡ isSoftOnly (small p)
-  pub softSign : eqb q «ь» ≡ eqb (small p) «ь»
-
--- what that byte's class k tells of it
-pub record ClassTells (k q : ℕ) : Type 0 where
-  pub first : initial q ≡ isBreakClass k
-  pub covers : (isConsonant q || isSign q) ≡ isCoveringClass k
-  pub sign : isSign q ≡ isSignClass k
-  pub softSign : eqb q «ь» ≡ eqb k softSignClass
 
 -- what is told of the letter q before, 0 for none: it is none, or the byte before is no break and
 -- tells of it
@@ -72,11 +43,6 @@ hardBefore m i =
     eqb (classBefore m i) gapClass
     && hardEnd (small (byteBefore m (i - 2))) (small (byteBefore m (i - 1)))
 
--- the byte before place i has class k
-pub record Before (m : List ℕ) (i k : ℕ) : Type 0 where
-  pub within : i ≤ length m
-  pub class : k ≡ classBefore m i
-
 -- r is what a row says at place i
 abbrev pub RowAt : (Bool → ℕ → Syllable → ℕ) → List ℕ → ℕ → Syllable → ℕ → Type 0
 RowAt row m i s r = ByRow row (hardBefore m i) (letterBefore m i) s r
@@ -84,14 +50,6 @@ RowAt row m i s r = ByRow row (hardBefore m i) (letterBefore m i) s r
 -- the row of the vowel b
 abbrev pub rowOf : ℕ → Bool → ℕ → Syllable → ℕ
 rowOf b hard q s = vowelSound hard q s b
-
--- a syllable is covered after a consonant or a sign
-abbrev pub coverClass : ℕ → Cover
-coverClass k = cond (isCoveringClass k) Covered Bare
-
--- the syllable of a vowel of this level after a byte of class k
-abbrev pub syllableBy : ℕ → Level → Syllable
-syllableBy k level = record { cover = coverClass k; level = level }
 
 -- a vowel of class c has a glide after a byte of class k
 abbrev pub glideBy : ℕ → Cover → ℕ → Bool

@@ -7,20 +7,20 @@ use mathlib.Core.List.{List, [], _∷_}
 use lib.ListN.{length, getD}
 use Rattle.spec.specs.Letters.{small, firstByte, isBreak, isMark}
 use Rattle.spec.specs.Codes.{J, markOf}
-use Rattle.spec.specs.Syllables.{incomplete, nameOf, syllableOf}
+use Rattle.spec.specs.Syllables.{incomplete, nameOf}
 use Rattle.spec.specs.Vowels.{vowelSound, glides}
 use Rattle.spec.specs.Phones.{softens}
 use Rattle.spec.specs.Tape.{tape, names}
 use Rattle.spec.specs.Refusals.{vowelByte}
 use Rattle.laws.proofs.Putting.{Put}
-use Rattle.message.specs.Places.{Steady, letterOf, wordAt}
+use Rattle.message.specs.Places.{Steady, wordAt}
 use Rattle.message.specs.Classes.{classes, classOf, isBreakClass, isVowelClass}
 use Rattle.spec.specs.declared.Level.{Level}
-use Rattle.spec.specs.declared.Syllable.{Syllable}
-use Rattle.transcriber.specs.Places.{leftAt, toneAt, soundAt, factsAt, codesAt}
-use Rattle.transcriber.specs.Levels.{levelAt, stepOver, LevelsAt}
+use Rattle.stress.specs.Places.{syllableAt, leftAt}
+use Rattle.transcriber.specs.Places.{toneAt, soundAt, codesAt}
+use Rattle.stress.specs.Levels.{levelAt, stepOver, LevelsAt}
 use Rattle.transcriber.specs.Sounds.{soundTable, Tells}
-use Rattle.transcriber.specs.declared.LevelRun.{LevelRun}
+use Rattle.stress.specs.declared.LevelRun.{LevelRun}
 use Rattle.transcriber.specs.declared.Right.{Right}
 use Rattle.transcriber.specs.declared.Vowel.{Vowel}
 use Rattle.transcriber.specs.declared.NameState.{NameState}
@@ -47,10 +47,6 @@ pub record VowelAt (m : List ℕ) (i c : ℕ) (n : Level) : Type 0 where
   pub steady : Steady m
   pub class : c ≡ classOf (getD m i 0)
   pub level : n ≡ levelAt m i
-
--- the syllable of the vowel at place i
-abbrev pub syllableAt : List ℕ → ℕ → Syllable
-syllableAt m i = syllableOf (factsAt m i) (leftAt m i .p) (letterOf m i) (wordAt m (suc i))
 
 -- v is what passes 2 and 3 make of the vowel at place i
 pub record Sung (m : List ℕ) (i : ℕ) (v : Vowel) : Type 0 where

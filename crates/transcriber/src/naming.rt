@@ -3,24 +3,16 @@ ghost use mathlib.Core.Path.{_≡_};
 ghost use mathlib.Core.List.{_++_};
 ghost use lib.ListN.{drop};
 ghost use Rattle.message.specs.Classes.{classes};
-ghost use Rattle.spec.specs.Syllables.{incomplete};
+ghost use Rattle.spec.specs.Syllables.{incomplete, nameOf};
 ghost use Rattle.spec.specs.Tape.{names};
 ghost use Rattle.spec.specs.LevelSteps.{levelSteps};
 ghost use Rattle.spec.specs.Answers.{NamePromise};
 ghost use Rattle.laws.proofs.Putting.{Put};
-ghost use Rattle.transcriber.specs.Places.{leftAt};
-ghost use Rattle.transcriber.specs.Walk.{namePiece, WordEnd, NameReady, VowelNamed, Named, NamesDue};
+ghost use Rattle.stress.specs.Places.{leftAt};
+ghost use Rattle.transcriber.specs.Walk.{namePiece, WordEnd, NameReady, VowelNamed, Named};
+ghost use Rattle.transcriber.specs.Walk.{NamesDue};
 use crate::NameState;
-use crate::before::class_before;
-use crate::levels;
-use crate::levels::at_word_end;
-use crate::levels::level_of;
-use crate::levels::look_back;
 use crate::output::put;
-use crate::syllables;
-use crate::syllables::is_consonant_or_sign;
-use crate::syllables::name_of;
-use crate::syllables::syllable_by;
 use message::alphabet;
 use message::answers::refused;
 use message::check::check;
@@ -30,7 +22,40 @@ use message::classify::class_of;
 use message::classify::class_table;
 use spec::Answer;
 use spec::Checked;
+use spec::Cover;
+use spec::Level;
 use spec::Refusal;
+use spec::Syllable;
+use stress::before::class_before;
+use stress::levels;
+use stress::levels::at_word_end;
+use stress::levels::level_of;
+use stress::levels::look_back;
+use stress::syllables::is_consonant_or_sign;
+use stress::syllables::syllable_by;
+
+// The name of letters left after the last vowel.
+const INCOMPLETE: u8 = 7;
+
+// The name of a syllable with a vowel.
+fn name_of(s: Syllable) -> u8
+    ensures { λ r. ⌜ r ≡ nameOf s ⌝ }
+{
+    let cover = s.cover;
+    let level = s.level;
+    match cover {
+        Cover::Covered => match level {
+            Level::Stressed => 1,
+            Level::First => 3,
+            Level::Second => 5,
+        },
+        Cover::Bare => match level {
+            Level::Stressed => 2,
+            Level::First => 4,
+            Level::Second => 6,
+        },
+    }
+}
 
 // The end of a word, at place i: letters after its last vowel are an incomplete syllable.
 fn put_end(m: &[u8], i: usize, at: usize, out: &mut [u8], t: &ClassTable) -> usize
@@ -38,7 +63,7 @@ fn put_end(m: &[u8], i: usize, at: usize, out: &mut [u8], t: &ClassTable) -> usi
     ensures { λ r. ⌜ Put (incomplete (leftAt (now (m .entry)) i .p)) (now (out .entry)) (now (out .exit)) at r ⌝ }
 {
     if is_consonant_or_sign(class_before(m, i, t)) {
-        return put(out, at, syllables::INCOMPLETE);
+        return put(out, at, INCOMPLETE);
     }
     at
 }

@@ -7,21 +7,16 @@ ghost use Rattle.spec.specs.Tape.{tape};
 ghost use Rattle.spec.specs.LevelSteps.{levelSteps};
 ghost use Rattle.spec.specs.Answers.{TranscribePromise};
 ghost use Rattle.laws.proofs.Putting.{Put};
-ghost use Rattle.transcriber.specs.Walk.{sungCodes, Lent, ClassAt, Ready, ReadyFor, BreakReady, Stepped, MayWrite};
-use crate::LevelRun;
+ghost use Rattle.transcriber.specs.Walk.{sungCodes, Lent, ClassAt, Ready, ReadyFor};
+ghost use Rattle.transcriber.specs.Walk.{BreakReady, Stepped, MayWrite};
 use crate::Right;
 use crate::Vowel;
-use crate::before::class_before;
 use crate::codes;
 use crate::consonants::VOICELESS_END;
 use crate::consonants::consonant_code;
 use crate::consonants::seen_over;
 use crate::consonants::sound_of;
 use crate::consonants::sound_over_gap;
-use crate::levels;
-use crate::levels::at_word_end;
-use crate::levels::level_of;
-use crate::levels::look_back;
 use crate::output::put;
 use crate::tables::SoundTable;
 use crate::tables::sound_table;
@@ -38,6 +33,12 @@ use message::letters::is_elided;
 use spec::Answer;
 use spec::Checked;
 use spec::Refusal;
+use stress::LevelRun;
+use stress::before::class_before;
+use stress::levels;
+use stress::levels::at_word_end;
+use stress::levels::level_of;
+use stress::levels::look_back;
 
 // A break puts its mark, and left of it stands another word. c is its class, and passed the run of the levels over it.
 fn put_break(

@@ -8,23 +8,24 @@ ghost use Rattle.spec.specs.Letters.{small};
 ghost use Rattle.spec.specs.Vowels.{byLevel, byStress, rowА, rowО, rowЭ, rowЕ, rowЯ, rowИ};
 ghost use Rattle.spec.specs.Codes.{J};
 ghost use Rattle.message.specs.Classes.{classCount, classes, isSignClass};
-ghost use Rattle.transcriber.specs.Sounds.{Before, ByRow, RowAt, coverClass, glideBy, rowOf};
+ghost use Rattle.stress.specs.Before.{Before, coverClass};
+ghost use Rattle.transcriber.specs.Sounds.{ByRow, RowAt, glideBy, rowOf};
 ghost use Rattle.transcriber.specs.Walk.{VowelAt, Sung};
 use crate::LetterBefore;
 use crate::Vowel;
-use crate::before::class_before;
-use crate::before::hard_before;
-use crate::before::letter_before;
+use crate::boundary::hard_before;
+use crate::boundary::letter_before;
 use crate::codes;
 use crate::letter_classes::is_hard_only;
 use crate::letter_classes::is_soft_only;
-use crate::syllables::syllable_by;
 use message::alphabet;
 use message::classes;
 use message::classes::ClassTable;
 use spec::Cover;
 use spec::Level;
 use spec::Syllable;
+use stress::before::class_before;
+use stress::syllables::syllable_by;
 
 // A row that has one sound for level S, and one for levels 1 and 2.
 fn by_stress(s: Syllable, stressed: u8, other: u8) -> u8

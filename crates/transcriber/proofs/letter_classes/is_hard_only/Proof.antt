@@ -2,7 +2,7 @@
 use Rattle.laws.proofs.Kit.{sym, refl, false, ⊎-elim, arith}
 use Rattle.spec.specs.Letters.{small, isHardOnly}
 use Rattle.message.proofs.Computed.{everything}
-use Rattle.transcriber.proofs.Raw.{none, no-third, outside}
+use Rattle.transcriber.proofs.Keys.{none, no-third, outside}
 use Rattle.transcriber.proofs.letter_classes.is_hard_only.Statement.{statement}
 use Rattle.transcriber.proofs.letter_classes.is_hard_only.Tie as tie
 

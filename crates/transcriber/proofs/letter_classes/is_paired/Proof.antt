@@ -4,7 +4,7 @@ use Rattle.laws.proofs.Kit.{ℕ, _≤_, _≡_, sym, refl, Bool, true, false, co
 use Rattle.spec.specs.{Letters.between, Letters.small, Letters.isPaired, Tables.among}
 use Rattle.laws.proofs.Classes.{below}
 use Rattle.message.proofs.Computed.{everything}
-use Rattle.transcriber.proofs.Raw.{none, other, inside}
+use Rattle.transcriber.proofs.Keys.{none, other, inside}
 use Rattle.transcriber.proofs.letter_classes.is_paired.Statement.{statement}
 use Rattle.transcriber.proofs.letter_classes.is_paired.Tie as tie
 

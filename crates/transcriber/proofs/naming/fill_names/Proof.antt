@@ -1,9 +1,13 @@
 -- The invariant says that the names from the place on are in the output, and how the run of the levels stands there; each turn puts the names of one byte before them. The measure is the place.
 use Rattle.laws.proofs.Kit.{_≡_, _∙_, arith, needs}
 use Rattle.laws.proofs.Putting.{put-length, put-rest, put-first}
-use Rattle.transcriber.specs.{Levels.LevelsAt, Places.namesAt, Walk.namePiece}
+use Rattle.stress.specs.Levels.{LevelsAt}
+use Rattle.transcriber.specs.Places.{namesAt}
+use Rattle.transcriber.specs.Walk.{namePiece}
 use Rattle.transcriber.proofs.Filling.{Writing, writing-length, writing-ready, writing-more}
-use Rattle.transcriber.proofs.{Levelling.levels-done, Levelling.end-due, Namings.end-ends, Namings.naming-none, Tail.names-start}
+use Rattle.stress.proofs.Levelling.{levels-done, end-due}
+use Rattle.transcriber.proofs.Namings.{end-ends, naming-none}
+use Rattle.transcriber.proofs.Tail.{names-start}
 use Rattle.transcriber.proofs.naming.fill_names.Statement.{statement}
 use Rattle.transcriber.proofs.naming.fill_names.Tie as tie
 

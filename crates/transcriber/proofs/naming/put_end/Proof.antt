@@ -2,8 +2,8 @@
 use Rattle.laws.proofs.Kit.{_≡_, ap, cond, [], _∷_, arith, length, needs}
 use Rattle.spec.specs.Syllables.{incomplete}
 use Rattle.laws.proofs.Putting.{put-none}
-use Rattle.transcriber.specs.Places.{leftAt}
-use Rattle.transcriber.proofs.Raw.{incomplete-raw}
+use Rattle.stress.specs.Places.{leftAt}
+use Rattle.stress.proofs.Raw.{incomplete-raw}
 use Rattle.transcriber.proofs.naming.put_end.Statement.{statement}
 use Rattle.transcriber.proofs.naming.put_end.Tie as tie
 

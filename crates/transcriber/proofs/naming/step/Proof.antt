@@ -4,7 +4,8 @@ use Rattle.spec.specs.Letters.{isBreak, isMark}
 use Rattle.message.specs.Classes.{classOf, isVowelClass}
 use Rattle.message.proofs.{Bytes.by-class, Bytes.vowel-break, Left.mark-within}
 use Rattle.transcriber.proofs.Namings.{other-piece, named-within, word-ends, named-break}
-use Rattle.transcriber.proofs.{Levelling.plain-letter, Levelling.mark-vowel, Levelling.levels-due, Levelling.break-due, Raw.between-true, Raw.vowel-class, Raw.break-byte}
+use Rattle.stress.proofs.Levelling.{plain-letter, mark-vowel, levels-due, break-due}
+use Rattle.stress.proofs.Raw.{between-true, vowel-class, break-byte}
 use Rattle.transcriber.proofs.naming.step.Statement.{statement}
 use Rattle.transcriber.proofs.naming.step.Tie as tie
 

@@ -2,7 +2,7 @@
 use Rattle.laws.proofs.Kit.{ℕ, _<_, _≡_, sym, _∙_, false, List, getD, needs}
 use Rattle.message.specs.Classes.{elidedAt}
 use Rattle.message.proofs.StepTable.{class-spoken, before-spoken}
-use Rattle.transcriber.specs.Sounds.{byteBefore, classBefore}
+use Rattle.stress.specs.Before.{byteBefore, classBefore}
 use Rattle.transcriber.proofs.tape.is_silent.Statement.{statement}
 use Rattle.transcriber.proofs.tape.is_silent.Tie as tie
 

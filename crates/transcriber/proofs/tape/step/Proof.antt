@@ -2,7 +2,8 @@
 use Rattle.laws.proofs.Kit.{ℕ, Bool, true, _<_, _≡_, arith, getD, needs, eq-eqb, ne-eqb}
 use Rattle.spec.specs.Letters.{isMark}
 use Rattle.transcriber.specs.Walk.{ReadyFor}
-use Rattle.transcriber.proofs.{Raw.between-true, Raw.vowel-class, Raw.break-class, Walking.run-ready, Walking.sign-steps, Walking.mark-steps}
+use Rattle.stress.proofs.Raw.{between-true, vowel-class, break-class}
+use Rattle.transcriber.proofs.Walking.{run-ready, sign-steps, mark-steps}
 use Rattle.transcriber.proofs.tape.step.Statement.{statement}
 use Rattle.transcriber.proofs.tape.step.Tie as tie
 

@@ -3,7 +3,8 @@ use Rattle.laws.proofs.Kit.{ℕ, _<_, _≤_, _≡_, ap, _&&_, _||_, false, true
 use Rattle.laws.proofs.Classes.{either}
 use Rattle.message.specs.Classes.{classCount, isSignClass}
 use Rattle.spec.specs.{Vowels.bare, declared.Cover.Cover, declared.Cover.the-variants.Bare}
-use Rattle.transcriber.specs.Sounds.{coverClass, glideBy}
+use Rattle.stress.specs.Before.{coverClass}
+use Rattle.transcriber.specs.Sounds.{glideBy}
 use Rattle.transcriber.proofs.vowels.has_glide.Statement.{statement}
 use Rattle.transcriber.proofs.vowels.has_glide.Tie as tie
 

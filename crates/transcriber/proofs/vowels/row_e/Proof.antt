@@ -1,7 +1,7 @@
 -- A hard boundary counts only where there is no letter before.
 use Rattle.laws.proofs.Kit.{needs}
 use Rattle.message.proofs.Computed.{everything}
-use Rattle.transcriber.proofs.Raw.{told-none, told-byte}
+use Rattle.transcriber.proofs.Boundaries.{told-none, told-byte}
 use Rattle.transcriber.proofs.vowels.row_e.Statement.{statement}
 use Rattle.transcriber.proofs.vowels.row_e.Tie as tie
 

@@ -1,7 +1,7 @@
 -- What is told of the letter before, and where there is none the boundary, settle the test of the row.
 use Rattle.laws.proofs.Kit.{needs}
 use Rattle.message.proofs.Computed.{everything}
-use Rattle.transcriber.proofs.Raw.{told-none, told-byte}
+use Rattle.transcriber.proofs.Boundaries.{told-none, told-byte}
 use Rattle.transcriber.proofs.vowels.row_i.Statement.{statement}
 use Rattle.transcriber.proofs.vowels.row_i.Tie as tie
 

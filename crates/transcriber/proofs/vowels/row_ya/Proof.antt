@@ -1,7 +1,7 @@
 -- Only at the word's start is there no letter before.
 use Rattle.laws.proofs.Kit.{needs}
 use Rattle.message.proofs.Computed.{everything}
-use Rattle.transcriber.proofs.Raw.{told-none, told-byte}
+use Rattle.transcriber.proofs.Boundaries.{told-none, told-byte}
 use Rattle.transcriber.proofs.vowels.row_ya.Statement.{statement}
 use Rattle.transcriber.proofs.vowels.row_ya.Tie as tie
 

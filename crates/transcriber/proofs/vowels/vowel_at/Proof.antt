@@ -1,6 +1,6 @@
 -- The syllable, the sound and the glide are those of the vowel in its word, since the class of the byte before tells the letter before.
 use Rattle.laws.proofs.Kit.{ap, needs}
-use Rattle.transcriber.proofs.Walking.{class-small, sung-by}
+use Rattle.transcriber.proofs.VowelSounds.{class-small, sung-by}
 use Rattle.transcriber.proofs.vowels.vowel_at.Statement.{statement}
 use Rattle.transcriber.proofs.vowels.vowel_at.Tie as tie
 

@@ -3,7 +3,7 @@ use Rattle.laws.proofs.Kit.{refl, sym, ⊎-elim, arith, needs}
 use Rattle.spec.specs.{Letters.small, Vowels.vowelSound}
 use Rattle.message.proofs.Computed.{everything}
 use Rattle.transcriber.specs.Sounds.{hardBefore}
-use Rattle.transcriber.proofs.Raw.{none, neither, outside}
+use Rattle.transcriber.proofs.Keys.{none, neither, outside}
 use Rattle.transcriber.proofs.vowels.vowel_sound.Statement.{statement}
 use Rattle.transcriber.proofs.vowels.vowel_sound.Tie as tie
 

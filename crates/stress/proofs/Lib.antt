@@ -1,0 +1,4 @@
+pub mod Left
+pub mod Levelling
+pub mod Marked
+pub mod Raw
