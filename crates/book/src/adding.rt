@@ -13,11 +13,11 @@ use crate::records::put_head;
 use message::answers::refused;
 use message::check::check;
 use message::classify::class_table;
+use phones::tables::sound_table;
 use spec::Answer;
 use spec::Checked;
 use spec::Listener;
 use spec::Refusal;
-use transcriber::tables::sound_table;
 use transcriber::tape::write_tape;
 
 // The book's refusals of an addition under a number: 15 and 16 of its records, and 16 at its end where the number is not above the last. Where none is due it answers a writing of nothing.

@@ -16,12 +16,12 @@ use message::answers::refused;
 use message::check::check;
 use message::classes::ClassTable;
 use message::classify::class_table;
+use phones::codes;
+use phones::tables::SoundTable;
+use phones::tables::sound_table;
 use spec::Answer;
 use spec::Checked;
 use spec::Refusal;
-use transcriber::codes;
-use transcriber::tables::SoundTable;
-use transcriber::tables::sound_table;
 use transcriber::tape::write_tape;
 
 // What lies between these is no break of an accepted message.

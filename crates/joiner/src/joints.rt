@@ -5,7 +5,7 @@ ghost use Rattle.joiner.specs.Writing.{Beside, Changing};
 use crate::Changes;
 use message::alphabet;
 use message::letters::letter_at;
-use transcriber::codes;
+use phones::codes;
 
 // Is it a voiced obstruent's sound?
 fn is_voiced(code: u8) -> bool

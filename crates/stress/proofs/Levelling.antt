@@ -8,8 +8,7 @@ use Rattle.message.specs.{Classes.classes, Classes.classOf, Places.Steady, Plac
 use Rattle.message.proofs.Left.{mark-within, begins-at, unmarked-after, word-letter, word-break, word-end}
 use Rattle.message.proofs.{Bytes.vowel-break, Bytes.vowel-mark, Bytes.not-both, Computed.everything}
 use Rattle.laws.proofs.{Classes.break-mark, Classes.break-vowel, Classes.either, LevelSteps.steps-suffice}
-use Rattle.stress.specs.declared.LevelRun.{LevelRun}
-use Rattle.stress.specs.Places.{markBefore, markedAt}
+use Rattle.stress.specs.{declared.LevelRun.LevelRun, Places.markBefore, Places.markedAt}
 use Rattle.stress.specs.Levels.{levelAt, countedBy, numbered, nearly, sinceBy, endRun, overVowel, overMark, overBreak, overLetter}
 use Rattle.stress.specs.Levels.{stepOver, StepDue, LookDue, Looked, LevelsAt}
 use Rattle.stress.proofs.Raw.{where-same}

@@ -8,7 +8,8 @@ use Rattle.spec.specs.Vowels.{glides}
 use Rattle.spec.specs.Phones.{Phone, writtenCode, softens, vowelPhones, phonesOf, phonesFrom}
 use Rattle.spec.specs.Voicing.{Tone, voiced, voiceless, asWritten, voices, toneOf, toned, codesOf, voiceOne, voice}
 use Rattle.spec.specs.{Codes.palatalized, Elision.elideFrom, Elision.elide, Syllables.Facts, Syllables.factsOf, Syllables.syllableOf, Palatalization.isSoft, Palatalization.firstCode, Palatalization.palatalize, Tape.wordTape}
-use Rattle.transcriber.specs.Fused.{toneBefore, vowelCodes, consonantCode, letterCodes, fusedFrom}
+use Rattle.phones.specs.{Sounds.toneBefore, Sounds.consonantCode, VowelSounds.vowelCodes}
+use Rattle.transcriber.specs.Fused.{letterCodes, fusedFrom}
 use Rattle.laws.proofs.Classes.{cond-app, cond-same, either, among-same, vowel-quiet, vowel-single}
 use Rattle.laws.proofs.Elided.{elide-cases, soft-elide, syllable-elide, phones-free}
 use Rattle.spec.proofs.Computed.{everything}

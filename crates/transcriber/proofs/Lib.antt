@@ -1,10 +1,6 @@
 pub mod Answering
-pub mod Boundaries
 pub mod Filling
 pub mod Fused
-pub mod Keys
 pub mod Namings
-pub mod SoundTable
 pub mod Tail
-pub mod VowelSounds
 pub mod Walking

@@ -4,13 +4,10 @@ use Rattle.spec.specs.{Letters.isBreak, Refusals.vowelByte, Syllables.incomplet
 use Rattle.message.specs.{Classes.classOf, Classes.isVowelClass, Places.Steady}
 use Rattle.message.proofs.Bytes.{by-class, vowel-break}
 use Rattle.laws.proofs.Putting.{Put, put-none, put-length, put-again}
-use Rattle.stress.specs.Places.{leftAt}
-use Rattle.transcriber.specs.Places.{namesAt}
+use Rattle.stress.specs.{Places.leftAt, declared.LevelRun.LevelRun, Before.classBefore, Before.syllableBy}
+use Rattle.transcriber.specs.{Places.namesAt, declared.NameState.NameState}
 use Rattle.transcriber.specs.Walk.{namePiece, NameReady, Named, NamesDue, WordEnd}
-use Rattle.stress.specs.declared.LevelRun.{LevelRun}
-use Rattle.transcriber.specs.declared.NameState.{NameState}
 use Rattle.stress.specs.Levels.{countedBy, numbered, endRun, stepOver, Looked, LevelsAt}
-use Rattle.stress.specs.Before.{classBefore, syllableBy}
 use Rattle.stress.proofs.Levelling.{levels-found, levels-over, levels-break, levels-end}
 use Rattle.transcriber.proofs.Tail.{names-start, names-end, names-vowel, names-other, names-break}
 use Rattle.transcriber.proofs.Filling.{Pieces, pieces-part, Writing}

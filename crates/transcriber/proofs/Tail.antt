@@ -11,8 +11,8 @@ use Rattle.message.proofs.Bytes.{vowel-break, vowel-mark}
 use Rattle.laws.proofs.{Classes.cond-app, Classes.either, Elided.names-elide, Stretch.voices-over, Stretch.voices-first}
 use Rattle.stress.specs.Places.{Left, leftAt, markBefore, factsAt}
 use Rattle.transcriber.specs.Places.{tailTape, tailNext, tailWord, tapeAt, toneAt, soundAt, codesAt, toneAfter, soundAfter}
-use Rattle.transcriber.specs.Places.{tailNamesOf, namesAt}
-use Rattle.transcriber.specs.Fused.{toneBefore, letterCodes, fusedFrom}
+use Rattle.transcriber.specs.{Places.tailNamesOf, Places.namesAt, Fused.letterCodes, Fused.fusedFrom}
+use Rattle.phones.specs.Sounds.{toneBefore}
 use Rattle.stress.proofs.Left.{start, afterLetter, left-letter, left-mark, left-break}
 use Rattle.stress.proofs.Marked.{marked-within, marked-first, marked-after}
 use Rattle.transcriber.proofs.Fused.{word-fused}

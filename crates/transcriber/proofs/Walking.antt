@@ -8,19 +8,17 @@ use Rattle.message.specs.Places.{Steady, letterOf, wordAt}
 use Rattle.message.proofs.Left.{mark-within, word-letter, word-mark, word-break, word-end}
 use Rattle.message.proofs.{Bytes.by-class, Computed.everything, StepTable.class-spoken, Silent.elided-at}
 use Rattle.laws.proofs.{Classes.cond-same, Codes.vowel-sound, MarkIndex.sound-range, Putting.Put, Putting.put-none, Classes.below}
-use Rattle.transcriber.specs.Fused.{toneBefore, vowelCodes, consonantCode, letterCodes}
-use Rattle.stress.specs.Places.{leftAt, syllableAt}
+use Rattle.phones.specs.Sounds.{toneBefore, consonantCode, toneBy, codeBy, Tells, codeBefore, Heard, soundTable}
+use Rattle.phones.specs.VowelSounds.{vowelCodes, VowelAt, Sung, sungCodes}
+use Rattle.transcriber.specs.{Fused.letterCodes, declared.Right.Right}
+use Rattle.stress.specs.{Places.leftAt, Places.syllableAt, declared.LevelRun.LevelRun}
 use Rattle.transcriber.specs.Places.{tapeAt, toneAt, soundAt, codesAt, toneAfter, soundAfter}
-use Rattle.transcriber.specs.Sounds.{toneBy, codeBy, Tells, codeBefore, Heard, soundTable}
-use Rattle.transcriber.specs.Walk.{VowelAt, Stands, Sung, sungCodes, pieceAt, Ready, ReadyFor, Stepped}
+use Rattle.transcriber.specs.Walk.{Stands, pieceAt, Ready, ReadyFor, Stepped}
 use Rattle.stress.specs.Levels.{countedBy, numbered, endRun, stepOver, StepDue, LookDue, Looked}
-use Rattle.stress.specs.declared.LevelRun.{LevelRun}
-use Rattle.transcriber.specs.declared.Right.{Right}
-use Rattle.transcriber.specs.declared.Vowel.{Vowel}
+use Rattle.phones.specs.declared.Vowel.{Vowel}
 use Rattle.stress.proofs.Levelling.{levels-found, levels-due, levels-over, break-due, levels-break, levels-end}
-use Rattle.stress.proofs.Raw.{where-same}
-use Rattle.stress.proofs.Left.{left-last}
-use Rattle.transcriber.proofs.SoundTable.{code-read}
+use Rattle.stress.proofs.{Raw.where-same, Left.left-last}
+use Rattle.phones.proofs.SoundTable.{code-read}
 use Rattle.transcriber.proofs.Tail.{tape-letter, tape-mark, tape-break, tone-letter, sound-letter, tone-mark, sound-mark, tone-break}
 use Rattle.transcriber.proofs.Tail.{sound-break, tone-end, sound-end}
 

@@ -5,32 +5,14 @@
 use Prim.Native.Nat.{ℕ}
 use mathlib.Core.Bool.{Bool, false, cond}
 use mathlib.Core.List.{List, [], _∷_, _++_}
-use Rattle.spec.specs.Letters.{Letter, firstByte, isSign, isVowel, isObstruent}
-use Rattle.spec.specs.Codes.{J, palatalized, isVoicing, isDevoicing}
+use Rattle.spec.specs.Letters.{Letter, firstByte, isSign, isVowel}
 use Rattle.spec.specs.Elision.{elides}
 use Rattle.spec.specs.Syllables.{Facts, syllableOf}
-use Rattle.spec.specs.Vowels.{vowelSound, glides}
-use Rattle.spec.specs.Phones.{writtenCode, softens}
-use Rattle.spec.specs.Voicing.{Tone, voiced, voiceless, asWritten, toneOf, toned}
-use Rattle.spec.specs.Palatalization.{isSoft, firstCode}
-use Rattle.spec.specs.declared.Syllable.{Syllable}
-
--- what one sound makes of an obstruent right before it
-unfoldable pub toneBefore : ℕ → Tone
-toneBefore c = cond (isVoicing c) voiced (cond (isDevoicing c) voiceless asWritten)
-
--- the codes of a vowel b after p
-unfoldable pub vowelCodes : Bool → ℕ → ℕ → Syllable → List ℕ
-vowelCodes hard p b s =
-    let v = vowelSound hard p s b in
-    cond (glides p (s .cover) b) (J ∷ v ∷ []) (v ∷ [])
-
--- the code of a consonant b: soft says that the next letter palatalizes it, tone and c come from
--- the codes after it
-unfoldable pub consonantCode : ℕ → Bool → Tone → ℕ → ℕ
-consonantCode b soft tone c =
-    let k = cond (isObstruent b) (toned tone b (writtenCode b)) (writtenCode b) in
-    cond (isSoft (record { letter = b; softened = soft; code = k }) c) (palatalized k) k
+use Rattle.spec.specs.Phones.{softens}
+use Rattle.spec.specs.Voicing.{Tone, toneOf}
+use Rattle.spec.specs.Palatalization.{firstCode}
+use Rattle.phones.specs.VowelSounds.{vowelCodes}
+use Rattle.phones.specs.Sounds.{consonantCode}
 
 -- the codes of the letter l after p and before w
 unfoldable pub letterCodes : Bool → Facts → ℕ → Letter → List Letter → Tone → ℕ → List ℕ

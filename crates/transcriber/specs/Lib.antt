@@ -1,4 +1,3 @@
 pub mod Fused
 pub mod Places
-pub mod Sounds
 pub mod Walk

@@ -14,7 +14,8 @@ use Rattle.spec.specs.Palatalization.{firstCode}
 use Rattle.spec.specs.Tape.{segment, namesOf}
 use Rattle.message.specs.Places.{wordAt, letterOf}
 use Rattle.stress.specs.Places.{Left, leftAt, factsAt}
-use Rattle.transcriber.specs.Fused.{toneBefore, letterCodes, fusedFrom}
+use Rattle.phones.specs.Sounds.{toneBefore}
+use Rattle.transcriber.specs.Fused.{letterCodes, fusedFrom}
 
 -- the codes of the rest of a word, w, and of what follows it, after the letters of the left context
 unfoldable pub tailTape : Left → Facts → Message → List ℕ

@@ -5,24 +5,21 @@ use mathlib.Core.Path.{_≡_}
 use mathlib.Core.Bool.{Bool, true, cond}
 use mathlib.Core.List.{List, [], _∷_}
 use lib.ListN.{length, getD}
-use Rattle.spec.specs.Letters.{small, firstByte, isBreak, isMark}
-use Rattle.spec.specs.Codes.{J, markOf}
+use Rattle.spec.specs.Letters.{firstByte, isBreak, isMark}
+use Rattle.spec.specs.Codes.{markOf}
 use Rattle.spec.specs.Syllables.{incomplete, nameOf}
-use Rattle.spec.specs.Vowels.{vowelSound, glides}
 use Rattle.spec.specs.Phones.{softens}
 use Rattle.spec.specs.Tape.{tape, names}
 use Rattle.spec.specs.Refusals.{vowelByte}
 use Rattle.laws.proofs.Putting.{Put}
 use Rattle.message.specs.Places.{Steady, wordAt}
 use Rattle.message.specs.Classes.{classes, classOf, isBreakClass, isVowelClass}
-use Rattle.spec.specs.declared.Level.{Level}
 use Rattle.stress.specs.Places.{syllableAt, leftAt}
 use Rattle.transcriber.specs.Places.{toneAt, soundAt, codesAt}
-use Rattle.stress.specs.Levels.{levelAt, stepOver, LevelsAt}
-use Rattle.transcriber.specs.Sounds.{soundTable, Tells}
+use Rattle.stress.specs.Levels.{stepOver, LevelsAt}
+use Rattle.phones.specs.Sounds.{soundTable, Tells}
 use Rattle.stress.specs.declared.LevelRun.{LevelRun}
 use Rattle.transcriber.specs.declared.Right.{Right}
-use Rattle.transcriber.specs.declared.Vowel.{Vowel}
 use Rattle.transcriber.specs.declared.NameState.{NameState}
 
 -- the lent tables are the two
@@ -40,21 +37,6 @@ pub record ClassAt (m : List ℕ) (i c : ℕ) : Type 0 where
 pub record Stands (m : List ℕ) (i : ℕ) (r : Right) : Type 0 where
   pub sound : Tells (r .sound) (softens (firstByte (wordAt m i))) (toneAt m i) (soundAt m i)
   pub levels : LevelsAt m i (r .levels)
-
--- a vowel may be sung at place i: c is its class, and n the level of its syllable
-pub record VowelAt (m : List ℕ) (i c : ℕ) (n : Level) : Type 0 where
-  pub within : i < length m
-  pub steady : Steady m
-  pub class : c ≡ classOf (getD m i 0)
-  pub level : n ≡ levelAt m i
-
--- v is what passes 2 and 3 make of the vowel at place i
-pub record Sung (m : List ℕ) (i : ℕ) (v : Vowel) : Type 0 where
-  pub sound : v .sound ≡ vowelSound (leftAt m i .hard) (leftAt m i .p) (syllableAt m i) (small (getD m i 0))
-  pub glide : v .glide ≡ glides (leftAt m i .p) (syllableAt m i .cover) (small (getD m i 0))
-
-abbrev pub sungCodes : Vowel → List ℕ
-sungCodes v = cond (v .glide) (J ∷ v .sound ∷ []) (v .sound ∷ [])
 
 -- what the byte at place i puts on the tape
 unfoldable pub pieceAt : List ℕ → ℕ → List ℕ

@@ -3,8 +3,7 @@ use Rattle.laws.proofs.Kit.{ℕ, suc, _+_, _-_, _≤_, _≡_, refl, _∙_, true
 use Rattle.spec.specs.{Letters.isBreak, Letters.isMark, LevelSteps.backAt}
 use Rattle.message.specs.Places.{Steady}
 use Rattle.message.proofs.{Bytes.vowel-break, Bytes.vowel-mark, Left.mark-within}
-use Rattle.stress.specs.declared.LevelRun.{LevelRun}
-use Rattle.stress.specs.Places.{markBefore}
+use Rattle.stress.specs.{declared.LevelRun.LevelRun, Places.markBefore}
 use Rattle.stress.specs.Levels.{stepOver, endRun, Looked}
 use Rattle.laws.proofs.LevelSteps.{back-most}
 use Rattle.stress.proofs.Levelling.{step-by, back-letter, back-mark, back-break}

@@ -2,12 +2,10 @@
 use Rattle.laws.proofs.Kit.{_≡_, _∙_, arith, needs}
 use Rattle.laws.proofs.Putting.{put-length, put-rest, put-first}
 use Rattle.stress.specs.Levels.{LevelsAt}
-use Rattle.transcriber.specs.Places.{namesAt}
-use Rattle.transcriber.specs.Walk.{namePiece}
+use Rattle.transcriber.specs.{Places.namesAt, Walk.namePiece}
 use Rattle.transcriber.proofs.Filling.{Writing, writing-length, writing-ready, writing-more}
 use Rattle.stress.proofs.Levelling.{levels-done, end-due}
-use Rattle.transcriber.proofs.Namings.{end-ends, naming-none}
-use Rattle.transcriber.proofs.Tail.{names-start}
+use Rattle.transcriber.proofs.{Namings.end-ends, Namings.naming-none, Tail.names-start}
 use Rattle.transcriber.proofs.naming.fill_names.Statement.{statement}
 use Rattle.transcriber.proofs.naming.fill_names.Tie as tie
 

@@ -1,0 +1,4 @@
+pub mod Boundaries
+pub mod Keys
+pub mod SoundTable
+pub mod VowelSounds

@@ -1,0 +1,52 @@
+-- The code's table by its rule: what it gives for a letter and a sound is the letter's code before that sound, by one computation over all of them.
+use Rattle.laws.proofs.Kit.{ℕ, _+_, _*_, _%_, _<_, _≤_, _≡_, refl, true, cond, List, [], _∷_, arith, eqb, leb, getD, eqb-true, leb-true}
+use Rattle.laws.proofs.Classes.{below-same, pairs-same}
+use Rattle.spec.specs.{Letters.small, Letters.isConsonant, Refusals.consonantByte, Codes.isSound, Codes.isVoicing}
+use Rattle.message.proofs.Computed.{everything}
+use Rattle.phones.specs.Sounds.{toneBefore, consonantCode, toneBy, codeBy, codeBefore, Heard, alike, rowIn, softRow, soundRow}
+use Rattle.phones.specs.Sounds.{codeRow, firstRows, soundTable}
+use Rattle.stress.proofs.Raw.{where-same}
+
+-- every definition of the table
+unfoldable pub table : Unit {0}
+unfolding everything isSound toneBefore consonantCode toneBy codeBy alike rowIn softRow soundRow codeRow firstRows soundTable
+table = tt
+
+-- a sound's row begins within the table
+row-low : (s : ℕ) → s < 128 → leb (getD soundTable (644 + s) 0) 154 ≡ true
+unfolding table
+row-low s h = below-same (λ x. leb (getD soundTable (644 + x) 0) 154) (λ _. true) 128 s refl h
+
+-- and the first six are those of the sounds that voice
+pub row-voices : (s : ℕ) → s < 64 → isVoicing (codeBy s) ≡ leb (getD soundTable (644 + s) 0) 41
+unfolding table
+row-voices s h = below-same (λ x. isVoicing (codeBy x)) (λ x. leb (getD soundTable (644 + x) 0) 41) 64 s refl h
+
+-- what stands in it for a letter
+abbrev inRow : ℕ → ℕ → ℕ
+inRow j s = getD soundTable (getD soundTable (644 + s) 0 * 4 + j) 0
+
+-- is the letter's code, and that of a consonant is a sound
+code-row : (j s : ℕ) → j < 26 → s < 128 → (eqb (inRow j s) (codeBefore (224 + j) s) ∷ cond (isConsonant (224 + j)) (isSound (inRow j s)) true ∷ []) ≡ (true ∷ true ∷ [])
+unfolding table
+code-row j s = pairs-same (λ x y. eqb (inRow x y) (codeBefore (224 + x) y) ∷ cond (isConsonant (224 + x)) (isSound (inRow x y)) true ∷ []) (λ _ _. true ∷ true ∷ []) 26 128 j s refl
+
+-- the small letter of a consonant byte is told by its last five bits
+consonant-letter : (b : ℕ) → b < 256 → consonantByte b ≡ true → (224 + b % 32 ≡ small b) × (leb (b % 32) 25 ≡ true)
+unfolding everything
+consonant-letter b h k = (where-same consonantByte (λ x. 224 + x % 32) small 0 b refl h k, where-same consonantByte (λ x. leb (x % 32) 25) (λ _. true) true b refl h k)
+
+-- what the code reads of a consonant b before a sound s
+pub record Read (t : List ℕ) (b s : ℕ) : Type 0 where
+  pub row : getD t (644 + s) 0 ≤ 154
+  pub code : getD t (getD t (644 + s) 0 * 4 + b % 32) 0 ≡ codeBefore (small b) s
+  pub sound : isSound (codeBefore (small b) s) ≡ true
+
+-- that is so
+pub code-read : (t : List ℕ) (b s : ℕ) → t ≡ soundTable → b < 256 → Heard b s → Read t b s
+unfolding consonantByte
+code-read t b s e h k =
+    let l = consonant-letter b h (k .letter) in
+    let r = rw (l .0, k .letter) at (code-row (b % 32) s (omega (arith, leb-true (b % 32) 25 (l .1))) (k .sound)) in
+    let c : inRow (b % 32) s ≡ codeBefore (small b) s = eqb-true _ _ (cc) in
+    rw e (record { row = leb-true _ 154 (row-low s (k .sound)); code = c; sound = rw (← c) (cc) })

@@ -1,0 +1,90 @@
+-- How the code finds a consonant's code: by one number for what stands right of it, and one table.
+-- These are not the paper's words: `proofs/` shows that they agree with them.
+-- Assumes nothing: these are definitions.
+use Prim.Native.Nat.{ℕ, suc, _+_, _*_, _%_, _<_}
+use mathlib.Core.Path.{_≡_}
+use mathlib.Core.Bool.{Bool, true, cond}
+use mathlib.Core.List.{List, [], _∷_, _++_}
+use lib.Dec.{eqb, leb}
+use Rattle.spec.specs.Refusals.{consonantByte}
+use Rattle.spec.specs.Tables.{among}
+use Rattle.spec.specs.Codes.{А*, Б, Б', В', Г, Г', Х1, Х1', Д, Д', Ж, Ж', З, З', К, К', Л', М', Н'}
+use Rattle.spec.specs.Codes.{П, П', Р', С, С', Т, Т', Ф, Ф', Х, Х', Ц, Ц1, Ч, Ч1, Ш, Щ, palatalized}
+use Rattle.spec.specs.Codes.{isVoicing, isDevoicing}
+use Rattle.spec.specs.Voicing.{Tone, voiced, voiceless, asWritten, toned}
+use Rattle.message.specs.Classes.{tabulate}
+use Rattle.spec.specs.Letters.{isObstruent}
+use Rattle.spec.specs.Phones.{writtenCode}
+use Rattle.spec.specs.Palatalization.{isSoft}
+
+-- what one sound makes of an obstruent right before it
+unfoldable pub toneBefore : ℕ → Tone
+toneBefore c = cond (isVoicing c) voiced (cond (isDevoicing c) voiceless asWritten)
+
+-- the code of a consonant b: soft says that the next letter palatalizes it, tone and c come from
+-- the codes after it
+unfoldable pub consonantCode : ℕ → Bool → Tone → ℕ → ℕ
+consonantCode b soft tone c =
+    let k = cond (isObstruent b) (toned tone b (writtenCode b)) (writtenCode b) in
+    cond (isSoft (record { letter = b; softened = soft; code = k }) c) (palatalized k) k
+
+-- How the code says by one number what stands right of a letter: the code of the next sound of its word, or 57 or 0 where it has none and the next word voices an obstruent or does not; and 64 more where the next letter palatalizes.
+-- What an obstruent is before it
+unfoldable pub toneBy : ℕ → Tone
+toneBy n = cond (eqb n 57) voiced (cond (eqb n 0) voiceless (toneBefore n))
+
+-- the code, 0 for none
+unfoldable pub codeBy : ℕ → ℕ
+codeBy n = cond (eqb n 57) 0 n
+
+-- the number s tells these
+pub record Tells (s : ℕ) (x : Bool) (t : Tone) (c : ℕ) : Type 0 where
+  pub low : s < 128
+  pub soft : leb 64 s ≡ x
+  pub tone : toneBy (s % 64) ≡ t
+  pub code : codeBy (s % 64) ≡ c
+
+-- the code of the consonant b before it
+abbrev pub codeBefore : ℕ → ℕ → ℕ
+codeBefore b s = consonantCode b (leb 64 s) (toneBy (s % 64)) (codeBy (s % 64))
+
+-- what a consonant's code is read from
+pub record Heard (b s : ℕ) : Type 0 where
+  pub letter : consonantByte b ≡ true
+  pub sound : s < 128
+
+-- The sounds that act alike on every letter before them, a row of the table for each list: the first six voice, those of the eighth to the fourteenth devoice, and any other leaves an obstruent as it is written.
+unfoldable pub alike : List (List ℕ)
+alike =
+    (Б ∷ Г ∷ Х1 ∷ Д ∷ Ж ∷ З ∷ Ц1 ∷ []) ∷ (Д' ∷ З' ∷ []) ∷ (Ч1 ∷ Ж' ∷ []) ∷ (Б' ∷ []) ∷ (Г' ∷ []) ∷ (Х1' ∷ [])
+    ∷ (57 ∷ []) ∷ (0 ∷ К ∷ П ∷ С ∷ Т ∷ Ф ∷ Х ∷ Ц ∷ Ш ∷ []) ∷ (Т' ∷ С' ∷ []) ∷ (Ч ∷ Щ ∷ []) ∷ (П' ∷ []) ∷ (Ф' ∷ []) ∷ (К' ∷ []) ∷ (Х' ∷ [])
+    ∷ (Н' ∷ []) ∷ (В' ∷ []) ∷ (Л' ∷ []) ∷ (М' ∷ []) ∷ (Р' ∷ []) ∷ []
+
+-- which of the lists has the sound, or how many they are
+unfoldable pub rowIn : List (List ℕ) → ℕ → ℕ
+rowIn [] s = 0
+rowIn (x ∷ xs) s = cond (among x s) 0 (suc (rowIn xs s))
+
+-- where the next letter palatalizes only the tone matters
+unfoldable pub softRow : Tone → ℕ
+softRow voiced = 20
+softRow voiceless = 21
+softRow asWritten = 22
+
+-- the number of a sound's row: where it begins, in fours, since a row has 28 codes
+unfoldable pub soundRow : ℕ → ℕ
+soundRow s = 7 * cond (leb 64 s) (softRow (toneBy (s % 64))) (rowIn alike s)
+
+-- the codes of the letters а to ы before the sound s
+unfoldable pub codeRow : ℕ → List ℕ
+codeRow s = tabulate (λ j. codeBefore (224 + j) s) 0 28
+
+-- before each row's first sound
+unfoldable pub firstRows : List (List ℕ) → List ℕ
+firstRows [] = codeRow А* ++ (codeRow (Б + 64) ++ (codeRow 64 ++ codeRow (А* + 64)))
+firstRows ([] ∷ xs) = firstRows xs
+firstRows ((s ∷ ss) ∷ xs) = codeRow s ++ firstRows xs
+
+-- the table: the rows, and the row of each sound
+unfoldable pub soundTable : List ℕ
+soundTable = firstRows alike ++ tabulate soundRow 0 128
