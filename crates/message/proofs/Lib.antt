@@ -4,6 +4,7 @@ pub mod Bytes
 pub mod Checking
 pub mod Computed
 pub mod Faults
+pub mod Filling
 pub mod Left
 pub mod Lengths
 pub mod StepTable

@@ -1,3 +1,4 @@
 pub mod Classes
 pub mod Steps
 pub mod Places
+pub mod Filling

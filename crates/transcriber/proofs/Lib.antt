@@ -1,6 +1,3 @@
-pub mod Answering
-pub mod Filling
 pub mod Fused
-pub mod Namings
 pub mod Tail
 pub mod Walking

@@ -1,33 +1,26 @@
--- The tape and the names from a place on: what the byte there puts before what comes after it. A place's tape is what the walk from the right has written when it stands there.
+-- The tape from a place on: what the byte there puts before what comes after it. A place's tape is what the walk from the right has written when it stands there.
 use Rattle.laws.proofs.Kit.{ℕ, suc, _<_, _≡_, refl, sym, ap, Bool, true, false, cond, _&&_, List, [], _∷_, _++_, append-assoc, append-nil, length, getD, drop}
-use Rattle.spec.specs.Letters.{Letter, Message, last, more, putLetter, read, firstWord, isMark, isBreak, isGap, isVowel}
-use Rattle.spec.specs.Syllables.{Facts, factsOf, namesFrom, incomplete, nameOf, syllableOf}
+use Rattle.spec.specs.Letters.{Letter, Message, last, more, putLetter, read, firstWord, isMark, isBreak, isGap}
+use Rattle.spec.specs.Syllables.{Facts, factsOf}
 use Rattle.spec.specs.Voicing.{voiced, voiceless, voices, toneOf}
-use Rattle.spec.specs.Tape.{segment, sounds, tape, namesOf, names, wordNames}
-use Rattle.spec.specs.{Elision.elide, Codes.markOf, Codes.isVoicing, Vowels.endsHardFrom, Vowels.endsHard, Palatalization.firstCode, Refusals.vowelByte}
+use Rattle.spec.specs.Tape.{segment, sounds, tape}
+use Rattle.spec.specs.{Codes.markOf, Codes.isVoicing, Vowels.endsHardFrom, Vowels.endsHard, Palatalization.firstCode}
 use Rattle.message.specs.Places.{wordAt, letterOf, Steady}
 use Rattle.message.proofs.Left.{mark-within, word-put, read-letter, read-mark, read-break, read-end}
-use Rattle.message.proofs.Bytes.{vowel-break, vowel-mark}
-use Rattle.laws.proofs.{Classes.cond-app, Classes.either, Elided.names-elide, Stretch.voices-over, Stretch.voices-first}
+use Rattle.laws.proofs.{Stretch.voices-over, Stretch.voices-first}
 use Rattle.stress.specs.Places.{Left, leftAt, markBefore, factsAt}
 use Rattle.transcriber.specs.Places.{tailTape, tailNext, tailWord, tapeAt, toneAt, soundAt, codesAt, toneAfter, soundAfter}
-use Rattle.transcriber.specs.{Places.tailNamesOf, Places.namesAt, Fused.letterCodes, Fused.fusedFrom}
+use Rattle.transcriber.specs.Fused.{letterCodes, fusedFrom}
 use Rattle.phones.specs.Sounds.{toneBefore}
 use Rattle.stress.proofs.Left.{start, afterLetter, left-letter, left-mark, left-break}
 use Rattle.stress.proofs.Marked.{marked-within, marked-first, marked-after}
 use Rattle.transcriber.proofs.Fused.{word-fused}
 
--- there its stretch is the tape of what follows
+-- at the start of a word its stretch is the tape of what follows
 start-tape : (hard : Bool) (r : Message) → segment hard false r ≡ tailTape (start hard) (factsOf (firstWord r)) r
 unfolding segment tailTape firstWord endsHard
 start-tape hard (last w) = word-fused hard false w
 start-tape hard (more w x r) = rw (word-fused hard _ w)
-
--- and so with its names
-start-names : (hard : Bool) (r : Message) → namesOf r ≡ tailNamesOf (start hard) (factsOf (firstWord r)) r
-unfolding namesOf wordNames elide tailNamesOf firstWord
-start-names hard (last w) = names-elide (factsOf w) 0 w
-start-names hard (more w x r) = rw (names-elide (factsOf w) 0 w)
 
 -- what stands after the rest of a word
 unfoldable pub tailRest : Left → Message → List ℕ
@@ -74,13 +67,6 @@ module _ (l : Left) (facts : Facts) (x : Letter) where
   -- and stand before the rest's tape
   pub put-tape : (r : Message) → tailTape l facts (putLetter x r) ≡ putCodes r ++ tailTape after facts r
   put-tape r = rw (word-rest l facts (putLetter x r), word-rest after facts r, put-word r, put-after r .1) (append-assoc (putCodes r) (tailWord after facts r) (tailRest after r))
-
-  -- of the names, a vowel puts its syllable's before the rest's
-  pub put-names : (r : Message)
-      → tailNamesOf l facts (putLetter x r) ≡ cond (isVowel (x .byte)) (nameOf (syllableOf facts (l .p) x (firstWord r)) ∷ tailNamesOf after facts r) (tailNamesOf after facts r)
-  unfolding tailNamesOf namesFrom putLetter firstWord
-  put-names (last w) = refl
-  put-names (more w y r) = cond-app (λ t. t ++ namesOf r) (isVowel (x .byte)) _ (namesFrom facts (x .byte) w)
 
 -- what stands after a word voices nothing in it, being a mark or nothing
 voices-word : (l : Left) (cs : List ℕ) (r : Message) → voices (cs ++ tailRest l r) ≡ voices cs
@@ -161,35 +147,3 @@ module _ (m : List ℕ) (steady : Steady m) where
   pub sound-end : soundAt m (length m) ≡ 0
   unfolding soundAt tailWord fusedFrom firstWord firstCode
   sound-end = rw (read-end m)
-
-  -- the names from the first place on are all of them
-  pub names-start : namesAt m 0 ≡ names m
-  unfolding namesAt names leftAt markBefore wordAt
-  names-start = rw (marked-first m steady 0 refl (steady .first)) (sym (start-names false (read m)))
-
-  -- at the end only an incomplete syllable is left to name
-  pub names-end : namesAt m (length m) ≡ incomplete (leftAt m (length m) .p)
-  unfolding namesAt tailNamesOf namesFrom
-  names-end = rw (read-end m)
-
-  -- a letter that is a vowel names its syllable, another none
-  pub names-letter : (i : ℕ) → i < length m → isBreak (getD m i 0) ≡ false → isMark (getD m i 0) ≡ false
-      → namesAt m i ≡ cond (vowelByte (getD m i 0)) (nameOf (syllableOf (factsAt m i) (leftAt m i .p) (letterOf m i) (wordAt m (suc i))) ∷ namesAt m (suc i)) (namesAt m (suc i))
-  unfolding namesAt vowelByte letterOf wordAt
-  names-letter i h b k = rw (← marked-within m steady i h b, left-letter m i h b k, read-letter m i h b k) (put-names (leftAt m i) (factsAt m i) (letterOf m i) (read (drop (suc i) m)))
-
-  -- so a vowel puts a name before the rest's
-  pub names-vowel : (i : ℕ) → i < length m → vowelByte (getD m i 0) ≡ true
-      → namesAt m i ≡ nameOf (syllableOf (factsAt m i) (leftAt m i .p) (letterOf m i) (wordAt m (suc i))) ∷ namesAt m (suc i)
-  names-vowel i h v = rw v at (names-letter i h (vowel-break _ (steady .bytes i) v) (vowel-mark _ (steady .bytes i) v))
-
-  -- a byte that is neither a vowel nor a break names nothing
-  pub names-other : (i : ℕ) → i < length m → isBreak (getD m i 0) ≡ false → vowelByte (getD m i 0) ≡ false → namesAt m i ≡ namesAt m (suc i)
-  unfolding namesAt
-  names-other i h b v =
-      either (isMark (getD m i 0)) (λ k. rw (← marked-within m steady i h b, left-mark m i h k, read-mark m i h k)) (λ k. rw v at (names-letter i h b k))
-
-  -- at a break an incomplete syllable is named
-  pub names-break : (i : ℕ) → i < length m → isBreak (getD m i 0) ≡ true → namesAt m i ≡ incomplete (leftAt m i .p) ++ namesAt m (suc i)
-  unfolding namesAt tailNamesOf namesFrom wordAt
-  names-break i h b = rw (read-break m i h b, left-break m i h b, marked-after m steady i b) (ap (λ (t : List ℕ). incomplete (leftAt m i .p) ++ t) (start-names _ (read (drop (suc i) m))))

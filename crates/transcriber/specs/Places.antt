@@ -1,5 +1,5 @@
--- The tape and the names from a place of a message on, as a walk from the right leaves them. These
--- are not the paper's words: `proofs/` shows that they agree with them.
+-- The tape from a place of a message on, as a walk from the right leaves it. These are not the
+-- paper's words: `proofs/` shows that they agree with them.
 -- Assumes nothing: these are definitions.
 use Prim.Native.Nat.{ℕ, suc}
 use mathlib.Core.Bool.{Bool, false, _&&_}
@@ -7,11 +7,11 @@ use mathlib.Core.List.{List, [], _∷_, _++_}
 use lib.ListN.{drop}
 use Rattle.spec.specs.Letters.{Message, last, more, read, firstWord, isGap}
 use Rattle.spec.specs.Codes.{markOf}
-use Rattle.spec.specs.Syllables.{Facts, namesFrom}
+use Rattle.spec.specs.Syllables.{Facts}
 use Rattle.spec.specs.Vowels.{endsHardFrom}
 use Rattle.spec.specs.Voicing.{Tone, voices, toneOf}
 use Rattle.spec.specs.Palatalization.{firstCode}
-use Rattle.spec.specs.Tape.{segment, namesOf}
+use Rattle.spec.specs.Tape.{segment}
 use Rattle.message.specs.Places.{wordAt, letterOf}
 use Rattle.stress.specs.Places.{Left, leftAt, factsAt}
 use Rattle.phones.specs.Sounds.{toneBefore}
@@ -61,11 +61,3 @@ toneAfter (c ∷ cs) t = toneBefore c
 abbrev pub soundAfter : List ℕ → ℕ → ℕ
 soundAfter [] s = s
 soundAfter (c ∷ cs) s = c
-
--- the names of the rest of a word and of what follows it
-unfoldable pub tailNamesOf : Left → Facts → Message → List ℕ
-tailNamesOf l facts (last w) = namesFrom facts (l .p) w
-tailNamesOf l facts (more w x r) = namesFrom facts (l .p) w ++ namesOf r
-
-unfoldable pub namesAt : List ℕ → ℕ → List ℕ
-namesAt m i = tailNamesOf (leftAt m i) (factsAt m i) (read (drop i m))

@@ -1,5 +1,3 @@
-pub mod naming;
-mod output;
 pub mod tape;
 
 use stress::LevelRun;
@@ -8,11 +6,5 @@ use stress::LevelRun;
 pub struct Right {
     pub at: usize,
     pub sound: usize,
-    pub levels: LevelRun,
-}
-
-// The same for the naming, which needs to know less.
-pub struct NameState {
-    pub at: usize,
     pub levels: LevelRun,
 }

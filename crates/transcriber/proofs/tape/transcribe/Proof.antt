@@ -2,8 +2,7 @@
 use Rattle.laws.proofs.Kit.{_≡_, sym, _∙_, arith, length, needs}
 use Rattle.spec.specs.{Tape.tape, Refusals.checkOf, Answers.tapeAnswer, declared.Checked.the-variants.Accepted}
 use Rattle.laws.proofs.{Accepted.accepted-counts, Putting.put-first}
-use Rattle.message.proofs.{Answering.answered-refused, Steadiness.accepted-steady}
-use Rattle.transcriber.proofs.Answering.{answered-short, answered-written}
+use Rattle.message.proofs.{Answering.answered-refused, Answering.answered-short, Answering.answered-written, Steadiness.accepted-steady}
 use Rattle.transcriber.proofs.tape.transcribe.Statement.{statement}
 use Rattle.transcriber.proofs.tape.transcribe.Tie as tie
 

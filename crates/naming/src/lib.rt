@@ -9,10 +9,8 @@ ghost use Rattle.spec.specs.LevelSteps.{levelSteps};
 ghost use Rattle.spec.specs.Answers.{NamePromise};
 ghost use Rattle.laws.proofs.Putting.{Put};
 ghost use Rattle.stress.specs.Places.{leftAt};
-ghost use Rattle.transcriber.specs.Walk.{namePiece, WordEnd, NameReady, VowelNamed, Named};
-ghost use Rattle.transcriber.specs.Walk.{NamesDue};
-use crate::NameState;
-use crate::output::put;
+ghost use Rattle.naming.specs.Names.{namePiece, WordEnd, NameReady, VowelNamed, Named};
+ghost use Rattle.naming.specs.Names.{NamesDue};
 use message::alphabet;
 use message::answers::refused;
 use message::check::check;
@@ -20,12 +18,14 @@ use message::classes;
 use message::classes::ClassTable;
 use message::classify::class_of;
 use message::classify::class_table;
+use message::output::put;
 use spec::Answer;
 use spec::Checked;
 use spec::Cover;
 use spec::Level;
 use spec::Refusal;
 use spec::Syllable;
+use stress::LevelRun;
 use stress::before::class_before;
 use stress::levels;
 use stress::levels::at_word_end;
@@ -33,6 +33,13 @@ use stress::levels::level_of;
 use stress::levels::look_back;
 use stress::syllables::is_consonant_or_sign;
 use stress::syllables::syllable_by;
+
+// What stands right of a place of the message, in the walk from its end: where the names written so
+// far begin, and the run of the levels.
+pub struct NameState {
+    pub at: usize,
+    pub levels: LevelRun,
+}
 
 // The name of letters left after the last vowel.
 const INCOMPLETE: u8 = 7;

@@ -3,11 +3,11 @@ use Rattle.laws.proofs.Kit.{_≡_, true, _∙_, arith, getD, needs, eq-eqb, ne-
 use Rattle.spec.specs.Letters.{isBreak, isMark}
 use Rattle.message.specs.Classes.{classOf, isVowelClass}
 use Rattle.message.proofs.{Bytes.by-class, Bytes.vowel-break, Left.mark-within}
-use Rattle.transcriber.proofs.Namings.{other-piece, named-within, word-ends, named-break}
+use Rattle.naming.proofs.Namings.{other-piece, named-within, word-ends, named-break}
 use Rattle.stress.proofs.Levelling.{plain-letter, mark-vowel, levels-due, break-due}
 use Rattle.stress.proofs.Raw.{between-true, vowel-class, break-byte}
-use Rattle.transcriber.proofs.naming.step.Statement.{statement}
-use Rattle.transcriber.proofs.naming.step.Tie as tie
+use Rattle.naming.proofs.step.Statement.{statement}
+use Rattle.naming.proofs.step.Tie as tie
 
 -- the highest classes are the vowels'
 vowel : (c : tie.Then1) → let s = c .before .before .before .before .before .before in isVowelClass (classOf (getD (s .args .m .now) (s .args .i) 0)) ≡ true

@@ -1,8 +1,8 @@
 -- The class before and the run tell the syllable, and its name is put.
 use Rattle.laws.proofs.Kit.{needs}
-use Rattle.transcriber.proofs.Namings.{vowel-piece, vowel-room}
-use Rattle.transcriber.proofs.naming.put_name.Statement.{statement}
-use Rattle.transcriber.proofs.naming.put_name.Tie as tie
+use Rattle.naming.proofs.Namings.{vowel-piece, vowel-room}
+use Rattle.naming.proofs.put_name.Statement.{statement}
+use Rattle.naming.proofs.put_name.Tie as tie
 
 pub put-name-spec : {M : Type 1} → statement M
 put-name-spec =

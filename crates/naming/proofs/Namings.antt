@@ -5,12 +5,12 @@ use Rattle.message.specs.{Classes.classOf, Classes.isVowelClass, Places.Steady}
 use Rattle.message.proofs.Bytes.{by-class, vowel-break}
 use Rattle.laws.proofs.Putting.{Put, put-none, put-length, put-again}
 use Rattle.stress.specs.{Places.leftAt, declared.LevelRun.LevelRun, Before.classBefore, Before.syllableBy}
-use Rattle.transcriber.specs.{Places.namesAt, declared.NameState.NameState}
-use Rattle.transcriber.specs.Walk.{namePiece, NameReady, Named, NamesDue, WordEnd}
+use Rattle.naming.specs.Names.{namesAt, namePiece, NameReady, Named, NamesDue, WordEnd}
+use Rattle.naming.specs.declared.NameState.{NameState}
 use Rattle.stress.specs.Levels.{countedBy, numbered, endRun, stepOver, Looked, LevelsAt}
 use Rattle.stress.proofs.Levelling.{levels-found, levels-over, levels-break, levels-end}
-use Rattle.transcriber.proofs.Tail.{names-start, names-end, names-vowel, names-other, names-break}
-use Rattle.transcriber.proofs.Filling.{Pieces, pieces-part, Writing}
+use Rattle.naming.proofs.Names.{names-start, names-end, names-vowel, names-other, names-break}
+use Rattle.message.proofs.Filling.{Pieces, pieces-part, Writing}
 use Rattle.stress.proofs.Raw.{syllable-raw}
 
 -- the names from a place on are those that its byte settles and the rest's

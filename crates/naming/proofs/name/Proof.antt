@@ -2,10 +2,9 @@
 use Rattle.laws.proofs.Kit.{_≡_, sym, _∙_, arith, needs, length}
 use Rattle.spec.specs.{Refusals.checkOf, Tape.names, Answers.nameAnswer, declared.Checked.the-variants.Accepted}
 use Rattle.laws.proofs.Accepted.{accepted-counts}
-use Rattle.message.proofs.{Answering.answered-refused, Steadiness.accepted-steady}
-use Rattle.transcriber.proofs.Answering.{answered-short, answered-written}
-use Rattle.transcriber.proofs.naming.name.Statement.{statement}
-use Rattle.transcriber.proofs.naming.name.Tie as tie
+use Rattle.message.proofs.{Answering.answered-refused, Answering.answered-short, Answering.answered-written, Steadiness.accepted-steady}
+use Rattle.naming.proofs.name.Statement.{statement}
+use Rattle.naming.proofs.name.Tie as tie
 
 -- the message is accepted with the counts that were read
 accepted : (c : tie.After-checked) → checkOf (c .before .before .before .before .before .args .m .now) ≡ Accepted (c .checked .given .0 .0)

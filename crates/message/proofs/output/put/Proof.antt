@@ -1,8 +1,8 @@
 -- A store right before a place is a code put there.
 use Rattle.laws.proofs.Kit.{needs}
 use Rattle.laws.proofs.Putting.{put-one}
-use Rattle.transcriber.proofs.output.put.Statement.{statement}
-use Rattle.transcriber.proofs.output.put.Tie as tie
+use Rattle.message.proofs.output.put.Statement.{statement}
+use Rattle.message.proofs.output.put.Tie as tie
 
 pub put-spec : {M : Type 1} → statement M
 put-spec =

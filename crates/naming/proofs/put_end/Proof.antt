@@ -4,8 +4,8 @@ use Rattle.spec.specs.Syllables.{incomplete}
 use Rattle.laws.proofs.Putting.{put-none}
 use Rattle.stress.specs.Places.{leftAt}
 use Rattle.stress.proofs.Raw.{incomplete-raw}
-use Rattle.transcriber.proofs.naming.put_end.Statement.{statement}
-use Rattle.transcriber.proofs.naming.put_end.Tie as tie
+use Rattle.naming.proofs.put_end.Statement.{statement}
+use Rattle.naming.proofs.put_end.Tie as tie
 
 -- the names that are put
 tail : (c : tie.After-is-consonant-or-sign) → let s = c .before .before .before .before in incomplete (leftAt (s .args .m .now) (s .args .i) .p) ≡ cond (c .is-consonant-or-sign .result) (7 ∷ []) []

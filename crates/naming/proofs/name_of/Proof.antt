@@ -1,8 +1,8 @@
 -- Each arm is a case of the definition.
 use Rattle.laws.proofs.Kit.{needs}
 use Rattle.spec.specs.Syllables.{nameIn, nameOf}
-use Rattle.transcriber.proofs.naming.name_of.Statement.{statement}
-use Rattle.transcriber.proofs.naming.name_of.Tie as tie
+use Rattle.naming.proofs.name_of.Statement.{statement}
+use Rattle.naming.proofs.name_of.Tie as tie
 
 pub name-of-spec : {M : Type 1} → statement M
 unfolding nameOf nameIn

@@ -2,12 +2,12 @@
 use Rattle.laws.proofs.Kit.{_≡_, _∙_, arith, needs}
 use Rattle.laws.proofs.Putting.{put-length, put-rest, put-first}
 use Rattle.stress.specs.Levels.{LevelsAt}
-use Rattle.transcriber.specs.{Places.namesAt, Walk.namePiece}
-use Rattle.transcriber.proofs.Filling.{Writing, writing-length, writing-ready, writing-more}
+use Rattle.naming.specs.Names.{namesAt, namePiece}
+use Rattle.message.proofs.Filling.{Writing, writing-length, writing-ready, writing-more}
 use Rattle.stress.proofs.Levelling.{levels-done, end-due}
-use Rattle.transcriber.proofs.{Namings.end-ends, Namings.naming-none, Tail.names-start}
-use Rattle.transcriber.proofs.naming.fill_names.Statement.{statement}
-use Rattle.transcriber.proofs.naming.fill_names.Tie as tie
+use Rattle.naming.proofs.{Namings.end-ends, Namings.naming-none, Names.names-start}
+use Rattle.naming.proofs.fill_names.Statement.{statement}
+use Rattle.naming.proofs.fill_names.Tie as tie
 
 abbrev Inv-loop : tie.InvT-loop
 Inv-loop m out₀ n t i₀ at v₀ out i v = Writing (λ j. LevelsAt m j (v .levels)) m (namesAt m) (namePiece m) n out₀ out n i (v .at)
