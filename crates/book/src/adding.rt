@@ -41,7 +41,9 @@ fn judge(book: &[u8], number: usize) -> Answer
 // Writes the record of an accepted message, whose tape has n codes, from place i on, and tells where it ends. The tape is put straight to its place, right before that end.
 fn write_record(m: &[u8], out: &mut [u8], i: usize, number: usize, set: u8, n: usize) -> usize
     requires { ⌜ RecordDue (now m) (now out) i number n ⌝ }
-    ensures { λ r. ⌜ Put (recordOf (phraseOf number set (now (m .entry)))) (now (out .entry)) (now (out .exit)) r i ⌝ }
+    ensures { λ r. ⌜ Put (recordOf (phraseOf
+        (record { number = number; set = set; message = now (m .entry) })))
+        (now (out .entry)) (now (out .exit)) r i ⌝ }
 {
     let end = put_head(out, i, number, set, n) + n;
     let t = class_table();
@@ -52,7 +54,8 @@ fn write_record(m: &[u8], out: &mut [u8], i: usize, number: usize, set: u8, n: u
 
 // Dispatch's addition: puts the record behind the book and answers the new used count, or refuses and leaves every byte.
 fn append(buffer: &mut [u8], used: usize, number: u16, set: u8, m: &[u8]) -> Answer
-    ensures { λ r. ⌜ AddPromise Listener.Dispatch (now (buffer .entry)) used number set (now (m .entry)) (now (buffer .exit)) r ⌝ }
+    ensures { λ r. ⌜ AddPromise Listener.Dispatch (now (buffer .entry)) used
+        (record { number = number; set = set; message = now (m .entry) }) (now (buffer .exit)) r ⌝ }
 {
     let checked = check(m);
     let Checked::Accepted(counts) = checked else {
@@ -84,7 +87,8 @@ pub fn add(
     set: u8,
     m: &[u8],
 ) -> Answer
-    ensures { λ r. ⌜ AddPromise listener (now (buffer .entry)) used number set (now (m .entry)) (now (buffer .exit)) r ⌝ }
+    ensures { λ r. ⌜ AddPromise listener (now (buffer .entry)) used
+        (record { number = number; set = set; message = now (m .entry) }) (now (buffer .exit)) r ⌝ }
 {
     match listener {
         Listener::Pump => Answer::Refused(not_for_listener()),

@@ -1,7 +1,7 @@
 -- The list of additions in C: each call is an addition, and the caller's count is the used count after it, since no refusal has number 0.
 use Rattle.laws.proofs.Kit.{ℕ, _≤_, _≡_, refl, sym, _∙_, cond, List, [], _∷_, arith, eqb, ne-eqb}
 use Rattle.spec.specs.Answers.{numberOf, lengthOf, outputAfter}
-use Rattle.spec.specs.Book.{Phrase, phraseOf, afterListener, withAddition, addAnswer, AddPromise}
+use Rattle.spec.specs.Book.{Phrase, NewPhrase, phraseOf, afterListener, withAddition, addAnswer, AddPromise}
 use Rattle.spec.specs.BookDemands.{Addition, AddedTo, usedAfter, addedBy, OneByOne, lastBuffer, lastUsed, accepted, HoldsJust}
 use Rattle.spec.specs.{declared.Listener.Listener, declared.Listener.the-variants.Pump, declared.Answer.Answer, declared.Answer.the-variants.Written, declared.Answer.the-variants.Refused}
 use Rattle.laws.proofs.Additions.{Numbered, add-numbered, additions-kept}
@@ -13,10 +13,12 @@ abbrev caller : Named → Listener
 caller (Known l) = l
 caller Other = Pump
 
-as-caller : (who : Named) (buffer : List ℕ) (used n set : ℕ) (m : List ℕ) {buffer′ : List ℕ} {a : Answer} → AddsFor who buffer used n set m buffer′ a → AddPromise (caller who) buffer used n set m buffer′ a
+as-caller : (who : Named) (buffer : List ℕ) (used : ℕ) (x : NewPhrase) {buffer′ : List ℕ} {a : Answer}
+    → AddsFor who buffer used x buffer′ a → AddPromise (caller who) buffer used x buffer′ a
 unfolding addAnswer afterListener outputAfter
-as-caller (Known l) buffer used n set m p = p
-as-caller Other buffer used n set m p = record { answer = p .answer; output = p .output; number = p .number; place = p .place; length = p .length; live = p .live }
+as-caller (Known l) buffer used x p = p
+as-caller Other buffer used x p =
+    record { answer = p .answer; output = p .output; number = p .number; place = p .place; length = p .length; live = p .live }
 
 -- what is said of an answer that has a number where it is a refusal
 count-said : (a : Answer) (used : ℕ) {r : GovorunAdded} → Numbered a → SaidAdded a r → usedAfter a used ≡ cond (eqb (r .number) 0) (r .used) used
@@ -43,17 +45,17 @@ as-additions buffer used (c ∷ calls) k =
     let who = named (c .listener) in
     let p = k .0 .promise in
     let a = p .answer in
-    let promise = as-caller who buffer used (c .number) (c .set) (c .message) (p .promise) in
-    let numbered : Numbered a = rw (promise .answer) (add-numbered (caller who) _ (c .number) (c .set) (c .message) _) in
+    let promise = as-caller who buffer used (c .phrase) (p .promise) in
+    let numbered : Numbered a = rw (promise .answer) (add-numbered (caller who) _ (c .phrase) _) in
     let more = as-additions (c .after) (countAfter c used) calls (k .1) in
     let e = count-said a used numbered (p .said) in
-    let this : Addition = record { listener = caller who; number = c .number; set = c .set; message = c .message; answer = a; after = c .after } in
+    let this : Addition = record { listener = caller who; phrase = c .phrase; answer = a; after = c .after } in
     record {
       additions = this ∷ more .additions;
       kept = (record { number = k .0 .number; set = k .0 .set; promise = promise }, rw e (more .kept));
       last = more .last;
       count = rw e (more .count);
-      phrases = rw (more .phrases) (added-said a (phraseOf (c .number) (c .set) (c .message)) (acceptedCalls calls) numbered (p .said));
+      phrases = rw (more .phrases) (added-said a (phraseOf (c .phrase)) (acceptedCalls calls) numbered (p .said));
     }
 
 -- So after every list of calls to an empty book it holds just the tapes of the accepted.

@@ -8,7 +8,8 @@ use lib.Dec.{eqb}
 use lib.ListN.{take, drop}
 use Rattle.spec.specs.Answers.{numberOf, placeOf, lengthOf, liveOf, checkedNumber, checkedPlace, checkedCodes, checkedNames, Promise, Carried}
 use Rattle.spec.specs.Listeners.{withheld}
-use Rattle.spec.specs.Book.{Phrase, readBook, bookIn, unheard, LocatePromise, phraseOf, AddPromise}
+use Rattle.spec.specs.Book.{Phrase, readBook, bookIn, unheard, LocatePromise}
+use Rattle.spec.specs.Book.{NewPhrase, phraseOf, AddPromise}
 use Rattle.spec.specs.BookDemands.{HoldsJust, BothSound, AgreeFor}
 use Rattle.spec.specs.declared.Listener.the-variants.{Pump, Road, Dispatch}
 use Rattle.spec.specs.declared.Answer.{Answer}
@@ -91,28 +92,28 @@ FindsFor (Known l) buffer used n r = LocatePromise l buffer used n r
 FindsFor Other buffer used n r = r ≡ Refused (unheard (readBook (bookIn buffer used)))
 
 -- An addition by him. Who is no listener may add nothing, and meets 17 with every byte left.
-abbrev pub AddsFor : Named → List ℕ → ℕ → ℕ → ℕ → List ℕ → List ℕ → Answer → Type 0
-AddsFor (Known l) buffer used n set m buffer′ r = AddPromise l buffer used n set m buffer′ r
-AddsFor Other buffer used n set m buffer′ r = Promise (answer.Refused withheld) [] buffer buffer′ r
+abbrev pub AddsFor : Named → List ℕ → ℕ → NewPhrase → List ℕ → Answer → Type 0
+AddsFor (Known l) buffer used x buffer′ r = AddPromise l buffer used x buffer′ r
+AddsFor Other buffer used x buffer′ r = Promise (answer.Refused withheld) [] buffer buffer′ r
 
--- Request 6, the list of additions in C. One call of govorun_book_add: whom the caller names and what
--- he asks for, what is said to him, and what the buffer holds afterwards.
+-- Request 6, the list of additions in C. One call of govorun_book_add: whom the caller names and
+-- what he asks for, what is said to him, and what the buffer holds afterwards.
 pub record Call : Type 0 where
   pub listener : ℕ
-  pub number : ℕ
-  pub set : ℕ
-  pub message : List ℕ
+  pub phrase : NewPhrase
   pub said : GovorunAdded
   pub after : List ℕ
 
--- on this buffer, with this count handed over: its number has two bytes and its set one, and it keeps its promise
+-- on this buffer, with this count handed over: the number has two bytes and the set one, and the
+-- call keeps its promise
 pub record CalledOn (buffer : List ℕ) (used : ℕ) (c : Call) : Type 0 where
-  pub number : c .number < 65536
-  pub set : c .set < 256
-  pub promise : Carried
-      (AddsFor (named (c .listener)) buffer used (c .number) (c .set) (c .message) (c .after)) SaidAdded (c .said)
+  pub number : c .phrase .number < 65536
+  pub set : c .phrase .set < 256
+  pub promise : Carried (AddsFor (named (c .listener)) buffer used (c .phrase) (c .after))
+      SaidAdded (c .said)
 
--- Number 0 says that it is accepted; then the caller takes the count that is said, and else he keeps his own.
+-- Number 0 says that it is accepted. Then the caller takes the count that is said, and else he
+-- keeps his own.
 abbrev pub isAccepted : Call → Bool
 isAccepted c = eqb (c .said .number) 0
 
@@ -122,7 +123,8 @@ countAfter c used = cond (isAccepted c) (c .said .used) used
 -- calls one after the other, from this buffer and count on
 abbrev pub CallByCall : List ℕ → ℕ → List Call → Type 0
 CallByCall buffer used [] = Unit {0}
-CallByCall buffer used (c ∷ more) = CalledOn buffer used c × CallByCall (c .after) (countAfter c used) more
+CallByCall buffer used (c ∷ more) =
+    CalledOn buffer used c × CallByCall (c .after) (countAfter c used) more
 
 -- the buffer and the count after the last, and the phrases of the accepted, in order
 abbrev pub bufferAfterAll : List ℕ → List Call → List ℕ
@@ -136,14 +138,13 @@ countAfterAll used (c ∷ more) = countAfterAll (countAfter c used) more
 abbrev pub acceptedCalls : List Call → List Phrase
 acceptedCalls [] = []
 acceptedCalls (c ∷ more) =
-    let f = phraseOf (c .number) (c .set) (c .message) in
-    cond (isAccepted c) (f ∷ acceptedCalls more) (acceptedCalls more)
+    cond (isAccepted c) (phraseOf (c .phrase) ∷ acceptedCalls more) (acceptedCalls more)
 
--- After every list of calls to an empty book, whoever calls and whatever stood in the buffer, it holds
--- just the tapes of the accepted, under their numbers and with their sets, in order.
+-- After every list of calls to an empty book, whoever calls and whatever stood in the buffer, it
+-- holds just the tapes of the accepted, under their numbers and with their sets, in order.
 abbrev pub AdditionsInC : List ℕ → List Call → Type 0
-AdditionsInC buffer calls =
-    CallByCall buffer 0 calls → HoldsJust (bufferAfterAll buffer calls) (countAfterAll 0 calls) (acceptedCalls calls)
+AdditionsInC buffer calls = CallByCall buffer 0 calls
+    → HoldsJust (bufferAfterAll buffer calls) (countAfterAll 0 calls) (acceptedCalls calls)
 
 -- Slip 7, the law of silence in C. Two sound books agree in what the one who is named may hear; where he is no listener, it is enough that both are sound.
 abbrev pub AgreeIn : Named → List ℕ → List ℕ → Type 0

@@ -217,7 +217,9 @@ pub extern "C" fn govorun_book_add(
     set: u8,
     m: &[u8],
 ) -> GovorunAdded
-    ensures { λ r. ⌜ Carried (AddsFor (named listener) (now (book .entry)) used phrase set (now (m .entry)) (now (book .exit))) SaidAdded r ⌝ }
+    ensures { λ r. ⌜ Carried (AddsFor (named listener) (now (book .entry)) used
+        (record { number = phrase; set = set; message = now (m .entry) }) (now (book .exit)))
+        SaidAdded r ⌝ }
 {
     match named_by(listener) {
         Named::Known(l) => tell_added(add(l, book, used, phrase, set, m)),

@@ -1,6 +1,6 @@
 -- Additions to a phrase book: each ends in one of the ways that its numbers tell, and one after the other, from an empty book on, they leave just the records of those that were accepted.
-use Rattle.laws.proofs.Kit.{ℕ, zero, suc, _+_, _*_, _≤_, _≡_, refl, sym, ap, _∙_, true, _⊎_, inl, inr, ⊎-elim, List, [], _∷_, _++_, append-assoc, append-nil, arith, leb, length, take, drop, length-append, take-append-drop, take-at, le-leb, lt-leb}
-use Rattle.spec.specs.Book.{Phrase, recordOf, records, row15, row16, Reading, holds, unsound, _then_, readFrom, readBook, Bytes, bookIn, findAnswer, tapeAfter, locateAnswer, leastAfter, afterListener, afterBook, phraseOf, withAddition, addAnswer, Fits, RisingFrom, Sound}
+use Rattle.laws.proofs.Kit.{ℕ, zero, suc, _+_, _*_, _<_, _≤_, _≡_, refl, sym, ap, _∙_, true, _⊎_, inl, inr, ⊎-elim, List, [], _∷_, _++_, append-assoc, append-nil, arith, leb, length, take, drop, length-append, take-append-drop, take-at, le-leb, lt-leb}
+use Rattle.spec.specs.Book.{Phrase, recordOf, records, row15, row16, Reading, holds, unsound, _then_, readFrom, readBook, Bytes, bookIn, findAnswer, tapeAfter, locateAnswer, leastAfter, afterListener, afterBook, NewPhrase, phraseOf, withAddition, addAnswer, Fits, RisingFrom, Sound}
 use Rattle.spec.specs.BookDemands.{BookDemands, MayAdd, AddDue, notDispatch, ofMessage, ofBook, notAboveLast, noRoomBehind, Addition, AddedTo, usedAfter, addedBy, OneByOne, lastBuffer, lastUsed, accepted, HoldsJust, AdditionsKept}
 use Rattle.spec.specs.Answers.{within, afterCheck, outputAfter}
 use Rattle.spec.specs.{Listeners.mayWrite, declared.Listener.Listener, Tape.tape, Refusals.refusal, Refusals.NoneFits, declared.Answer.Answer, declared.Answer.the-variants.Written, declared.Answer.the-variants.Refused, declared.Refusal.Refusal}
@@ -10,33 +10,48 @@ use Rattle.laws.proofs.Book.{Judged, isSound, isRefused, judge, record-
 use Rattle.laws.proofs.{Classes.either, Classes.below-or, Sizes.tape-size, Lookup.looks-up, Lookup.find-promised}
 
 -- an addition ends in these ways
-module _ (l : Listener) (book : List ℕ) (n set : ℕ) (m buffer : List ℕ) (b : Bytes book) where
+module _ (l : Listener) (book : List ℕ) (x : NewPhrase) (buffer : List ℕ) (b : Bytes book) where
+  abbrev m : List ℕ
+  m = x .message
+
   abbrev text : List ℕ
-  text = withAddition book n set m
+  text = withAddition book x
 
   abbrev Due : ℕ → ℕ → Type 0
-  Due = AddDue l book n set m (length buffer)
+  Due = AddDue l book x (length text) (length buffer)
 
-  written : MayAdd l book n m → length text ≤ length buffer → addAnswer l book n set m (length buffer) ≡ Written (length text) 0
+  written : MayAdd l book x → length text ≤ length buffer → addAnswer l book x (length buffer) ≡ Written (length text) 0
   unfolding addAnswer afterListener afterCheck afterBook within
-  written a h = rw (a .writes, none-accepted m (a .message), sound-read (a .sound), le-leb (leastAfter 0 (a .phrases)) n (a .above), le-leb (length text) (length buffer) h) refl
+  written a h = rw (
+    a .writes,
+    none-accepted m (a .message),
+    sound-read (a .sound),
+    le-leb (leastAfter 0 (a .phrases)) (x .number) (a .above),
+    le-leb (length text) (length buffer) h,
+  ) refl
 
-  refused : (k p : ℕ) → Due k p → addAnswer l book n set m (length buffer) ≡ Refused (refusal k p)
+  refused : (k p : ℕ) → Due k p → addAnswer l book x (length buffer) ≡ Refused (refusal k p)
   unfolding addAnswer afterListener afterCheck afterBook within
   refused _ _ (notDispatch w) = rw w refl
   refused k p (ofMessage _ _ w g) = rw (w, given-refused m k p g) refl
   refused k p (ofBook _ _ w f d) = rw (w, none-accepted m f, due-read b d) refl
-  refused _ _ (notAboveLast fs w f s h) = rw (w, none-accepted m f, sound-read s, lt-leb (leastAfter 0 fs) n h) refl
-  refused _ _ (noRoomBehind a h) = rw (a .writes, none-accepted m (a .message), sound-read (a .sound), le-leb (leastAfter 0 (a .phrases)) n (a .above), lt-leb (length text) (length buffer) h) refl
+  refused _ _ (notAboveLast fs w f s h) = rw (w, none-accepted m f, sound-read s, lt-leb (leastAfter 0 fs) (x .number) h) refl
+  refused _ _ (noRoomBehind a h) = rw (
+    a .writes,
+    none-accepted m (a .message),
+    sound-read (a .sound),
+    le-leb (leastAfter 0 (a .phrases)) (x .number) (a .above),
+    lt-leb (length text) (length buffer) h,
+  ) refl
 
   abbrev Ends : Type 0
-  Ends = (MayAdd l book n m × (length text ≤ length buffer)) ⊎ ((k : ℕ) × (p : ℕ) × Due k p × (1 ≤ k))
+  Ends = (MayAdd l book x × (length text ≤ length buffer)) ⊎ ((k : ℕ) × (p : ℕ) × Due k p × (1 ≤ k))
 
   of-book : mayWrite l ≡ true → NoneFits m → Judged book → Ends
   of-book w f (isSound fs s e) = ⊎-elim (λ h. inr (_, _, notAboveLast fs w f s h, omega arith))
-      (λ h. let a : MayAdd l book n m = record { writes = w; message = f; phrases = fs; sound = s; above = h } in
+      (λ h. let a : MayAdd l book x = record { writes = w; message = f; phrases = fs; sound = s; above = h } in
       ⊎-elim (λ q. inr (_, _, noRoomBehind a q, omega arith)) (λ q. inl (a, q)) (below-or (length buffer) (length text)))
-      (below-or n (leastAfter 0 fs))
+      (below-or (x .number) (leastAfter 0 fs))
   of-book w f (isRefused k p range d e) = inr (k, p, ofBook k p w f d, omega (arith, range .0))
 
   ends : Ends
@@ -45,23 +60,27 @@ module _ (l : Listener) (book : List ℕ) (n set : ℕ) (m buffer : List ℕ) (b
       (λ a. inr (_, _, ofMessage _ _ w (a .given), given-range (a .given) .0)) (check-finds m))
       (λ w. inr (_, _, notDispatch w, omega arith))
 
-  add-ways : Ways (MayAdd l book n m) Due text 0 buffer (addAnswer l book n set m (length buffer))
+  add-ways : Ways (MayAdd l book x) Due text 0 buffer (addAnswer l book x (length buffer))
   add-ways = record { written = written; refused = refused; ends = ends }
 
 -- whatever is answered, the book is left
-book-left : (buffer : List ℕ) (used n set : ℕ) (m : List ℕ) (a : Answer) → take (length (bookIn buffer used)) (outputAfter a (withAddition (bookIn buffer used) n set m) buffer) ≡ bookIn buffer used
+book-left : (buffer : List ℕ) (used : ℕ) (x : NewPhrase) (a : Answer)
+    → take (length (bookIn buffer used)) (outputAfter a (withAddition (bookIn buffer used) x) buffer) ≡ bookIn buffer used
 unfolding outputAfter withAddition bookIn
-book-left buffer used n set m (Written k live) =
+book-left buffer used x (Written k live) =
     let book = take used buffer in
-    rw (append-assoc book (recordOf (phraseOf n set m)) (drop k buffer)) (take-at book (recordOf (phraseOf n set m) ++ drop k buffer) (length book) refl)
-book-left buffer used n set m (Refused r) = rw (take-append-drop used buffer) at (take-at (take used buffer) (drop used buffer) (length (take used buffer)) refl)
+    let f = recordOf (phraseOf x) in
+    rw (append-assoc book f (drop k buffer)) (take-at book (f ++ drop k buffer) (length book) refl)
+book-left buffer used x (Refused r) =
+    let book = take used buffer in
+    rw (take-append-drop used buffer) at (take-at book (drop used buffer) (length book) refl)
 
 -- a record has a head and a tape, which has at most two codes for each byte
-added-size : (book : List ℕ) (n set : ℕ) (m : List ℕ) → length (withAddition book n set m) ≤ length book + (7 + 2 * length m)
+added-size : (book : List ℕ) (x : NewPhrase) → length (withAddition book x) ≤ length book + (7 + 2 * length (x .message))
 unfolding withAddition
-added-size book n set m =
-    let f = phraseOf n set m in
-    omega (arith, length-append book (recordOf f), record-size f, tape-size m)
+added-size book x =
+    let f = phraseOf x in
+    omega (arith, length-append book (recordOf f), record-size f, tape-size (x .message))
 
 -- What holds of a book.
 pub book-demands : (buffer : List ℕ) (used : ℕ) → Bytes buffer → BookDemands buffer used
@@ -71,10 +90,10 @@ book-demands buffer used b =
       find = λ l n old new r k. looks-up l (bookIn buffer used) inside n old new r (k .answer) (k .tape);
       locate = λ l n r k. record { answer = find-promised [] k .answer; tape = k .tape };
       rest = λ buffer₂ used₂ e l n old new new₂ r r₂ k k₂. (k₂ .answer ∙ rw e (sym (k .answer)), k₂ .tape ∙ rw e (sym (k .tape)));
-      settled = λ l n set m buffer′ r k. settled (add-ways l (bookIn buffer used) n set m buffer inside) k;
-      exact = λ l n set m buffer′ r k. exactly (add-ways l (bookIn buffer used) n set m buffer inside) k;
-      most = λ n set m. added-size (bookIn buffer used) n set m;
-      leaves = λ l n set m buffer′ r k. rw (k .output) (book-left buffer used n set m (addAnswer l (bookIn buffer used) n set m (length buffer)));
+      settled = λ l x buffer′ r k. settled (add-ways l (bookIn buffer used) x buffer inside) k;
+      exact = λ l x buffer′ r k. exactly (add-ways l (bookIn buffer used) x buffer inside) k;
+      most = λ x. added-size (bookIn buffer used) x;
+      leaves = λ l x buffer′ r k. rw (k .output) (book-left buffer used x (addAnswer l (bookIn buffer used) x (length buffer)));
     }
 
 -- A book that is not sound is refused with a number,
@@ -108,12 +127,14 @@ unfolding afterBook
 book-numbered (holds fs) n bookEnd a h g = either (leb (leastAfter 0 fs) n) (λ q. rw q g) (λ q. rw q (omega arith))
 book-numbered (unsound r) n bookEnd a h g = h
 
-pub add-numbered : (l : Listener) (book : List ℕ) (n set : ℕ) (m : List ℕ) (room : ℕ) → Numbered (addAnswer l book n set m room)
+pub add-numbered : (l : Listener) (book : List ℕ) (x : NewPhrase) (room : ℕ) → Numbered (addAnswer l book x room)
 unfolding addAnswer afterListener afterCheck readBook
-add-numbered l book n set m room = either (mayWrite l)
+add-numbered l book x room = either (mayWrite l)
     (λ w. ⊎-elim
-    (λ c. rw (w, passes-accepted m (c .1)) (book-numbered _ n (length book) _ (read-numbered 0 0 0 book) (room-numbered room (length (withAddition book n set m)))))
-    (λ c. rw (w, c .refused) (given-range (c .given) .0)) (check-finds m))
+    (λ c.
+    let r = room-numbered room (length (withAddition book x)) in
+    rw (w, passes-accepted (x .message) (c .1)) (book-numbered _ (x .number) (length book) _ (read-numbered 0 0 0 book) r))
+    (λ c. rw (w, c .refused) (given-range (c .given) .0)) (check-finds (x .message)))
     (λ w. rw w (omega arith))
 
 -- records with one more behind
@@ -133,7 +154,7 @@ unfolding bookIn
 book-first x y = take-at x y (length x) refl
 
 abbrev pub added : Addition → Phrase
-added a = phraseOf (a .number) (a .set) (a .message)
+added a = phraseOf (a .phrase)
 
 -- After an addition all is as it was,
 pub record AsBefore (buffer : List ℕ) (a : Addition) : Type 0 where
@@ -151,28 +172,29 @@ module _ {buffer : List ℕ} {used : ℕ} {a : Addition} (kept : AddedTo buffer 
   book = bookIn buffer used
 
   abbrev whole : List ℕ
-  whole = withAddition book (a .number) (a .set) (a .message)
+  whole = withAddition book (a .phrase)
 
   abbrev due : Answer
-  due = addAnswer (a .listener) book (a .number) (a .set) (a .message) (length buffer)
+  due = addAnswer (a .listener) book (a .phrase) (length buffer)
 
   refused-next : (x : Refusal) → due ≡ Refused x → AsBefore buffer a
   unfolding outputAfter
   refused-next x e = record { refusal = x; answer = kept .promise .answer ∙ e; after = kept .promise .output ∙ rw e refl }
 
   -- so it is unless dispatch adds an accepted message; then the book decides
-  unless-accepted : {P : Type 0} → (AsBefore buffer a → P) → (mayWrite (a .listener) ≡ true → Passes (a .message) → P) → P
+  unless-accepted : {P : Type 0} → (AsBefore buffer a → P) → (mayWrite (a .listener) ≡ true → Passes (a .phrase .message) → P) → P
   unfolding addAnswer afterListener afterCheck
   unless-accepted refused follows = either (mayWrite (a .listener))
-      (λ w. ⊎-elim (λ c. follows w (c .1)) (λ c. refused (refused-next (refusal (c .number) (c .place)) (rw (w, c .refused) refl))) (check-finds (a .message)))
+      (λ w. ⊎-elim (λ c. follows w (c .1)) (λ c. refused (refused-next (refusal (c .number) (c .place)) (rw (w, c .refused) refl)))
+      (check-finds (a .phrase .message)))
       (λ w. refused (refused-next (refusal 17 0) (rw w refl)))
 
   pub unsound-next : {x : Refusal} → readBook book ≡ unsound x → AsBefore buffer a
   unfolding addAnswer afterListener afterCheck afterBook
-  unsound-next {x} e = unless-accepted (λ r. r) (λ w c. refused-next x (rw (w, passes-accepted (a .message) c, e) refl))
+  unsound-next {x} e = unless-accepted (λ r. r) (λ w c. refused-next x (rw (w, passes-accepted (a .phrase .message) c, e) refl))
 
   module _ {fs : List Phrase} (now : Sound book fs) where
-    written-next : due ≡ Written (length whole) 0 → Fits (added a) → leastAfter 0 fs ≤ a .number → Next buffer fs a
+    written-next : due ≡ Written (length whole) 0 → Fits (added a) → leastAfter 0 fs ≤ a .phrase .number → Next buffer fs a
     unfolding outputAfter withAddition
     written-next e fit above =
         let t : whole ≡ records (fs ++ (added a ∷ [])) = ap (_++ recordOf (added a)) (now .bytes) ∙ records-more fs (added a) in
@@ -184,13 +206,18 @@ module _ {buffer : List ℕ} {used : ℕ} {a : Addition} (kept : AddedTo buffer 
     pub sound-next : Next buffer fs a
     unfolding addAnswer afterListener afterCheck afterBook within
     sound-next = unless-accepted asBefore (λ w c.
-        let fit : Fits (added a) = record { number = kept .number; set = kept .set; length = omega (arith, tape-size (a .message), c .short) } in
-        let e = passes-accepted (a .message) c in
+        let short : length (tape (a .phrase .message)) < 65536 = omega (arith, tape-size (a .phrase .message), c .short) in
+        let fit : Fits (added a) = record { number = kept .number; set = kept .set; length = short } in
+        let e = passes-accepted (a .phrase .message) c in
         let s = sound-read now in
-        ⊎-elim (λ h. asBefore (refused-next (refusal 16 (length book)) (rw (w, e, s, lt-leb (leastAfter 0 fs) (a .number) h) refl)))
-        (λ h. ⊎-elim (λ q. asBefore (refused-next (refusal 11 (length whole)) (rw (w, e, s, le-leb (leastAfter 0 fs) (a .number) h, lt-leb (length whole) (length buffer) q) refl)))
-        (λ q. written-next (rw (w, e, s, le-leb (leastAfter 0 fs) (a .number) h, le-leb (length whole) (length buffer) q) refl) fit h)
-        (below-or (length buffer) (length whole))) (below-or (a .number) (leastAfter 0 fs)))
+        let n = a .phrase .number in
+        let size = length whole in
+        ⊎-elim (λ h. asBefore (refused-next (refusal 16 (length book)) (rw (w, e, s, lt-leb (leastAfter 0 fs) n h) refl)))
+        (λ h.
+        let o = le-leb (leastAfter 0 fs) n h in
+        ⊎-elim (λ q. asBefore (refused-next (refusal 11 size) (rw (w, e, s, o, lt-leb size (length buffer) q) refl)))
+        (λ q. written-next (rw (w, e, s, o, le-leb size (length buffer) q) refl) fit h) (below-or (length buffer) size))
+        (below-or n (leastAfter 0 fs)))
 
 -- A book that holds these phrases, in a buffer with this used count, and after a list of additions
 record Holding (buffer : List ℕ) (used : ℕ) (fs : List Phrase) : Type 0 where

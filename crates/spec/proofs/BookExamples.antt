@@ -10,7 +10,7 @@ use Rattle.spec.specs.Refusals.{refusal}
 use Rattle.spec.specs.Answers.{outputAfter}
 use Rattle.spec.specs.SpokenLevels.{bytes}
 use Rattle.spec.specs.Listeners.{mayHear}
-use Rattle.spec.specs.Book.{Phrase, records, Reading, holds, unsound, readBook, bookIn, findAnswer, tapeAfter, locateAnswer, withAddition, addAnswer}
+use Rattle.spec.specs.Book.{Phrase, records, Reading, holds, unsound, readBook, bookIn, findAnswer, tapeAfter, locateAnswer, NewPhrase, withAddition, addAnswer}
 use Rattle.spec.specs.declared.Answer.{Answer}
 use Rattle.spec.specs.declared.Answer.the-variants as answer
 use Rattle.spec.specs.declared.Found.{Found}
@@ -171,13 +171,19 @@ additions =
     refuses Dispatch (first ++ first) 20 770 "а*" 16 10 ∷
     refuses Dispatch first 10 1 "а*" 16 10 ∷ []
 
+abbrev asks : Added → NewPhrase
+asks a = record { number = a .number; set = a .set; message = bytes (a .message) }
+
 abbrev answerOf : Added → Answer
-answerOf a = addAnswer (a .listener) (bookIn (a .buffer) (a .used)) (a .number) (a .set) (bytes (a .message)) (length (a .buffer))
+answerOf a = addAnswer (a .listener) (bookIn (a .buffer) (a .used)) (asks a) (length (a .buffer))
 
 pub answers-right : map answerOf additions ≡ map (λ (a : Added). a .answer) additions
 unfolding everything additions first second
 answers-right = refl
 
-pub buffers-right : map (λ (a : Added). outputAfter (answerOf a) (withAddition (bookIn (a .buffer) (a .used)) (a .number) (a .set) (bytes (a .message))) (a .buffer)) additions ≡ map (λ (a : Added). a .after) additions
+abbrev bufferOf : Added → List ℕ
+bufferOf a = outputAfter (answerOf a) (withAddition (bookIn (a .buffer) (a .used)) (asks a)) (a .buffer)
+
+pub buffers-right : map bufferOf additions ≡ map (λ (a : Added). a .after) additions
 unfolding everything additions first second
 buffers-right = refl

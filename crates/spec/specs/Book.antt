@@ -231,24 +231,33 @@ unfoldable pub afterBook : Reading → ℕ → ℕ → Answer → Answer
 afterBook (holds fs) n bookEnd a = cond (leb (leastAfter 0 fs) n) a (answer.Refused (refusal 16 bookEnd))
 afterBook (unsound r) n bookEnd a = answer.Refused r
 
--- the book with the addition, the message's tape under its number, for this set of listeners
-abbrev pub phraseOf : ℕ → ℕ → List ℕ → Phrase
-phraseOf n set m = record { number = n; set = set; codes = tape m }
+-- what an addition asks for: a message under a number, for a set of listeners
+pub record NewPhrase : Type 0 where
+  pub number : ℕ
+  pub set : ℕ
+  pub message : List ℕ
 
-unfoldable pub withAddition : List ℕ → ℕ → ℕ → List ℕ → List ℕ
-withAddition book n set m = book ++ recordOf (phraseOf n set m)
+-- the phrase that it makes, with the message's tape, and the book with the addition
+abbrev pub phraseOf : NewPhrase → Phrase
+phraseOf x = record { number = x .number; set = x .set; codes = tape (x .message) }
+
+unfoldable pub withAddition : List ℕ → NewPhrase → List ℕ
+withAddition book x = book ++ recordOf (phraseOf x)
 
 -- 17, then the message's own refusals, then the book's, then 11 for a buffer of this room
-unfoldable pub addAnswer : Listener → List ℕ → ℕ → ℕ → List ℕ → ℕ → Answer
-addAnswer l book n set m room =
+unfoldable pub addAnswer : Listener → List ℕ → NewPhrase → ℕ → Answer
+addAnswer l book x room =
     afterListener l
-    (afterCheck (checkOf m)
-    (afterBook (readBook book) n (length book)
-    (within room (length (withAddition book n set m)) 0)))
+    (afterCheck (checkOf (x .message))
+    (afterBook (readBook book) (x .number) (length book)
+    (within room (length (withAddition book x)) 0)))
 
--- The addition of message m under number n, for a set of listeners, by listener l. The output is the buffer, and the length that is answered is the new used count.
-abbrev pub AddPromise : Listener → List ℕ → ℕ → ℕ → ℕ → List ℕ → List ℕ → Answer → Type 0
-AddPromise l buffer used n set m buffer′ r = Promise (addAnswer l (bookIn buffer used) n set m (length buffer)) (withAddition (bookIn buffer used) n set m) buffer buffer′ r
+-- The addition of a new phrase by listener l. The output is the buffer, and the length that is
+-- answered is the new used count.
+abbrev pub AddPromise : Listener → List ℕ → ℕ → NewPhrase → List ℕ → Answer → Type 0
+AddPromise l buffer used x buffer′ r =
+    let book = bookIn buffer used in
+    Promise (addAnswer l book x (length buffer)) (withAddition book x) buffer buffer′ r
 
 -- Numbers that rise strictly, from a least one on; number and length have two bytes each, and the set is a byte.
 pub record Fits (f : Phrase) : Type 0 where

@@ -9,7 +9,10 @@ use mathlib.Core.List.{List, [], _∷_, _++_, map}
 use lib.ListN.{length, take}
 use Rattle.spec.specs.Refusals.{refusal, NoneFits, Given}
 use Rattle.spec.specs.Listeners.{mayHear, mayWrite}
-use Rattle.spec.specs.Book.{Phrase, recordOf, records, bookIn, search, startOf, heard, told, handed, placed, toldOf, partAt, leastAfter, phraseOf, withAddition, Fits, RisingFrom, Sound, FindPromise, LocatePromise, AddPromise}
+use Rattle.spec.specs.Book.{Phrase, recordOf, records, bookIn, search, startOf, heard, told}
+use Rattle.spec.specs.Book.{handed, placed, toldOf, partAt, leastAfter, NewPhrase, phraseOf}
+use Rattle.spec.specs.Book.{withAddition, Fits, RisingFrom, Sound, FindPromise, LocatePromise}
+use Rattle.spec.specs.Book.{AddPromise}
 use Rattle.spec.specs.declared.Listener.{Listener}
 use Rattle.spec.specs.declared.Answer.{Answer}
 use Rattle.spec.specs.declared.Answer.the-variants.{Written, Refused}
@@ -63,21 +66,25 @@ pub record LooksUp (l : Listener) (book : List ℕ) (n : ℕ) (old new : List �
   pub gives : (t : List ℕ) → ((r ≡ found.Tape) × (new ≡ t)) ↔ Has l book n t
   pub refuses : (k p : ℕ) → ((r ≡ found.Refused (refusal k p)) × (new ≡ old)) ↔ FindDue l book n k p
 
--- a listener may add a message under a number
-pub record MayAdd (l : Listener) (book : List ℕ) (n : ℕ) (m : List ℕ) : Type 0 where
+-- a listener may add a new phrase
+pub record MayAdd (l : Listener) (book : List ℕ) (x : NewPhrase) : Type 0 where
   pub writes : mayWrite l ≡ true
-  pub message : NoneFits m
+  pub message : NoneFits (x .message)
   pub phrases : List Phrase
   pub sound : Sound book phrases
-  pub above : leastAfter 0 phrases ≤ n
+  pub above : leastAfter 0 phrases ≤ x .number
 
--- The numbers of an addition: 17 at 0, then the message's, then the book's, then 16 at its end, and then 11.
-pub data AddDue (l : Listener) (book : List ℕ) (n set : ℕ) (m : List ℕ) (room : ℕ) : ℕ → ℕ → Type 0 where
-  notDispatch : mayWrite l ≡ false → AddDue l book n set m room 17 0
-  ofMessage : (k p : ℕ) → mayWrite l ≡ true → Given m k p → AddDue l book n set m room k p
-  ofBook : (k p : ℕ) → mayWrite l ≡ true → NoneFits m → BookDue book k p → AddDue l book n set m room k p
-  notAboveLast : (fs : List Phrase) → mayWrite l ≡ true → NoneFits m → Sound book fs → n < leastAfter 0 fs → AddDue l book n set m room 16 (length book)
-  noRoomBehind : MayAdd l book n m → room < length (withAddition book n set m) → AddDue l book n set m room 11 (length (withAddition book n set m))
+-- The numbers of an addition, where the book with it has this size: 17 at 0, then the message's,
+-- then the book's, then 16 at its end, and then 11.
+pub data AddDue (l : Listener) (book : List ℕ) (x : NewPhrase) (size room : ℕ) : ℕ → ℕ → Type 0
+  where
+    notDispatch : mayWrite l ≡ false → AddDue l book x size room 17 0
+    ofMessage : (k p : ℕ) → mayWrite l ≡ true → Given (x .message) k p → AddDue l book x size room k p
+    ofBook : (k p : ℕ) → mayWrite l ≡ true → NoneFits (x .message) → BookDue book k p
+        → AddDue l book x size room k p
+    notAboveLast : (fs : List Phrase) → mayWrite l ≡ true → NoneFits (x .message) → Sound book fs
+        → x .number < leastAfter 0 fs → AddDue l book x size room 16 (length book)
+    noRoomBehind : MayAdd l book x → room < size → AddDue l book x size room 11 size
 
 -- What holds for any buffer of bytes and any used count.
 pub record BookDemands (buffer : List ℕ) (used : ℕ) : Type 0 where
@@ -89,32 +96,38 @@ pub record BookDemands (buffer : List ℕ) (used : ℕ) : Type 0 where
   pub rest : (buffer₂ : List ℕ) (used₂ : ℕ) → bookIn buffer₂ used₂ ≡ bookIn buffer used → (l : Listener) (n : ℕ) (old new new₂ : List ℕ) (r r₂ : Found)
       → FindPromise l buffer used n old new r → FindPromise l buffer₂ used₂ n old new₂ r₂ → (r₂ ≡ r) × (new₂ ≡ new)
   -- an addition is carried out, or refused with every byte left
-  pub settled : (l : Listener) (n set : ℕ) (m buffer′ : List ℕ) (r : Answer) → AddPromise l buffer used n set m buffer′ r
-      → Settled (AddDue l (bookIn buffer used) n set m (length buffer))
-      (withAddition (bookIn buffer used) n set m) 0 buffer buffer′ r
+  pub settled : (l : Listener) (x : NewPhrase) (buffer′ : List ℕ) (r : Answer)
+      → AddPromise l buffer used x buffer′ r
+      → let book = bookIn buffer used in
+      let size = length (withAddition book x) in
+      Settled (AddDue l book x size (length buffer)) (withAddition book x) 0 buffer buffer′ r
   -- and exact
-  pub exact : (l : Listener) (n set : ℕ) (m buffer′ : List ℕ) (r : Answer) → AddPromise l buffer used n set m buffer′ r
-      → Exactly (MayAdd l (bookIn buffer used) n m) (AddDue l (bookIn buffer used) n set m (length buffer)) (withAddition (bookIn buffer used) n set m) 0 buffer buffer′ r
+  pub exact : (l : Listener) (x : NewPhrase) (buffer′ : List ℕ) (r : Answer)
+      → AddPromise l buffer used x buffer′ r
+      → let book = bookIn buffer used in
+      let size = length (withAddition book x) in
+      Exactly (MayAdd l book x) (AddDue l book x size (length buffer)) (withAddition book x) 0
+      buffer buffer′ r
   -- the book gets longer by a head, 7 bytes, and by at most two bytes for each byte of the message
-  pub most : (n set : ℕ) (m : List ℕ)
-      → length (withAddition (bookIn buffer used) n set m) ≤ length (bookIn buffer used) + (7 + 2 * length m)
+  pub most : (x : NewPhrase) → let book = bookIn buffer used in
+      length (withAddition book x) ≤ length book + (7 + 2 * length (x .message))
   -- it leaves the records before it
-  pub leaves : (l : Listener) (n set : ℕ) (m buffer′ : List ℕ) (r : Answer) → AddPromise l buffer used n set m buffer′ r → take (length (bookIn buffer used)) buffer′ ≡ bookIn buffer used
+  pub leaves : (l : Listener) (x : NewPhrase) (buffer′ : List ℕ) (r : Answer)
+      → AddPromise l buffer used x buffer′ r
+      → take (length (bookIn buffer used)) buffer′ ≡ bookIn buffer used
 
 -- One addition: who asked for what, what was answered, and what the buffer held afterwards.
 pub record Addition : Type 0 where
   pub listener : Listener
-  pub number : ℕ
-  pub set : ℕ
-  pub message : List ℕ
+  pub phrase : NewPhrase
   pub answer : Answer
   pub after : List ℕ
 
 -- to this buffer and used count: its number has two bytes and its set one, and it keeps its promise
 pub record AddedTo (buffer : List ℕ) (used : ℕ) (a : Addition) : Type 0 where
-  pub number : a .number < 65536
-  pub set : a .set < 256
-  pub promise : AddPromise (a .listener) buffer used (a .number) (a .set) (a .message) (a .after) (a .answer)
+  pub number : a .phrase .number < 65536
+  pub set : a .phrase .set < 256
+  pub promise : AddPromise (a .listener) buffer used (a .phrase) (a .after) (a .answer)
 
 -- the used count after it, which the next addition gets, and the phrases that it and the later ones added
 unfoldable pub usedAfter : Answer → ℕ → ℕ
@@ -141,7 +154,7 @@ lastUsed used (a ∷ more) = lastUsed (usedAfter (a .answer) used) more
 
 abbrev pub accepted : List Addition → List Phrase
 accepted [] = []
-accepted (a ∷ more) = addedBy (a .answer) (phraseOf (a .number) (a .set) (a .message)) (accepted more)
+accepted (a ∷ more) = addedBy (a .answer) (phraseOf (a .phrase)) (accepted more)
 
 -- The book holds just these phrases in order, and each lookup gives the tape that one of them has for the listener, and else 17.
 pub record HoldsJust (buffer : List ℕ) (used : ℕ) (fs : List Phrase) : Type 0 where
@@ -199,4 +212,6 @@ Silence l buffer used buffer₂ used₂ = AgreeFor l (bookIn buffer used) (bookI
 
 -- So an addition, dispatch's own too, changes no answer of a listener who is not in its phrase's set; of any buffer of bytes, sound or not.
 abbrev pub UnheardAddition : Listener → List ℕ → ℕ → Addition → Type 0
-UnheardAddition l buffer used a = AddedTo buffer used a → mayHear l (a .set) ≡ false → AnswerAlike l buffer used (a .after) (usedAfter (a .answer) used)
+UnheardAddition l buffer used a =
+    AddedTo buffer used a → mayHear l (a .phrase .set) ≡ false
+    → AnswerAlike l buffer used (a .after) (usedAfter (a .answer) used)

@@ -47,7 +47,8 @@ append-spec =
     (λ c κs. search needs) (λ c. search needs) (λ c. search needs) (λ c. search needs)
     (λ c.
     let j = c .before .before in
-    add-refused _ _ _ _ _ (accepted (j .before .before .before .before .before)) (j .before .before .book-end .ensures) (j .judge .ensures) (c .enum-told3 .given .1))
+    let k = j .before .before .before .before .before in
+    add-refused _ _ _ (accepted k) (j .before .before .book-end .ensures) (j .judge .ensures) (c .enum-told3 .given .1))
     (λ c. search needs)
     (λ c.
     let j = c .before .before in
@@ -55,11 +56,15 @@ append-spec =
     (λ c. search needs)
     (λ c.
     let j = c .before .before .before in
-    add-short _ _ _ _ _ (accepted (j .before .before .before .before .before)) (j .before .before .book-end .ensures) (j .judge .ensures) (c .before .enum-told2 .given .1) (c .if1 .taken))
+    let k = j .before .before .before .before .before in
+    let e = j .before .before .book-end .ensures in
+    add-short _ _ _ (accepted k) e (j .judge .ensures) (c .before .enum-told2 .given .1) (c .if1 .taken))
     write-record-requires
     (λ c. search needs)
     (λ c.
     let w = c .before .before in
     let e = w .before .before in
     let j = e .before .before .before in
-    add-written _ _ _ _ _ (accepted (j .before .before .before .before .before)) (j .before .before .book-end .ensures) (j .judge .ensures) (e .before .enum-told2 .given .1) (e .if1 .left) (w .write-record .ensures)))
+    let k = j .before .before .before .before .before in
+    let b = j .before .before .book-end .ensures in
+    add-written _ _ _ (accepted k) b (j .judge .ensures) (e .before .enum-told2 .given .1) (e .if1 .left) (w .write-record .ensures)))
