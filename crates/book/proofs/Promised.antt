@@ -3,7 +3,9 @@ use Rattle.laws.proofs.Kit.{ℕ, _+_, _<_, _≤_, _≡_, refl, sym, ap, _∙_, 
 use Rattle.spec.specs.Book.{headSize, recordOf, Reading, holds, unsound, readBook, bookIn, leastAfter, afterListener, afterBook, NewPhrase, phraseOf, withAddition, addAnswer, AddPromise}
 use Rattle.spec.specs.Answers.{afterCheck, outputAfter}
 use Rattle.spec.specs.{declared.Listener.the-variants.Dispatch, Refusals.refusal, Refusals.checkOf, declared.Refusal.Refusal, declared.Counts.Counts, declared.Checked.the-variants.Accepted, declared.Answer.Answer, declared.Answer.the-variants.Written, declared.Answer.the-variants.Refused}
-use Rattle.laws.proofs.{Classes.either, Accepted.accepted-counts, Book.record-size, Promises.promised, Promises.promised-short, Promises.promised-written, Putting.Put}
+use Rattle.laws.proofs.{Classes.either, Accepted.accepted-counts, Book.record-size, Promises.promised, Promises.promised-short}
+use Rattle.laws.proofs.Promises.{promised-written}
+use Rattle.laws.specs.Putting.{Put}
 use Rattle.book.specs.Walking.{EndOf}
 
 -- a refusal, or what is answered where there is none

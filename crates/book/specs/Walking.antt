@@ -9,7 +9,9 @@ use lib.ListN.{length, take, drop}
 use Rattle.spec.specs.Book.{headSize, setIn, lengthIn, Reading, holds, unsound, bookIn, recordAt, leastAfter}
 use Rattle.spec.specs.Listeners.{mayHear, withheld}
 use Rattle.spec.specs.Tape.{tape}
-use Rattle.message.specs.Places.{Steady}
+use Rattle.spec.specs.Refusals.{checkOf}
+use Rattle.spec.specs.declared.Counts.{Counts}
+use Rattle.spec.specs.declared.Checked.the-variants.{Accepted}
 use Rattle.spec.specs.declared.Listener.{Listener}
 use Rattle.spec.specs.declared.Located.{Located}
 use Rattle.spec.specs.declared.Located.the-variants as located
@@ -49,7 +51,8 @@ pub record HeadDue (out : List ℕ) (i n size : ℕ) : Type 0 where
 
 -- and a record, with the tape of an accepted message
 pub record RecordDue (m out : List ℕ) (i n size : ℕ) : Type 0 where
-  pub steady : Steady m
+  pub counts : Counts
+  pub accepted : checkOf m ≡ Accepted counts
   pub codes : size ≡ length (tape m)
   pub few : size < 65536
   pub number : n < 65536

@@ -2,7 +2,7 @@
 ghost use mathlib.Core.Path.{_≡_};
 ghost use lib.ListN.{length};
 ghost use Rattle.spec.specs.Book.{readBook, afterBook, phraseOf, recordOf, AddPromise};
-ghost use Rattle.laws.proofs.Putting.{Put};
+ghost use Rattle.laws.specs.Putting.{Put};
 ghost use Rattle.book.specs.Walking.{RecordDue};
 use crate::Walked;
 use crate::listeners::not_for_listener;
@@ -12,12 +12,11 @@ use crate::records;
 use crate::records::put_head;
 use message::answers::refused;
 use message::check::check;
-use message::classify::class_table;
-use phones::tables::sound_table;
 use spec::Answer;
 use spec::Checked;
 use spec::Listener;
 use spec::Refusal;
+use transcriber::tables::lay_tables;
 use transcriber::tape::write_tape;
 
 // The book's refusals of an addition under a number: 15 and 16 of its records, and 16 at its end where the number is not above the last. Where none is due it answers a writing of nothing.
@@ -46,9 +45,8 @@ fn write_record(m: &[u8], out: &mut [u8], i: usize, number: usize, set: u8, n: u
         (now (out .entry)) (now (out .exit)) r i ⌝ }
 {
     let end = put_head(out, i, number, set, n) + n;
-    let t = class_table();
-    let s = sound_table();
-    write_tape(m, out, end, &t, &s);
+    let tables = lay_tables();
+    write_tape(m, out, end, &tables.bytes, &tables.sounds);
     end
 }
 

@@ -4,7 +4,7 @@ ghost use mathlib.Core.List.{[], _∷_};
 ghost use Prim.Native.Nat.{_+_, _<_, _≤_};
 ghost use lib.ListN.{length, drop};
 ghost use Rattle.spec.specs.Book.{headSize, pairAt, spanIn, hasRecordMark, isRecord, twoBytes, headOf};
-ghost use Rattle.laws.proofs.Putting.{Put};
+ghost use Rattle.laws.specs.Putting.{Put};
 ghost use Rattle.book.specs.Walking.{HeadDue};
 
 pub const HEAD_SIZE: usize = 7;

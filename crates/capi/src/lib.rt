@@ -4,7 +4,7 @@ ghost use Rattle.spec.specs.Editing.{EditPromise};
 ghost use Rattle.spec.specs.Utf8.{ReadPromise, WritePromise};
 ghost use Rattle.spec.specs.SpokenLevels.{LevelPromise};
 ghost use mathlib.Core.Path.{_≡_};
-ghost use Rattle.laws.proofs.Bounds.{Small, SmallCheck};
+ghost use Rattle.laws.specs.Bounds.{Small, SmallCheck};
 ghost use Rattle.capi.specs.Said.{Said, Counted, Told, SaidAdded, SaidFound, named, FindsFor, AddsFor};
 use book::adding::add;
 use book::listeners::not_for_listener;

@@ -4,15 +4,16 @@ use Rattle.spec.specs.Printed.{lastDigits, decimal, printedCodes, printedAnswer
 use Rattle.spec.specs.Answers.{numberOf, placeOf, lengthOf, outputAfter, tapeAnswer, Promise}
 use Rattle.spec.specs.{Tables.ascii, Tape.tape, Demands.CarriedOut, declared.Refusal.Refusal, declared.Answer.Answer, declared.Answer.the-variants.Written, declared.Answer.the-variants.Refused}
 use Rattle.laws.proofs.{Bounds.tape-small, Classes.below-or}
-use Rattle.console.specs.Putting.{Put, codeAt}
+use Rattle.console.specs.Putting.{Appended, codeAt}
 use native.Mathlib.Nat.{pow-suc}
 
 -- nothing put leaves the text as it is
-pub put-none : (text : List ℕ) (at : ℕ) → Put [] text text at at
+pub put-none : (text : List ℕ) (at : ℕ) → Appended [] text text at at
 put-none text at = record { place = omega arith; bytes = sym (append-nil (take at text)) }
 
 -- bytes put after others
-pub put-over : {a b text text₁ text₂ : List ℕ} {at r s : ℕ} → Put a text text₁ at r → Put b text₁ text₂ r s → Put (a ++ b) text text₂ at s
+pub put-over : {a b text text₁ text₂ : List ℕ} {at r s : ℕ} → Appended a text text₁ at r → Appended b text₁ text₂ r s
+    → Appended (a ++ b) text text₂ at s
 put-over {a} {b} {text} {text₁} {text₂} {at} p q =
     record {
       place = omega (arith, p .place, q .place, length-append a b);

@@ -7,7 +7,7 @@ ghost use Rattle.io.specs.Counts.{Counts};
 ghost use Rattle.spec.specs.Tape.{tape};
 ghost use Rattle.spec.specs.Answers.{tapeAnswer};
 ghost use Rattle.spec.specs.Printed.{decimal, printedCodes, printedAnswer, printed};
-ghost use Rattle.console.specs.Putting.{Put, codeAt};
+ghost use Rattle.console.specs.Putting.{Appended, codeAt};
 use spec::Answer;
 use spec::Refusal;
 use transcriber::tape::transcribe;
@@ -21,7 +21,7 @@ pub const TEXT: usize = 4 * CODES + 1;
 // Puts a byte at place at, and answers the place after it.
 fn put(text: &mut [u8], at: usize, byte: u8) -> usize
     requires { ⌜ at < length (now text) ⌝ }
-    ensures { λ r. ⌜ Put (byte ∷ []) (now (text .entry)) (now (text .exit)) at r ⌝ }
+    ensures { λ r. ⌜ Appended (byte ∷ []) (now (text .entry)) (now (text .exit)) at r ⌝ }
 {
     text[at] = byte;
     at + 1
@@ -30,7 +30,7 @@ fn put(text: &mut [u8], at: usize, byte: u8) -> usize
 // Puts a number in decimal: the digits before the last one are those of a tenth of it.
 fn put_decimal(text: &mut [u8], at: usize, n: usize) -> usize
     requires { ⌜ at + length (decimal n) ≤ length (now text) ⌝ }
-    ensures { λ r. ⌜ Put (decimal n) (now (text .entry)) (now (text .exit)) at r ⌝ }
+    ensures { λ r. ⌜ Appended (decimal n) (now (text .entry)) (now (text .exit)) at r ⌝ }
 {
     let digit = b'0' + (n % 10) as u8;
     if n < 10 {
@@ -43,7 +43,7 @@ fn put_decimal(text: &mut [u8], at: usize, n: usize) -> usize
 // Puts a text as it stands.
 pub fn put_bytes(text: &mut [u8], at: usize, bytes: &[u8]) -> usize
     requires { ⌜ at + length (now bytes) ≤ length (now text) ⌝ }
-    ensures { λ r. ⌜ Put (now (bytes .entry)) (now (text .entry)) (now (text .exit)) at r ⌝ }
+    ensures { λ r. ⌜ Appended (now (bytes .entry)) (now (text .entry)) (now (text .exit)) at r ⌝ }
 {
     let mut end = at;
     let mut i = 0;
@@ -57,7 +57,8 @@ pub fn put_bytes(text: &mut [u8], at: usize, bytes: &[u8]) -> usize
 // Puts one code, and a space where another follows.
 fn put_code(codes: &[u8], i: usize, text: &mut [u8], at: usize) -> usize
     requires { ⌜ (i < length (now codes)) × (at + length (codeAt (now codes) i) ≤ length (now text)) ⌝ }
-    ensures { λ r. ⌜ Put (codeAt (now (codes .entry)) i) (now (text .entry)) (now (text .exit)) at r ⌝ }
+    ensures { λ r.
+        ⌜ Appended (codeAt (now (codes .entry)) i) (now (text .entry)) (now (text .exit)) at r ⌝ }
 {
     let end = put_decimal(text, at, codes[i] as usize);
     if i + 1 < codes.len() {
@@ -69,7 +70,9 @@ fn put_code(codes: &[u8], i: usize, text: &mut [u8], at: usize) -> usize
 // Puts the codes from the text's start on.
 fn put_codes(codes: &[u8], text: &mut [u8]) -> usize
     requires { ⌜ 4 * length (now codes) ≤ length (now text) ⌝ }
-    ensures { λ r. ⌜ Put (printedCodes (now (codes .entry))) (now (text .entry)) (now (text .exit)) 0 r ⌝ }
+    ensures { λ r.
+        ⌜ Appended (printedCodes (now (codes .entry)))
+        (now (text .entry)) (now (text .exit)) 0 r ⌝ }
     ensures { λ r. ⌜ r ≤ 4 * length (now (codes .entry)) ⌝ }
 {
     let mut at = 0;
@@ -84,7 +87,9 @@ fn put_codes(codes: &[u8], text: &mut [u8]) -> usize
 // Puts a refusal at the text's start.
 pub fn put_refusal(r: Refusal, text: &mut [u8]) -> usize
     requires { ⌜ length (printedAnswer (Answer.Refused r) []) ≤ length (now text) ⌝ }
-    ensures { λ end. ⌜ Put (printedAnswer (Answer.Refused r) []) (now (text .entry)) (now (text .exit)) 0 end ⌝ }
+    ensures { λ end.
+        ⌜ Appended (printedAnswer (Answer.Refused r) [])
+        (now (text .entry)) (now (text .exit)) 0 end ⌝ }
 {
     let number = r.number as usize;
     let place = r.place;
@@ -97,7 +102,9 @@ pub fn put_refusal(r: Refusal, text: &mut [u8]) -> usize
 // Puts what the transcriber answers, which is lent room for every tape.
 pub fn put_answer(m: &[u8], text: &mut [u8]) -> usize
     requires { ⌜ 32768 ≤ length (now text) ⌝ }
-    ensures { λ r. ⌜ Put (printedAnswer (tapeAnswer (now (m .entry)) 8192) (tape (now (m .entry)))) (now (text .entry)) (now (text .exit)) 0 r ⌝ }
+    ensures { λ r.
+        ⌜ Appended (printedAnswer (tapeAnswer (now (m .entry)) 8192) (tape (now (m .entry))))
+        (now (text .entry)) (now (text .exit)) 0 r ⌝ }
     ensures { λ r. ⌜ r ≤ 32768 ⌝ }
 {
     let mut codes = [0u8; CODES];

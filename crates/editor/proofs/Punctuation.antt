@@ -2,7 +2,8 @@
 use Rattle.laws.proofs.Kit.{ℕ, _≡_, sym, _∙_, true, false, _||_, or-comm, or-true, or-false, true≢false, _∷_, eqb, eqb-true}
 use Rattle.spec.specs.{Alphabet.gap, Alphabet.pause, Tables.among, Letters.isBreak, Editing.pauseMarks, Editing.gapMarks, Editing.replaced}
 use Rattle.spec.proofs.Computed.{everything}
-use Rattle.laws.proofs.{Classes.either, Edited.breaks}
+use Rattle.laws.proofs.Classes.{either}
+use Rattle.laws.specs.Edited.{breaks}
 
 -- a byte stands for a break
 pub break-told : (b : ℕ) → breaks b ≡ (among (pause ∷ pauseMarks) b || among (gap ∷ gapMarks) b)

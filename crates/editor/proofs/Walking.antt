@@ -1,8 +1,10 @@
 -- A text is read by words: what the walk gives is a word, the break that the run behind it becomes, and what it gives from there on.
 use Rattle.laws.proofs.Kit.{ℕ, zero, suc, _+_, _-_, _<_, _≤_, arith, add-one, _≡_, refl, sym, ap, _∙_, ⊎-elim, Bool, true, false, true≢false, cond, _||_, not, or-true, List, [], _∷_, _++_, append-assoc, eqb, length, take, drop, getD, set, length-append, take-suc, getD-drop, length-drop, drop-cons, drop-at, drop-length, drop-drop, drop-of-length-le, length-take-le, take-append-drop, take-add, getD-take, not-true}
 use Rattle.spec.specs.{Alphabet.gap, Alphabet.pause, Tables.among, Letters.isBreak, Editing.pauseMarks, Editing.gapMarks, Editing.replaced, Editing.oneBreak, Editing.edited}
-use Rattle.laws.proofs.Edited.{breaks, putWait, editFrom, leading, begun, one-some, edited-walk}
-use Rattle.laws.proofs.{Classes.either, Classes.below-or, Classes.break-both, Putting.Put, Putting.put-none, Putting.put-at, Putting.put-behind, Putting.put-length, Putting.restOf, Putting.rest-part, Putting.put-part}
+use Rattle.laws.proofs.Edited.{begun, one-some, edited-walk}
+use Rattle.laws.specs.{Edited.breaks, Edited.putWait, Edited.editFrom, Edited.leading, Putting.Put}
+use Rattle.laws.proofs.{Classes.either, Classes.below-or, Classes.break-both, Putting.put-none, Putting.put-at, Putting.put-behind}
+use Rattle.laws.proofs.{Putting.put-length, Putting.restOf, Putting.rest-part, Putting.put-part}
 use Rattle.editor.specs.Walk.{others, Trailing, Last, LastWord, EndsInWord, runFrom, ReadsRun, reads, piece, Goes}
 use Rattle.editor.specs.{declared.Run.Run, declared.Stride.Stride}
 use Rattle.editor.proofs.Punctuation.{break-told, pause-told}

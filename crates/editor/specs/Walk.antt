@@ -7,7 +7,7 @@ use mathlib.Core.List.{List, [], _∷_, _++_}
 use lib.ListN.{length, take, drop, getD}
 use Rattle.spec.specs.Alphabet.{gap}
 use Rattle.spec.specs.Editing.{replaced, oneBreak}
-use Rattle.laws.proofs.Edited.{breaks, leading}
+use Rattle.laws.specs.Edited.{breaks, leading}
 use Rattle.editor.specs.declared.Run.{Run}
 use Rattle.editor.specs.declared.Stride.{Stride}
 

@@ -8,7 +8,7 @@ ghost use Rattle.io.specs.Counts.{Counts};
 ghost use Rattle.spec.specs.Tape.{tape};
 ghost use Rattle.spec.specs.SpokenLevels.{spoken};
 ghost use Rattle.spec.specs.Printed.{printedAnswer, signLength, areDigits, isDecimal, digitsFrom, levelIn, spokenAnswer, printedLevel};
-ghost use Rattle.console.specs.Putting.{Put};
+ghost use Rattle.console.specs.Putting.{Appended};
 ghost use Rattle.gauge.specs.Reading.{Clipped, Like};
 use console::text::TEXT;
 use console::text::put_answer;
@@ -103,7 +103,9 @@ fn read_level(t: &[u8], sign: usize) -> i32
 // Speaks the level, lent room for the words of any, and puts what the transcriber answers.
 fn put_level(level: i32, text: &mut [u8]) -> usize
     requires { ⌜ 32768 ≤ length (now text) ⌝ }
-    ensures { λ r. ⌜ Put (printedAnswer (spokenAnswer level) (tape (spoken level))) (now (text .entry)) (now (text .exit)) 0 r ⌝ }
+    ensures { λ r.
+        ⌜ Appended (printedAnswer (spokenAnswer level) (tape (spoken level)))
+        (now (text .entry)) (now (text .exit)) 0 r ⌝ }
     ensures { λ r. ⌜ r ≤ 32768 ⌝ }
 {
     let mut words = [0u8; LONGEST];

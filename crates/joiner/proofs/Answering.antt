@@ -5,7 +5,8 @@ use Rattle.spec.specs.Answers.{afterCheck, outputAfter, joinAnswer, JoinPromise
 use Rattle.spec.specs.{Refusals.refusal, Refusals.checkOf, declared.Counts.Counts, declared.Checked.the-variants.Accepted, declared.Answer.the-variants.Written, declared.Answer.the-variants.Refused}
 use Rattle.message.proofs.Steadiness.{accepted-steady}
 use Rattle.laws.proofs.{Accepted.accepted-counts, Cuts.rising-of, Cutting.equal-lengths, Promises.promised, Promises.promised-short, Promises.promised-written}
-use Rattle.joiner.specs.Writing.{TapeDue}
+use Rattle.joiner.specs.Writing.{JoinDue, JoinWritten}
+use Rattle.joiner.specs.declared.JoinCounts.{JoinCounts}
 
 module _ (m cuts out : List ℕ) {counts : Counts} (accepted : checkOf m ≡ Accepted counts) {n : ℕ} (e : n ≡ badCut m cuts) where
   -- number 12
@@ -28,7 +29,7 @@ module _ (m cuts out : List ℕ) {counts : Counts} (accepted : checkOf m ≡ Acc
 
     module _ (room : counts .codes ≤ length out) where
       -- the output's bytes that are written are as many as the tape's codes
-      pub tape-due : ((j : ℕ) → getD m j 0 < 256) → TapeDue m cuts (length (take (counts .codes) out))
+      pub tape-due : ((j : ℕ) → getD m j 0 < 256) → JoinDue m cuts (length (take (counts .codes) out))
       tape-due bytes = record {
         valid = record { counts = counts; accepted = accepted; steady = accepted-steady m counts accepted bytes };
         rising = rising;
@@ -36,6 +37,8 @@ module _ (m cuts out : List ℕ) {counts : Counts} (accepted : checkOf m ≡ Acc
       }
 
       -- with the second tape there the joiner has answered
-      pub join-written : (last : List ℕ) (live : ℕ) → (last ≡ joined m cuts) × (live ≡ liveCount m cuts) → JoinPromise m cuts out (last ++ drop (counts .codes) out) (Written (counts .codes) live)
+      pub join-written : (last : List ℕ) (r : JoinCounts) → JoinWritten m cuts last r
+          → JoinPromise m cuts out (last ++ drop (counts .codes) out) (Written (counts .codes) (r .live))
       unfolding joinAnswer afterCheck
-      join-written last live w = rw (accepted, ← e, eq-eqb _ _ good, w .0, w .1) (promised-written size (liveCount m cuts) room refl)
+      join-written last r w =
+          rw (accepted, ← e, eq-eqb _ _ good, w .output, w .counted) (promised-written size (liveCount m cuts) room refl)

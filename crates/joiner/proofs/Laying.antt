@@ -1,13 +1,20 @@
--- The second tape is laid from the right over the whole message's: a part's codes there are as many as its own, and they are its own where no cut changes the first or the last of them.
-use Rattle.laws.proofs.Kit.{ℕ, zero, suc, _+_, _-_, _<_, _≤_, _≡_, refl, sym, ap, _∙_, Bool, true, false, cond, _||_, inl, inr, ⊎-elim, List, [], _∷_, _++_, append-nil, append-assoc, arith, add-one, length, take, drop, getD, length-append, length-take, length-drop, List·getD-append, List·getD-eq-default, take-all, take-length, take-at, take-suc, take-take, take-append-le, drop-at, drop-length, drop-cons, append-snoc, getD-take, length-take-le}
+-- The second tape is laid from the right over the whole message's: a part's codes there are as many as its own, and they are its own where
+-- no cut changes the first or the last of them. The parts are apart from each other, so their steps are no more than two for each byte of
+-- the message, and with those of the whole message no more than four.
+use Rattle.laws.proofs.Kit.{ℕ, zero, suc, _+_, _-_, _*_, _<_, _≤_, _≡_, refl, sym, ap, _∙_, Bool, true, false, cond, _||_, inl, inr, List}
+use Rattle.laws.proofs.Kit.{[], _∷_, _++_, append-nil, append-assoc, arith, add-one, length, take, drop, getD, length-append, length-take}
+use Rattle.laws.proofs.Kit.{length-drop, List·getD-append, take-all, take-length, take-at, take-suc, take-take, take-append-le, drop-at}
+use Rattle.laws.proofs.Kit.{drop-length, drop-cons, append-snoc, getD-take, length-take-le}
 use Rattle.spec.specs.Joints.{RisingFrom, joinedFrom, joined, liveCount, markIndex, leastAt}
-use Rattle.spec.specs.{Tape.sounds, Tape.tape, Refusals.checkOf, declared.Checked.the-variants.Accepted}
-use Rattle.message.specs.Places.{Steady}
-use Rattle.message.proofs.Steadiness.{accepted-steady}
-use Rattle.laws.proofs.Parts.{part, Begins, changedAfter, or-false, live-here, mark-there, part-first, first-own}
-use Rattle.laws.proofs.MarkIndex.{Ends, Placed, stretch, end-own, placed, own-length, own-codes}
-use Rattle.laws.proofs.{Accepted.countsOf, Accepted.accepted-passes, Classes.below-or, Cuts.rising-length, Cuts.break-within, Cutting.equal-lengths, PartsAccepted.part-at, PartsAccepted.part-accepted, Bounds.live-bound, Heard.tape-heard, Marks.mark-first, Marks.mark-next, Marks.mark-last, Putting.Put, Putting.put-first}
-use Rattle.joiner.specs.Writing.{Valid, TapeDue, PutBefore, PartDue, Whole, Reach, Beside, Changing, endOf, restOf, Laid}
+use Rattle.spec.specs.{Tape.sounds, Tape.tape, Refusals.checkOf, LevelSteps.levelSteps, Layers.TapePromise, declared.Checked.the-variants.Accepted}
+use Rattle.laws.proofs.Parts.{or-false, live-here, mark-there, part-first, first-own}
+use Rattle.laws.specs.{Parts.part, Parts.Begins, Parts.changedAfter, Parts.changedBefore, Parts.Ends}
+use Rattle.laws.proofs.MarkIndex.{Placed, stretch, end-own, placed, own-length, own-codes}
+use Rattle.laws.proofs.{Accepted.countsOf, Accepted.accepted-passes, Classes.cond-both, Cuts.rising-length, Cuts.break-within}
+use Rattle.laws.proofs.{Cutting.equal-lengths, PartsAccepted.part-accepted, Bounds.live-bound, Heard.tape-heard, Marks.mark-first}
+use Rattle.laws.proofs.{Marks.mark-next, Marks.mark-last, Putting.put-first, Putting.put-tape, LevelSteps.steps-suffice}
+use Rattle.joiner.specs.Writing.{Valid, JoinDue, PutBefore, PartDue, PartWritten, Whole, Reach, Beside, Changing, endOf, partSteps}
+use Rattle.joiner.specs.Writing.{stepsBehind, joinSteps, restOf, Laid, JoinWritten}
 use Rattle.joiner.specs.{declared.Changes.Changes, declared.Progress.Progress}
 use Rattle.joiner.proofs.Looking.{whole-less}
 use mir.Val.{boolByte}
@@ -18,9 +25,39 @@ unfolding joinedFrom
 joined-part m a [] = rw (append-nil (tape (part m a (length m))), take-all (length m - a) (drop a m) (omega (arith, length-drop a m)))
 joined-part m a (c ∷ cuts) = refl
 
--- where codes were put before a place they begin
-pub put-before : {codes out out′ : List ℕ} {at r : ℕ} → Put codes out out′ at r → PutBefore codes out out′ at
-put-before {codes} {out} {out′} {at} {r} p = let e : at - length codes ≡ r = omega (arith, p .place) in rw e p
+-- no part has more than two steps for each of its bytes
+part-most : (m : List ℕ) (a e : ℕ) → partSteps m a e ≤ 2 * (e - a)
+part-most m a e =
+    let h : length (part m a e) ≤ e - a = simp length-take (omega arith) in
+    cond-both (λ k. k ≤ 2 * (e - a)) (changedBefore m e || changedAfter m a) {x = levelSteps (part m a e)} {y = 0}
+    (omega (arith, steps-suffice (part m a e) .two, h)) (omega arith)
+
+-- so all from a place on have no more than two for each byte from there on
+parts-most : (m : List ℕ) (a : ℕ) (cuts : List ℕ) → a ≤ length m → RisingFrom m a cuts
+    → partSteps m a (endOf m cuts) + stepsBehind m cuts ≤ 2 * (length m - a)
+unfolding stepsBehind
+parts-most m a [] h r = omega (arith, part-most m a (length m))
+parts-most m a (c ∷ cuts) h r =
+    omega (arith, part-most m a c, parts-most m (suc c) cuts (break-within m c (r .1)) (r .2), r .0, break-within m c (r .1))
+
+-- and those behind some of the cuts no more than those behind all
+behind-most : (m cuts : List ℕ) (k : ℕ) → stepsBehind m (drop k cuts) ≤ stepsBehind m cuts
+unfolding stepsBehind
+behind-most m [] zero = omega arith
+behind-most m [] (suc k) = omega arith
+behind-most m (c ∷ cuts) zero = omega arith
+behind-most m (c ∷ cuts) (suc k) = omega (arith, behind-most m cuts k)
+
+-- four steps for each byte suffice, before the first part and with it
+steps-most : (m cuts : List ℕ) (k : ℕ) → RisingFrom m 0 cuts → levelSteps m + stepsBehind m (drop k cuts) ≤ 4 * length m
+steps-most m cuts k r = omega (arith, steps-suffice m .two, behind-most m cuts k, parts-most m 0 cuts (omega arith) r)
+
+join-most : (m cuts : List ℕ) → RisingFrom m 0 cuts → joinSteps m cuts ≤ 4 * length m
+join-most m cuts r = omega (arith, steps-suffice m .two, parts-most m 0 cuts (omega arith) r)
+
+or-none : (t : Bool) → (t || false) ≡ t
+or-none true = refl
+or-none false = refl
 
 -- a byte of a test adds one where it holds
 count-byte : (t : Bool) (n : ℕ) → n + boolByte t ≡ cond t (suc n) n
@@ -75,12 +112,6 @@ module _ {m : List ℕ} {a e : ℕ} (s : Piece m a e) where
   piece-some : markIndex m a < markIndex m e
   piece-some = omega (arith, piece-size, tape-heard (part m a e) (accepted-passes (part m a e) _ passed))
 
-  -- and is steady
-  piece-steady : Steady (part m a e)
-  piece-steady = accepted-steady (part m a e) (countsOf (part m a e)) passed (λ j. ⊎-elim
-      (λ (h : j < e - a). rw (part-at m a e j h) (s .valid .steady .bytes (a + j)))
-      (λ (h : e - a ≤ j). rw (List·getD-eq-default (part m a e) 0 {n = j} (simp length-take (omega arith))) (omega arith)) (below-or j (e - a)))
-
 -- The part after the first k cuts is next.
 module _ {m cuts out : List ℕ} {k : ℕ} {q : Progress} (l : Laid m cuts k out q) where
   abbrev a : ℕ
@@ -114,9 +145,12 @@ module _ {m cuts out : List ℕ} {k : ℕ} {q : Progress} (l : Laid m cuts k out
   -- it may be written where a cut changes it, and else it is written already
   next-due : (t : Bool) → (t ≡ false → (q .changed ≡ false) × (changedAfter m a ≡ false)) → PartDue (part m a (q .e)) out (q .at) t
   next-due t quiet = record {
-    steady = piece-steady next;
-    room = omega (arith, l .place, piece-size next);
-    place = next-whole .size;
+    due = record {
+      counts = countsOf (part m a (q .e));
+      accepted = passed next;
+      room = omega (arith, l .place, piece-size next);
+      place = next-whole .size;
+    };
     stands = λ u.
         let same = own-codes m a (q .e) (next .begins) (next .order) (next .ends) (quiet u .1) (sym (l .last) ∙ quiet u .0) in
         record { place = omega (arith, l .place, piece-size next); bytes = l .bytes ∙ rw (kept, past, same, l .place, piece-codes next, append-assoc) };
@@ -134,19 +168,25 @@ module _ {m cuts out : List ℕ} {k : ℕ} {q : Progress} (l : Laid m cuts k out
   pub laid-few : q .live ≤ 4096
   laid-few = omega (arith, l .counted, live-bound m (drop k cuts), length-drop k cuts, rising-length m cuts (l .rising), accepted-passes m (l .valid .counts) (l .valid .accepted) .short)
 
+  -- and no more than four steps for each
+  pub laid-most : q .steps ≤ 4 * 4096
+  laid-most = omega (arith, l .taken, steps-most m cuts k (l .rising), accepted-passes m (l .valid .counts) (l .valid .accepted) .short)
+
 -- the whole tape, before the first part is written
-pub laid-none : {m cuts out out′ : List ℕ} {r : ℕ} → TapeDue m cuts (length out) → Put (tape m) out out′ (length out) r
-    → Laid m cuts (length cuts) out′ (record { e = length m; at = length out; live = 0; changed = false })
-unfolding liveCount
+pub laid-none : {m cuts out out′ : List ℕ} {j : ℕ} → JoinDue m cuts (length out) → TapePromise m out out′ (length out) j
+    → Laid m cuts (length cuts) out′ (record { e = length m; at = length out; live = 0; steps = j; changed = false })
+unfolding liveCount stepsBehind
 laid-none {m} {cuts} {out} d p = record {
   valid = d .valid;
   rising = d .rising;
   within = omega arith;
   ends = rw (drop-length cuts);
   place = d .fits ∙ sym (mark-last m (length m) refl);
-  bytes = put-first _ _ _ _ _ (d .fits) p ∙ rw (drop-length out, drop-length cuts, d .fits, take-length (tape m));
+  bytes = put-first _ _ _ _ _ (d .fits) (put-tape (omega (arith, d .fits)) p) ∙
+      rw (drop-length out, drop-length cuts, d .fits, take-length (tape m));
   counted = rw (drop-length cuts);
   last = sym (end-own m);
+  taken = p .counted ∙ rw (drop-length cuts) (omega arith);
 }
 
 -- the last one of the cuts that are left
@@ -186,10 +226,11 @@ module _ {m cuts out : List ℕ} {k : ℕ} {q : Progress} (l : Laid m cuts (suc 
       cut-part = rw (add-one c) (next-due l (q .changed || v .after) (λ u. let o = or-false (q .changed) (v .after) u in (o .0, sym (h .after) ∙ o .1)))
 
       -- and then it is passed
-      pub cut-laid : {out′ : List ℕ} → PutBefore (tape (part m (c + 1) (q .e))) out out′ (q .at)
-          → Laid m cuts k out′ (record { e = c; at = n; live = q .live + boolByte (v .before || v .after); changed = v .before })
-      unfolding leastAt liveCount
-      cut-laid p =
+      pub cut-laid : {out′ : List ℕ} {j : ℕ} → PartWritten (part m (c + 1) (q .e)) (q .changed || v .after) out out′ (q .at) j
+          → Laid m cuts k out′
+          (record { e = c; at = n; live = q .live + boolByte (v .before || v .after); steps = q .steps + j; changed = v .before })
+      unfolding leastAt liveCount stepsBehind
+      cut-laid {out′} {j} p =
           let b = next l .begins in
           let e = drop-cons cuts k 0 (l .within) in
           let i : markIndex m c < length (tape m) = omega (arith, mark-next m c b, piece-some (next l), piece-end (next l)) in
@@ -199,9 +240,13 @@ module _ {m cuts out : List ℕ} {k : ℕ} {q : Progress} (l : Laid m cuts (suc 
             within = omega (arith, l .within);
             ends = rw e;
             place = found;
-            bytes = next-laid l (rw (add-one c) at p) ∙ rw (mark-next m c b, take-suc (tape m) (markIndex m c) 0 i, mark-there m c b, append-snoc, found, e);
+            bytes = next-laid l (rw (add-one c) at (p .put)) ∙
+                rw (mark-next m c b, take-suc (tape m) (markIndex m c) 0 i, mark-there m c b, append-snoc, found, e);
             counted = rw (e, live-here m c b, ← h .before, ← h .after, ← l .counted) (count-byte (v .before || v .after) (q .live));
             last = h .before;
+            taken =
+                let x : j ≡ partSteps m (suc c) (q .e) = p .counted ∙ rw (l .last, h .after, add-one c) in
+                rw (e, ← l .ends) (omega (arith, l .taken, x));
           }
 
 -- The first part: no cut is left.
@@ -215,6 +260,15 @@ module _ {m cuts out : List ℕ} {k : ℕ} {q : Progress} (l : Laid m cuts k out
   first-part = rw (← part-first m (q .e)) (next-due at-start (q .changed) (λ u. (u, first-own m)))
 
   -- and with it all are laid
-  pub laid-all : {out′ : List ℕ} → PutBefore (tape (take (q .e) m)) out out′ (q .at) → (out′ ≡ joined m cuts) × (q .live ≡ liveCount m cuts)
+  pub laid-all : {out′ : List ℕ} {j : ℕ} → PartWritten (take (q .e) m) (q .changed) out out′ (q .at) j
+      → JoinWritten m cuts out′ (record { live = q .live; steps = q .steps + j })
   unfolding leastAt joined
-  laid-all p = (next-laid at-start (rw (← part-first m (q .e)) at p) ∙ rw (mark-first m), at-start .counted)
+  laid-all {out′} {j} p =
+      let x : j ≡ partSteps m 0 (q .e) = p .counted ∙ rw (first-own m, or-none (changedBefore m (q .e)), l .last, part-first m (q .e)) in
+      let t : q .steps + j ≡ joinSteps m cuts = rw (← at-start .ends) (omega (arith, at-start .taken, x)) in
+      record {
+        output = next-laid at-start (rw (← part-first m (q .e)) at (p .put)) ∙ rw (mark-first m);
+        counted = at-start .counted;
+        taken = t;
+        four = omega (arith, t, join-most m cuts (l .rising));
+      }

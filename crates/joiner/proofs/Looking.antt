@@ -3,7 +3,9 @@ use Rattle.laws.proofs.Kit.{ℕ, suc, _-_, _<_, _≤_, _≡_, refl, sym, _∙_,
 use Rattle.spec.specs.{Letters.isBreak, Tape.tape, Joints.markIndex}
 use Rattle.message.specs.{Classes.classOf, Places.Steady}
 use Rattle.message.proofs.Computed.{everything}
-use Rattle.laws.proofs.{Classes.below-or, MarkIndex.Last, MarkIndex.isNoSound, MarkIndex.last-above, MarkIndex.last-once, MarkIndex.last-mark, Classes.below-same}
+use Rattle.laws.proofs.{Classes.below-or, MarkIndex.isNoSound, MarkIndex.last-above, MarkIndex.last-once, MarkIndex.last-mark}
+use Rattle.laws.proofs.Classes.{below-same}
+use Rattle.laws.specs.Beside.{Last}
 use Rattle.joiner.specs.Writing.{outside, Looks, Whole, Reach}
 
 module _ {test : ℕ → Bool} {x : List ℕ} {i : ℕ} where

@@ -4,7 +4,8 @@ use Rattle.spec.specs.Letters.{read, firstByte, firstWord, small, isMark, isBre
 use Rattle.spec.specs.{Alphabet.gap, Alphabet.pause, Tape.tape, Joints.markIndex, Joints.wordAfter}
 use Rattle.message.specs.Classes.{letterAt}
 use Rattle.message.proofs.Left.{word-put, unmarked-after}
-use Rattle.laws.proofs.{Classes.either, Classes.break-vowel, Parts.changedAfter, Parts.changedBefore, Beside.isVoiced, Beside.isHigh, Beside.isIOrE, MarkIndex.before-told, MarkIndex.after-told}
+use Rattle.laws.proofs.{Classes.either, Classes.break-vowel, MarkIndex.before-told, MarkIndex.after-told}
+use Rattle.laws.specs.{Parts.changedAfter, Parts.changedBefore, Beside.isVoiced, Beside.isHigh, Beside.isIOrE}
 use Rattle.joiner.specs.Writing.{Beside}
 
 -- a break is neither и nor э

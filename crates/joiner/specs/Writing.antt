@@ -1,8 +1,8 @@
 -- What the joiner's own functions ask for and give: the message and the parts whose tapes are written, where a mark stands, and what a cut changes beside it.
 -- Assumes nothing: these are definitions.
-use Prim.Native.Nat.{ℕ, suc, _-_, _<_, _≤_}
+use Prim.Native.Nat.{ℕ, suc, _+_, _-_, _*_, _<_, _≤_}
 use mathlib.Core.Path.{_≡_}
-use mathlib.Core.Bool.{Bool, true, false, not}
+use mathlib.Core.Bool.{Bool, true, false, cond, not, _||_}
 use mathlib.Core.List.{List, [], _∷_, _++_}
 use lib.ListN.{length, take, drop, getD}
 use Rattle.spec.specs.Letters.{between, isBreak}
@@ -10,14 +10,14 @@ use Rattle.spec.specs.Codes.{markOf}
 use Rattle.spec.specs.Tape.{sounds, tape}
 use Rattle.message.specs.Places.{Steady}
 use Rattle.spec.specs.Refusals.{checkOf}
-use Rattle.spec.specs.Joints.{Rising, joinedFrom, markIndex, liveCount}
+use Rattle.spec.specs.Joints.{Rising, joinedFrom, joined, markIndex, liveCount}
+use Rattle.spec.specs.{LevelSteps.levelSteps, Layers.TapeDue}
 use Rattle.spec.specs.declared.Counts.{Counts}
 use Rattle.spec.specs.declared.Checked.the-variants.{Accepted}
-use Rattle.laws.proofs.Parts.{changedAfter, changedBefore}
-use Rattle.laws.proofs.MarkIndex.{Ends}
-use Rattle.laws.proofs.Putting.{Put}
+use Rattle.laws.specs.{Parts.part, Parts.changedAfter, Parts.changedBefore, Parts.Ends, Putting.Put}
 use Rattle.joiner.specs.declared.Changes.{Changes}
 use Rattle.joiner.specs.declared.Progress.{Progress}
+use Rattle.joiner.specs.declared.JoinCounts.{JoinCounts}
 
 -- an accepted message
 pub record Valid (m : List ℕ) : Type 0 where
@@ -26,7 +26,7 @@ pub record Valid (m : List ℕ) : Type 0 where
   pub steady : Steady m
 
 -- the message and its cuts are accepted, and an output of this size is as long as its tape
-pub record TapeDue (m cuts : List ℕ) (size : ℕ) : Type 0 where
+pub record JoinDue (m cuts : List ℕ) (size : ℕ) : Type 0 where
   pub valid : Valid m
   pub rising : Rising m cuts
   pub fits : size ≡ length (tape m)
@@ -37,10 +37,13 @@ PutBefore codes out out′ at = Put codes out out′ at (at - length codes)
 
 -- the part p may be written right before index at of the output, and where no cut changes it its tape stands there
 pub record PartDue (p out : List ℕ) (at : ℕ) (changed : Bool) : Type 0 where
-  pub steady : Steady p
-  pub room : length (tape p) ≤ at
-  pub place : at ≤ length out
+  pub due : TapeDue p out at
   pub stands : changed ≡ false → PutBefore (tape p) out out at
+
+-- then it stands there, and its levels were found in k steps, in none where no cut changes it
+pub record PartWritten (p : List ℕ) (changed : Bool) (out out′ : List ℕ) (at k : ℕ) : Type 0 where
+  pub put : PutBefore (tape p) out out′ at
+  pub counted : k ≡ cond changed (levelSteps p) 0
 
 -- a byte that is none of low to high
 abbrev pub outside : ℕ → ℕ → ℕ → Bool
@@ -88,6 +91,20 @@ abbrev pub endOf : List ℕ → List ℕ → ℕ
 endOf m [] = length m
 endOf m (c ∷ cuts) = c
 
+-- the steps that find the levels of the part from place a up to e once more: of one that no cut
+-- changes none
+abbrev pub partSteps : List ℕ → ℕ → ℕ → ℕ
+partSteps m a e = cond (changedBefore m e || changedAfter m a) (levelSteps (part m a e)) 0
+
+-- and those of all parts behind these cuts
+unfoldable pub stepsBehind : List ℕ → List ℕ → ℕ
+stepsBehind m [] = 0
+stepsBehind m (c ∷ cuts) = partSteps m (suc c) (endOf m cuts) + stepsBehind m cuts
+
+-- the joiner's steps: those of the whole message, and those of the parts that a cut changes
+abbrev pub joinSteps : List ℕ → List ℕ → ℕ
+joinSteps m cuts = levelSteps m + (partSteps m 0 (endOf m cuts) + stepsBehind m cuts)
+
 -- what follows its tape on the second tape
 abbrev pub restOf : List ℕ → List ℕ → List ℕ
 restOf m [] = []
@@ -103,3 +120,12 @@ pub record Laid (m cuts : List ℕ) (k : ℕ) (out : List ℕ) (p : Progress) : 
   pub bytes : out ≡ take (p .at) (tape m) ++ restOf m (drop k cuts)
   pub counted : p .live ≡ liveCount m (drop k cuts)
   pub last : p .changed ≡ changedBefore m (p .e)
+  pub taken : p .steps ≡ levelSteps m + stepsBehind m (drop k cuts)
+
+-- The second tape is written: the live cuts are counted, and the levels were found in the joiner's
+-- steps, of which four for each byte of the message suffice (paper 02, request 3).
+pub record JoinWritten (m cuts out : List ℕ) (r : JoinCounts) : Type 0 where
+  pub output : out ≡ joined m cuts
+  pub counted : r .live ≡ liveCount m cuts
+  pub taken : r .steps ≡ joinSteps m cuts
+  pub four : r .steps ≤ 4 * length m

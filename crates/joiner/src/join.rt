@@ -3,25 +3,24 @@ ghost use mathlib.Core.Path.{_≡_};
 ghost use Prim.Native.Nat.{suc};
 ghost use lib.ListN.{length};
 ghost use Rattle.spec.specs.Letters.{between, isBreak};
-ghost use Rattle.spec.specs.Tape.{tape};
-ghost use Rattle.spec.specs.Joints.{badCut, row12, joined, liveCount, markIndex};
+ghost use Rattle.spec.specs.Joints.{badCut, row12, markIndex};
 ghost use Rattle.spec.specs.Answers.{JoinPromise};
 ghost use Rattle.transcriber.specs.Walk.{Lent};
-ghost use Rattle.laws.proofs.MarkIndex.{Last};
-ghost use Rattle.joiner.specs.Writing.{TapeDue, PutBefore, PartDue, outside, Looks, Reach, Laid};
+ghost use Rattle.laws.specs.Beside.{Last};
+ghost use Rattle.joiner.specs.Writing.{JoinDue, JoinWritten, PartDue, PartWritten};
+ghost use Rattle.joiner.specs.Writing.{outside, Looks, Reach, Laid};
+use crate::JoinCounts;
 use crate::Progress;
 use crate::joints::changes_at;
 use message::alphabet;
 use message::answers::refused;
 use message::check::check;
-use message::classes::ClassTable;
-use message::classify::class_table;
-use phones::codes;
-use phones::tables::SoundTable;
-use phones::tables::sound_table;
 use spec::Answer;
 use spec::Checked;
 use spec::Refusal;
+use transcriber::tables::ByteTable;
+use transcriber::tables::SoundTable;
+use transcriber::tables::lay_tables;
 use transcriber::tape::write_tape;
 
 // What lies between these is no break of an accepted message.
@@ -99,25 +98,36 @@ fn mark_of(m: &[u8], t: &[u8], c: usize, e: usize, end: usize) -> usize
     k
 }
 
-// Of a part the whole message's codes stand right before place end of the output; where a cut changes them the part's own tape is written over them.
-fn write_part(p: &[u8], changed: bool, out: &mut [u8], end: usize, t: &ClassTable, s: &SoundTable)
+// Of a part the whole message's codes stand right before place end of the output; where a cut
+// changes them the part's own tape is written over them. Tells in how many steps its levels were
+// found.
+fn write_part<'a>(
+    p: &[u8],
+    changed: bool,
+    out: &mut [u8],
+    end: usize,
+    t: &'a ByteTable,
+    s: &'a SoundTable,
+) -> usize
     requires { ⌜ Lent (now t) (now s) × PartDue (now p) (now out) end changed ⌝ }
-    ensures { λ _. ⌜ PutBefore (tape (now (p .entry))) (now (out .entry)) (now (out .exit)) end ⌝ }
+    ensures { λ k.
+        ⌜ PartWritten (now (p .entry)) changed (now (out .entry)) (now (out .exit)) end k ⌝ }
 {
     if changed {
-        write_tape(p, out, end, t, s);
+        return write_tape(p, out, end, t, s);
     }
+    0
 }
 
 // Lays the part after the cut of index k. The cut is judged before that part is written, while the codes beside its mark are the whole message's.
-fn lay_part(
+fn lay_part<'a>(
     m: &[u8],
     cuts: &[usize],
     k: usize,
     out: &mut [u8],
     p: Progress,
-    t: &ClassTable,
-    s: &SoundTable,
+    t: &'a ByteTable,
+    s: &'a SoundTable,
 ) -> Progress
     requires { ⌜ Lent (now t) (now s) × Laid (now m) (now cuts) (suc k) (now out) p ⌝ }
     ensures { λ r. ⌜ Laid (now (m .entry)) (now (cuts .entry)) k (now (out .exit)) r ⌝ }
@@ -130,27 +140,37 @@ fn lay_part(
     let w = changes_at(m, out, c, at);
     let before = w.before;
     let after = w.after;
-    write_part(&m[c + 1..e], changed | after, out, end, t, s);
+    let taken = write_part(&m[c + 1..e], changed | after, out, end, t, s);
+    let steps = p.steps + taken;
     let live = p.live + (before | after) as usize;
     Progress {
         e: c,
         at,
         live,
+        steps,
         changed: before,
     }
 }
 
-// Writes the second tape and counts the live cuts: the whole message's tape, and then from the right, over it, the parts that a cut changes.
-fn write_joined(m: &[u8], cuts: &[usize], out: &mut [u8], t: &ClassTable, s: &SoundTable) -> usize
-    requires { ⌜ Lent (now t) (now s) × TapeDue (now m) (now cuts) (length (now out)) ⌝ }
-    ensures { λ r. ⌜ (now (out .exit) ≡ joined (now (m .entry)) (now (cuts .entry))) × (r ≡ liveCount (now (m .entry)) (now (cuts .entry))) ⌝ }
+// Writes the second tape and counts the live cuts, and the steps that found the levels: the whole
+// message's tape, and then from the right, over it, the parts that a cut changes.
+fn write_joined<'a>(
+    m: &[u8],
+    cuts: &[usize],
+    out: &mut [u8],
+    t: &'a ByteTable,
+    s: &'a SoundTable,
+) -> JoinCounts
+    requires { ⌜ Lent (now t) (now s) × JoinDue (now m) (now cuts) (length (now out)) ⌝ }
+    ensures { λ r. ⌜ JoinWritten (now (m .entry)) (now (cuts .entry)) (now (out .exit)) r ⌝ }
 {
     let n = out.len();
-    write_tape(m, out, n, t, s);
+    let whole = write_tape(m, out, n, t, s);
     let mut p = Progress {
         e: m.len(),
         at: n,
         live: 0,
+        steps: whole,
         changed: false,
     };
     let mut k = cuts.len();
@@ -159,8 +179,10 @@ fn write_joined(m: &[u8], cuts: &[usize], out: &mut [u8], t: &ClassTable, s: &So
         p = lay_part(m, cuts, k, out, p, t, s);
     }
     let e = p.e;
-    write_part(&m[..e], p.changed, out, p.at, t, s);
-    p.live
+    let first = write_part(&m[..e], p.changed, out, p.at, t, s);
+    let steps = p.steps + first;
+    let live = p.live;
+    JoinCounts { live, steps }
 }
 
 // The joiner (paper 01, 'Joints'): writes the tape of the message's parts at the start of the lent output, or refuses and leaves every byte.
@@ -185,8 +207,8 @@ pub fn join(m: &[u8], cuts: &[usize], out: &mut [u8]) -> Answer
             place: n,
         });
     }
-    let t = class_table();
-    let s = sound_table();
-    let live = write_joined(m, cuts, &mut out[..n], &t, &s);
+    let tables = lay_tables();
+    let counted = write_joined(m, cuts, &mut out[..n], &tables.bytes, &tables.sounds);
+    let live = counted.live;
     Answer::Written { length: n, live }
 }

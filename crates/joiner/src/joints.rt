@@ -1,6 +1,6 @@
 // What a cut changes, told by the codes on both sides of its mark on the whole message's tape (paper 01, 'Joints').
 ghost use mathlib.Core.Path.{_≡_};
-ghost use Rattle.laws.proofs.Beside.{isVoiced, isHigh, isIOrE};
+ghost use Rattle.laws.specs.Beside.{isVoiced, isHigh, isIOrE};
 ghost use Rattle.joiner.specs.Writing.{Beside, Changing};
 use crate::Changes;
 use message::alphabet;

@@ -5,10 +5,10 @@ use Rattle.spec.specs.Letters.{Letter, Message, last, more, firstByte, firstWor
 use Rattle.spec.specs.Voicing.{voiced, voiceless, voicedCode, voicelessCode, toneOf, toned, voiceOne, voice}
 use Rattle.spec.specs.{Codes.markOf, Codes.isSound, Phones.Phone, Palatalization.isSoft, Palatalization.firstCode, Palatalization.palatalize, Tape.wordTape, Tape.segment, Joints.endsInObstruent, Joints.beginsWithIOrE}
 use Rattle.spec.proofs.Computed.{everything}
-use Rattle.laws.proofs.Codes.{Spells, isVoiced, both, fine, Fine, word-fine, soft-both}
+use Rattle.laws.proofs.Codes.{Spells, both, fine, Fine, word-fine, soft-both}
 use Rattle.laws.proofs.Word.{lastCodeFrom, endsToned, word-toned, word-starts}
 use Rattle.laws.proofs.{Classes.mark-both, Classes.either, Classes.among-same, Stretch.last-append}
-pub use Rattle.laws.proofs.{Word.isHigh, Word.isIOrE, Codes.isVoiced}
+use Rattle.laws.specs.Beside.{isVoiced, isHigh, isIOrE}
 
 -- a test that has this answer
 told : (r t : Bool) → cond r t (not t) ≡ true → t ≡ r

@@ -5,25 +5,12 @@ use Rattle.spec.specs.Joints.{joined, isLive, liveCount, badCut}
 use Rattle.spec.specs.Answers.{numberOf, placeOf, lengthOf, liveOf, checkedNumber, checkedPlace, checkedCodes, checkedNames, within, afterCheck, nameAnswer, tapeAnswer, joinAnswer}
 use Rattle.spec.specs.Utf8.{encoded, writeAnswer}
 use Rattle.spec.specs.SpokenLevels.{spoken, levelAnswer}
-use Rattle.spec.specs.{Tape.tape, Tape.names, Refusals.checkOf, declared.Checked.Checked, declared.Answer.Answer}
+use Rattle.spec.specs.{Tape.tape, Tape.names, Refusals.checkOf, declared.Answer.Answer}
 use Rattle.laws.proofs.Cuts.{judged, rising-to, bad-bound, rising-length}
 use Rattle.laws.proofs.{Accepted.check-finds, Accepted.given-range, Classes.cond-both, Classes.below-or, Cutting.equal-lengths, Sizes.tape-size, Sizes.names-size, Utf8.encoded-size, SpokenLevels.level-size}
 use Rattle.laws.proofs.Counting.{tape-count, names-count}
 use Rattle.spec.specs.declared.Answer.the-variants as answer
-
--- the check's answer in numbers that are small
-pub record SmallCheck (d : Checked) : Type 0 where
-  pub number : checkedNumber d ≤ 10
-  pub place : checkedPlace d ≤ 4096
-  pub codes : checkedCodes d ≤ 8192
-  pub names : checkedNames d ≤ 8192
-
--- an operation's answer in numbers that are small
-pub record Small (a : Answer) : Type 0 where
-  pub number : numberOf a ≤ 8192
-  pub place : placeOf a ≤ 8192
-  pub length : lengthOf a ≤ 8192
-  pub live : liveOf a ≤ 8192
+use Rattle.laws.specs.Bounds.{Small, SmallCheck}
 
 -- no more cuts are live than there are
 pub live-bound : (m cuts : List ℕ) → liveCount m cuts ≤ length cuts

@@ -1,8 +1,11 @@
 -- The codes of a tape. Every letter of an accepted message is one of the alphabet, so each code of its words is a sound, 1 to 13 or 16 to 56,
 -- and the marks on its tape are those of its breaks.
-use Rattle.laws.proofs.Kit.{ℕ, zero, suc, _+_, _-_, _<_, _≡_, refl, sym, ap, _∙_, Bool, true, false, cond, not, _&&_, _||_, and-eq-true-iff, and-true, or-false, true≢false, List, [], _∷_, _++_, arith, eqb, length, take, drop, getD, length-take, length-drop, take-length, getD-take, getD-drop, not-false}
-use Rattle.spec.specs.Letters.{Letter, Message, last, more, read, putLetter, hardOnly, paired, softOnly, plainVowels, softeningVowels, obstruents, between, isGap, isBreak, isMark, isPaired, isConsonant, isSign, isVowel, isObstruent}
-use Rattle.spec.specs.Codes.{Б, З', J, Ц1, Ч1, markOf, isMarkCode, isSound, isCode}
+use Rattle.laws.proofs.Kit.{ℕ, zero, suc, _+_, _-_, _<_, _≡_, refl, sym, ap, _∙_, Bool, true, false, cond, not, _&&_, _||_}
+use Rattle.laws.proofs.Kit.{and-eq-true-iff, and-true, or-false, true≢false, List, [], _∷_, _++_, arith, length, take, drop, getD}
+use Rattle.laws.proofs.Kit.{length-take, length-drop, take-length, getD-take, getD-drop, not-false}
+use Rattle.spec.specs.Letters.{Letter, Message, last, more, read, putLetter, hardOnly, paired, softOnly, plainVowels, softeningVowels}
+use Rattle.spec.specs.Letters.{obstruents, isGap, isBreak, isMark, isPaired, isConsonant, isSign, isVowel, isObstruent}
+use Rattle.spec.specs.Codes.{J, markOf, isMarkCode, isSound, isCode}
 use Rattle.spec.specs.Syllables.{Facts, factsOf, syllableOf, nameIn, nameOf, isName, incomplete, namesFrom}
 use Rattle.spec.specs.Vowels.{vowelSound, endsHard}
 use Rattle.spec.specs.Phones.{Phone, writtenCode, phonesFrom}
@@ -14,6 +17,7 @@ use Rattle.spec.specs.{Tables.among, Elision.elides, Elision.elideFrom, Elision
 use Rattle.spec.proofs.Computed.{everything}
 use Rattle.laws.proofs.Classes.{cond-both, mark-both, cond-app, cond-same, either, refuted, among-same, vowel-single, vowel-quiet}
 use Rattle.laws.proofs.{Word.phones-cases, Accepted.Passes, Accepted.none-passes}
+use Rattle.laws.specs.Beside.{isVoiced}
 
 -- a claim on each code of a tape, or on each name
 abbrev pub Each : (ℕ → Bool) → List ℕ → Type 0
@@ -47,10 +51,6 @@ pub elide-spelled : (p : ℕ) (w : List Letter) → Spelled w → Spelled (elide
 unfolding elideFrom
 elide-spelled p [] s = tt
 elide-spelled p (l ∷ w) s = let r = elide-spelled (l .byte) w (s .1) in cond-both Spelled (elides p (l .byte) w) r (s .0, r)
-
--- codes of voiced obstruents: the set D, В and В'
-abbrev pub isVoiced : ℕ → Bool
-isVoiced c = ((between Б З' c && not (eqb c J)) || eqb c Ц1) || eqb c Ч1
 
 -- The code c of a letter b passes a test, and so does its palatalized one where the letter has one.
 unfoldable pub both : (ℕ → Bool) → ℕ → ℕ → Bool

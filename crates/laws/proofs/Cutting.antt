@@ -3,8 +3,11 @@ use Rattle.laws.proofs.Kit.{ℕ, zero, suc, _+_, _-_, _≤_, _&&_, _++_
 use Rattle.spec.specs.Joints.{RisingFrom, Rising, joinedFrom, marksOf, breakMarks, wordAfter, CutOf, DiffersAt, joined, isLive, NoneLive, liveCount, markIndex}
 use Rattle.spec.specs.{Letters.isBreak, Letters.read, Letters.firstByte, Tape.sounds, Refusals.NoneFits, Codes.markOf, Palatalization.firstCode, Demands.TwoTapes}
 use Rattle.laws.proofs.Codes.{Spells, bytes-marks, part-spells, marks-mark, marks-append, breaks-append}
-use Rattle.laws.proofs.Beside.{segment-ends, isVoiced, isHigh, isIOrE, mark-unvoiced}
-use Rattle.laws.proofs.Parts.{onward, voicedAt, changedBefore, part, Begins, part-split, part-first, last-at, after-mark, joined-low, tape-cut, mark-index, live-here, onward-first, first-own, joined-length, joined-dead}
+use Rattle.laws.proofs.Beside.{segment-ends, mark-unvoiced}
+use Rattle.laws.specs.{Beside.isVoiced, Beside.isHigh, Beside.isIOrE, Parts.onward, Parts.voicedAt, Parts.changedBefore, Parts.part}
+use Rattle.laws.specs.Parts.{Begins}
+use Rattle.laws.proofs.Parts.{part-split, part-first, last-at, after-mark, joined-low, tape-cut, mark-index, live-here, onward-first}
+use Rattle.laws.proofs.Parts.{first-own, joined-length, joined-dead}
 use Rattle.laws.proofs.MarkIndex.{placed, own-length, before-told, after-told}
 use Rattle.laws.proofs.{Accepted.none-passes, Accepted.none-accepted, Classes.either, Classes.refuted, Cuts.cut-good, Cuts.break-within, PartsAccepted.parts-none, Word.lastCodeFrom, Stretch.last-append, Marks.mark-first, Marks.mark-next}
 

@@ -6,24 +6,7 @@ use Rattle.spec.specs.Refusals.{first, none, row3, row4, rows, fitsIn, beforeAt
 use Rattle.spec.proofs.Computed.{everything}
 use Rattle.laws.proofs.Classes.{either, cond-both, among-same, break-both}
 use Rattle.laws.proofs.Accepted.{ClearFrom, EachFrom, places-clear, each-place, none-passes}
-
--- does the byte stand for a break, itself or as a mark of punctuation?
-abbrev pub breaks : ℕ → Bool
-breaks b = isBreak (replaced b)
-
--- the break that waits, if there is one, put before bytes
-unfoldable pub putWait : ℕ → List ℕ → List ℕ
-putWait wait t = cond (eqb wait 0) t (wait ∷ t)
-
--- What is left of a text behind a byte that is no break and the break that waits since then, 0 where none does.
-unfoldable pub editFrom : ℕ → List ℕ → List ℕ
-editFrom wait [] = []
-editFrom wait (b ∷ t) = cond (breaks b) (editFrom (oneBreak wait (replaced b)) t) (putWait wait (b ∷ editFrom 0 t))
-
--- how many bytes of a text stand before the first for which a test fails
-unfoldable pub leading : (ℕ → Bool) → List ℕ → ℕ
-leading test [] = 0
-leading test (b ∷ t) = cond (test b) (suc (leading test t)) 0
+use Rattle.laws.specs.Edited.{breaks, putWait, editFrom, leading}
 
 -- the text from its first byte on that is no break
 abbrev pub begun : List ℕ → List ℕ

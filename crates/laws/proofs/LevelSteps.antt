@@ -1,4 +1,5 @@
--- How many steps find the levels of a message: the bytes that words' ends look back over are apart from each other, so no byte is stepped over more than twice.
+-- How many steps find the levels of a message: the bytes that words' ends look back over are apart from each other, so no byte is stepped
+-- over more than twice.
 use Rattle.laws.proofs.Kit.{ℕ, zero, suc, _+_, _≤_, _≡_, refl, List, arith, length, getD}
 use Rattle.spec.specs.Letters.{isBreak, isMark}
 use Rattle.spec.specs.LevelSteps.{backAt, backTo, levelSteps, Unmarked, StepsSuffice}

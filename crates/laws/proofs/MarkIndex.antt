@@ -5,19 +5,11 @@ use Rattle.spec.specs.Letters.{between, read, firstByte, isGap, isBreak}
 use Rattle.spec.specs.Codes.{А*, Щ, markOf, isSound}
 use Rattle.spec.specs.{Tape.segment, Tape.sounds, Refusals.checkOf, Joints.markIndex, Joints.wordBefore, Joints.wordAfter, declared.Counts.Counts, declared.Checked.the-variants.Accepted}
 use Rattle.laws.proofs.Codes.{Each, part-spells, read-marks, segment-sounds, unbroken, each-at}
-use Rattle.laws.proofs.Parts.{part, Begins, hardAt, onward, voicedAt, changedAfter, changedBefore, last-at, onward-cut, part-own, tape-cut, mark-index, mark-there, code-after, onward-alone}
-use Rattle.laws.proofs.Beside.{isVoiced, isHigh, isIOrE, segment-ends, segment-starts}
+use Rattle.laws.proofs.Parts.{last-at, onward-cut, part-own, tape-cut, mark-index, mark-there, code-after, onward-alone}
+use Rattle.laws.specs.Parts.{part, Begins, Ends, hardAt, onward, voicedAt, changedAfter, changedBefore}
+use Rattle.laws.proofs.Beside.{segment-ends, segment-starts}
+use Rattle.laws.specs.Beside.{Last, isVoiced, isHigh, isIOrE}
 use Rattle.laws.proofs.{Accepted.accepted-passes, Classes.mark-both, Classes.either, Classes.below-or, Stretch.segment-length, PartsAccepted.part-length, PartsAccepted.part-at, Marks.tape-from, Marks.mark-next, Marks.mark-last}
-
--- a part may end at e: at the message's end, or at a break
-abbrev pub Ends : List ℕ → ℕ → Type 0
-Ends m e = (isBreak (getD m e 0) ≡ true) ⊎ (e ≡ length m)
-
--- r is the last index below i where the list passes the test
-pub record Last (test : ℕ → Bool) (x : List ℕ) (i r : ℕ) : Type 0 where
-  pub below : r < i
-  pub here : test (getD x r 0) ≡ true
-  pub past : (j : ℕ) → r < j → j < i → test (getD x j 0) ≡ false
 
 -- it is not below another such index
 pub last-above : (test : ℕ → Bool) (x y : List ℕ) (i r s : ℕ) → ((j : ℕ) → j < i → getD x j 0 ≡ getD y j 0) → Last test x i r → s < i → test (getD y s 0) ≡ true → s ≤ r

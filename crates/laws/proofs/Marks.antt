@@ -2,7 +2,8 @@
 use Rattle.laws.proofs.Kit.{ℕ, zero, suc, _≡_, refl, sym, _∙_, true, false, _&&_, List, [], _∷_, _++_, append-assoc, arith, length, take, getD, length-append, take-suc, take-length}
 use Rattle.spec.specs.{Letters.read, Letters.isGap, Letters.isBreak, Codes.markOf, Voicing.voices, Tape.segment, Tape.sounds, Joints.markIndex}
 use Rattle.spec.proofs.Computed.{everything}
-use Rattle.laws.proofs.Parts.{Begins, onward, voicedAt, onward-first, tape-cut, mark-index}
+use Rattle.laws.proofs.Parts.{onward-first, tape-cut, mark-index}
+use Rattle.laws.specs.Parts.{Begins, onward, voicedAt}
 use Rattle.laws.proofs.{Cuts.break-within, Stretch.read-join, Stretch.segment-join, Stretch.segment-length}
 
 -- The tape of a message at place a: as many codes as counted stand before it.

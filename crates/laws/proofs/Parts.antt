@@ -1,41 +1,13 @@
 -- A message from a place on, whole and in parts: each cut splits both tapes at its mark, and the two sides differ in the bits that come from over the cut alone.
 use Rattle.laws.proofs.Kit.{ℕ, zero, suc, _+_, _-_, _<_, _≤_, _≡_, refl, sym, ap, _∙_, Bool, true, false, _&&_, _||_, and-comm, and-or-distrib-left, inl, inr, List, [], _∷_, _++_, append-nil, arith, length, take, drop, getD, length-append, take-append-drop, drop-cons, drop-drop, drop-append-add, take-add, getD-at}
-use Rattle.spec.specs.Letters.{read, firstByte, firstWord, lastWord, isGap, isBreak}
+use Rattle.spec.specs.Letters.{read, firstByte, firstWord, lastWord, isBreak}
 use Rattle.spec.specs.Joints.{RisingFrom, joinedFrom, markIndex, wordBefore, wordAfter, endsInObstruent, beginsWithIOrE, liveByVoice, liveByHardness, isLive, NoneLive}
-use Rattle.spec.specs.{Codes.markOf, Voicing.voices, Vowels.endsHard, Palatalization.firstCode, Tape.segment, Tape.sounds}
+use Rattle.spec.specs.{Codes.markOf, Palatalization.firstCode, Tape.segment, Tape.sounds}
+use Rattle.laws.specs.Beside.{isHigh, isIOrE}
 use Rattle.laws.proofs.Stretch.{meet, first-meet, last-meet, read-join, segment-join, segment-length, segment-quiet, segment-firm}
-use Rattle.laws.proofs.{Word.isHigh, Word.isIOrE, Word.lastCodeFrom, Beside.segment-starts, Cuts.break-within}
+use Rattle.laws.proofs.{Word.lastCodeFrom, Beside.segment-starts, Cuts.break-within}
 pub use Rattle.laws.proofs.Classes.{or-false}
-
--- the bytes from place a up to place c
-abbrev pub part : List ℕ → ℕ → ℕ → List ℕ
-part m a c = take (c - a) (drop a m)
-
--- a part may begin at a: at the message's start, or just after a break
-abbrev pub Begins : List ℕ → ℕ → Type 0
-Begins m zero = Unit {0}
-Begins m (suc c) = isBreak (getD m c 0) ≡ true
-
--- does a hard boundary stand before place a of the whole message?
-unfoldable pub hardAt : List ℕ → ℕ → Bool
-hardAt m zero = false
-hardAt m (suc c) = isGap (getD m c 0) && endsHard (wordBefore m c)
-
--- the whole message's tape from place a on
-unfoldable pub onward : List ℕ → ℕ → List ℕ
-onward m a = segment (hardAt m a) false (read (drop a m))
-
--- does the whole message voice an obstruent before the break at place c?
-unfoldable pub voicedAt : List ℕ → ℕ → Bool
-voicedAt m c = isGap (getD m c 0) && voices (onward m (suc c))
-
--- 'Joints', (b): does a hard boundary change the first code from place a on?
-unfoldable pub changedAfter : List ℕ → ℕ → Bool
-changedAfter m a = hardAt m a && beginsWithIOrE (firstWord (read (drop a m)))
-
--- 'Joints', (a): does a voicing sound change the last code before the break at place c?
-unfoldable pub changedBefore : List ℕ → ℕ → Bool
-changedBefore m c = voicedAt m c && endsInObstruent (wordBefore m c)
+use Rattle.laws.specs.Parts.{part, Begins, hardAt, onward, voicedAt, changedAfter, changedBefore}
 
 -- the last code of a tape stands at the index before its end
 pub last-at : (x : ℕ) (s u : List ℕ) (n : ℕ) → length s ≡ n → getD (x ∷ (s ++ u)) n 0 ≡ lastCodeFrom x s

@@ -5,7 +5,8 @@ use Rattle.spec.specs.Refusals.{vowelByte, signByte, hardSignByte, first, none,
 use Rattle.spec.specs.{Letters.isBreak, Letters.isMark, Joints.RisingFrom, Joints.EachPartFrom, declared.Counts.Counts, declared.Checked.the-variants.Accepted}
 use Rattle.laws.proofs.Accepted.{countsOf, Clear, Passes, ClearFrom, places-clear, each-place, accepted-passes, passes-accepted, passes-none}
 use Rattle.laws.proofs.Classes.{cond-app, either, refuted, NoBreak, break-mark, break-vowel, break-sign, break-hard-sign, or-false}
-use Rattle.laws.proofs.{Cuts.break-within, Parts.part, Parts.Begins}
+use Rattle.laws.proofs.Cuts.{break-within}
+use Rattle.laws.specs.Parts.{part, Begins}
 
 -- the bytes before a part, nearest first: none, or a break is next
 abbrev pub Opens : List ℕ → Type 0

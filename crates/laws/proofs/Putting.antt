@@ -1,10 +1,7 @@
 -- Bytes put into a lent output, right before a place or from a place on: what was put beside other bytes was put together with them.
 use Rattle.laws.proofs.Kit.{ℕ, _+_, _-_, _<_, _≤_, arith, add-one, _≡_, refl, sym, ap, _∙_, List, [], _∷_, _++_, append-assoc, append-nil, length, take, drop, set, take-append-drop, length-append, length-take, length-drop, length-take-le, take-append-le, take-take, take-at, drop-at, drop-drop, drop-of-length-le, take-all, set-split}
-
--- These bytes were put from place r on, right before place at, and the rest of the output is as it was.
-pub record Put (codes out out′ : List ℕ) (at r : ℕ) : Type 0 where
-  pub place : r + length codes ≡ at
-  pub bytes : out′ ≡ take r out ++ (codes ++ drop at out)
+use Rattle.spec.specs.{Tape.tape, Layers.TapePromise}
+use Rattle.laws.specs.Putting.{Put}
 
 -- nothing put leaves the output as it is
 pub put-none : (out : List ℕ) (at : ℕ) → Put [] out out at at
@@ -49,6 +46,11 @@ module _ (codes out out′ : List ℕ) (at r : ℕ) (h : at ≤ length out) (p :
   put-again =
       let f : take r out′ ≡ take r out = rw (p .bytes) (take-at (take r out) (codes ++ drop at out) r (length-take-le r out (omega (arith, p .place)))) in
       record { place = p .place; bytes = p .bytes ∙ rw (f, put-rest) }
+
+-- the tape that the transcriber promises was put
+pub put-tape : {m out out′ : List ℕ} {end steps : ℕ} → length (tape m) ≤ end → TapePromise m out out′ end steps
+    → Put (tape m) out out′ end (end - length (tape m))
+put-tape h p = record { place = omega (arith, h); bytes = p .output }
 
 -- codes put before a place as many as they are stand at the start
 pub put-first : (codes out out′ : List ℕ) (at r : ℕ) → at ≡ length codes → Put codes out out′ at r → out′ ≡ codes ++ drop at out

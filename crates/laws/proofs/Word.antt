@@ -7,9 +7,13 @@ use Rattle.spec.specs.Elision.{elidesT, elidesD, elides, elideFrom, elide, elid
 use Rattle.spec.specs.Syllables.{Facts, factsOf, coverAfter, hasMark, nextStressed, levelOf, syllableOf}
 use Rattle.spec.specs.Vowels.{byStress, byLevel, glides, vowelSound}
 use Rattle.spec.specs.Phones.{Phone, softens, writtenCode, vowelPhones, phonesOf, phonesFrom}
-use Rattle.spec.specs.{Tables.among, Tables.entry, Codes.Ы*, Codes.Ы1, Codes.J, Voicing.toneOf, Voicing.voiceOne, Voicing.voice, Palatalization.firstCode, Palatalization.palatalize, Tape.wordTape, Joints.endsInObstruent, Joints.endsInObstruentFrom, Joints.beginsWithIOrE, declared.Cover.Cover, declared.Level.the-variants.Stressed, declared.Level.the-variants.First, declared.Level.the-variants.Second}
+use Rattle.spec.specs.{Tables.among, Tables.entry, Codes.J, Voicing.toneOf, Voicing.voiceOne, Voicing.voice, Palatalization.firstCode}
+use Rattle.spec.specs.{Palatalization.palatalize, Tape.wordTape, Joints.endsInObstruent, Joints.endsInObstruentFrom, Joints.beginsWithIOrE}
+use Rattle.spec.specs.{declared.Cover.Cover, declared.Level.the-variants.Stressed, declared.Level.the-variants.First}
+use Rattle.spec.specs.declared.Level.the-variants.{Second}
 use Rattle.spec.proofs.Computed.{everything}
 use Rattle.laws.proofs.Classes.{cond-app, cond-both, either, or-false, among-same}
+use Rattle.laws.specs.Beside.{isHigh, isIOrE}
 
 -- the last code; d where there is none
 unfoldable pub lastCodeFrom : ℕ → List ℕ → ℕ
@@ -98,14 +102,6 @@ vowel-firm : (h h′ s t : Bool) (c : Cover) (b : ℕ) → (eqb b «и» || (eqb
 unfolding vowelSound byStress byLevel entry
 vowel-firm h h′ true t c b q = rw (or-false (eqb b «и») _ q .0)
 vowel-firm h h′ false t c b q = let e = or-false (eqb b «и») _ q in rw (e .0, rw and-true at (e .1))
-
--- the sounds of ы
-abbrev pub isHigh : ℕ → Bool
-isHigh c = eqb c Ы* || eqb c Ы1
-
--- the letters that a hard boundary changes
-abbrev pub isIOrE : ℕ → Bool
-isIOrE b = eqb b «и» || eqb b «э»
 
 -- at the start of a word и, and э where it is not stressed, sound Ы just behind a hard boundary
 high-told : (h s t : Bool) (c : Cover) → let high : ℕ → Bool = λ b. isHigh (vowelSound h 0 (record { cover = c; level = cond s Stressed (cond t First Second) }) b) && true in

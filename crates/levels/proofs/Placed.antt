@@ -9,7 +9,8 @@ use Rattle.spec.specs.SpokenLevels.{afterGaps, spaced, spoken}
 use Rattle.spec.proofs.Computed.{everything}
 use Rattle.laws.proofs.Classes.{cond-same, below-same}
 use Rattle.laws.proofs.SpokenLevels.{gaps-append}
-use Rattle.laws.proofs.Putting.{Put, put-none, put-length, put-behind}
+use Rattle.laws.proofs.Putting.{put-none, put-length, put-behind}
+use Rattle.laws.specs.Putting.{Put}
 use Rattle.levels.specs.Placing.{placed, Room, Begun, Adds, signWords, Splits, lowWords, partWords}
 use Rattle.levels.specs.declared.Parts.{Parts}
 

@@ -9,7 +9,7 @@ use lib.ListN.{length}
 use lib.IntN.{ℤ, pos, negsuc}
 use Rattle.spec.specs.SpokenLevels.{bytes, units, teens, tens, hundreds, wordIn, thousands}
 use Rattle.spec.specs.SpokenLevels.{afterGaps, spaced}
-use Rattle.laws.proofs.Putting.{Put}
+use Rattle.laws.specs.Putting.{Put}
 use Rattle.levels.specs.declared.Parts.{Parts}
 
 -- words as they are put from a place on: at the start there is no gap before the first

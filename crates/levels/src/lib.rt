@@ -5,7 +5,7 @@ ghost use lib.Dec.{leb};
 ghost use lib.ListN.{length};
 ghost use lib.IntN.{pos, natAbs};
 ghost use Rattle.spec.specs.SpokenLevels.{spoken, InRange, LevelPromise};
-ghost use Rattle.laws.proofs.Putting.{Put};
+ghost use Rattle.laws.specs.Putting.{Put};
 ghost use Rattle.levels.specs.Placing.{Room, Adds, Splits, signWords, partWords};
 use spec::Answer;
 use spec::Refusal;

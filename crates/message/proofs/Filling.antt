@@ -1,8 +1,9 @@
 -- The walks that write from the end: what a byte puts stands before what the bytes after it have put.
-use Rattle.laws.proofs.Kit.{ℕ, zero, suc, _-_, _<_, _≤_, arith, _≡_, ap, _∙_, List, _++_, length, length-append}
+use Rattle.laws.proofs.Kit.{ℕ, zero, suc, _-_, _<_, _≤_, arith, _≡_, ap, _∙_, List, _++_, length, take, drop, length-append}
 use Rattle.message.specs.Places.{Steady}
 use Rattle.message.specs.Filling.{MayStep, DidStep}
-use Rattle.laws.proofs.Putting.{Put, put-over, put-length}
+use Rattle.laws.proofs.Putting.{put-over, put-length}
+use Rattle.laws.specs.Putting.{Put}
 
 -- from place i on the bytes of m put `rest i`, of which the byte there puts a piece
 pub record Pieces (m : List ℕ) (rest piece : ℕ → List ℕ) (all : ℕ) : Type 0 where
@@ -59,3 +60,8 @@ module _ {Right : ℕ → Type 0} {m : List ℕ} {rest piece : ℕ → List ℕ}
     place = w .place;
     put = rw (writing-step z) (put-over _ _ _ _ _ _ _ _ (w .place) (w .put) (s .put));
   }
+
+-- what was put right before a place begins as many bytes before it as it has
+pub put-output : {codes out out′ : List ℕ} {end r : ℕ} → Put codes out out′ end r
+    → out′ ≡ take (end - length codes) out ++ (codes ++ drop end out)
+put-output {codes} {out} {out′} {end} {r} p = let e : end - length codes ≡ r = omega (arith, p .place) in p .bytes ∙ rw e

@@ -4,7 +4,7 @@
 use Prim.Native.Nat.{ℕ, suc, _<_, _≤_}
 use mathlib.Core.List.{List}
 use lib.ListN.{length}
-use Rattle.laws.proofs.Putting.{Put}
+use Rattle.laws.specs.Putting.{Put}
 use Rattle.message.specs.Places.{Steady}
 
 -- A walk may step to place i: `Right` says what is known at the place after it, and there is room for what its byte puts

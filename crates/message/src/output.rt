@@ -2,7 +2,7 @@
 ghost use mathlib.Core.List.{[], _∷_};
 ghost use Prim.Native.Nat.{_<_, _≤_};
 ghost use lib.ListN.{length};
-ghost use Rattle.laws.proofs.Putting.{Put};
+ghost use Rattle.laws.specs.Putting.{Put};
 
 // Puts a byte right before place at.
 pub fn put(out: &mut [u8], at: usize, code: u8) -> usize

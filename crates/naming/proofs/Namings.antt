@@ -3,7 +3,8 @@ use Rattle.laws.proofs.Kit.{ℕ, suc, _<_, _≡_, refl, ap, _∙_, Bool, true, 
 use Rattle.spec.specs.{Letters.isBreak, Refusals.vowelByte, Syllables.incomplete, Syllables.nameOf, declared.Level.Level}
 use Rattle.message.specs.{Classes.classOf, Classes.isVowelClass, Places.Steady}
 use Rattle.message.proofs.Bytes.{by-class, vowel-break}
-use Rattle.laws.proofs.Putting.{Put, put-none, put-length, put-again}
+use Rattle.laws.proofs.Putting.{put-none, put-length, put-again}
+use Rattle.laws.specs.Putting.{Put}
 use Rattle.stress.specs.{Places.leftAt, declared.LevelRun.LevelRun, Before.classBefore, Before.syllableBy}
 use Rattle.naming.specs.Names.{namesAt, namePiece, NameReady, Named, NamesDue, WordEnd}
 use Rattle.naming.specs.declared.NameState.{NameState}
@@ -76,7 +77,8 @@ module _ {m out : List ℕ} {n : ℕ} (due : NamesDue m out n) where
   }
 
   -- where the walk begins
-  pub naming-none : {out′ : List ℕ} {at : ℕ} {q : LevelRun} → Looked m (length m) (endRun 0 false) q → Put (incomplete (leftAt m (length m) .p)) out out′ n at
+  pub naming-none : {out′ : List ℕ} {at : ℕ} {q : LevelRun} → Looked m (length m) (endRun 0 0 false) q
+      → Put (incomplete (leftAt m (length m) .p)) out out′ n at
       → Writing (λ j. LevelsAt m j q) m (namesAt m) (namePiece m) n out′ out′ n (length m) at
   naming-none e p =
       let y = due .steady in

@@ -7,7 +7,7 @@ ghost use Rattle.spec.specs.Syllables.{incomplete, nameOf};
 ghost use Rattle.spec.specs.Tape.{names};
 ghost use Rattle.spec.specs.LevelSteps.{levelSteps};
 ghost use Rattle.spec.specs.Answers.{NamePromise};
-ghost use Rattle.laws.proofs.Putting.{Put};
+ghost use Rattle.laws.specs.Putting.{Put};
 ghost use Rattle.stress.specs.Places.{leftAt};
 ghost use Rattle.naming.specs.Names.{namePiece, WordEnd, NameReady, VowelNamed, Named};
 ghost use Rattle.naming.specs.Names.{NamesDue};
@@ -31,6 +31,7 @@ use stress::levels;
 use stress::levels::at_word_end;
 use stress::levels::level_of;
 use stress::levels::look_back;
+use stress::levels::steps_taken;
 use stress::syllables::is_consonant_or_sign;
 use stress::syllables::syllable_by;
 
@@ -111,8 +112,8 @@ fn step(m: &[u8], i: usize, v: NameState, out: &mut [u8], t: &ClassTable) -> Nam
     }
 }
 
-// Writes the names of an accepted message, n of them, at the start of the output, and tells in how many
-// steps the levels were found.
+// Writes the names of an accepted message, n of them, at the start of the output, and tells in how
+// many steps the levels were found.
 fn fill_names(m: &[u8], out: &mut [u8], n: usize) -> usize
     requires { ⌜ NamesDue (now m) (now out) n ⌝ }
     ensures { λ k.
@@ -122,13 +123,13 @@ fn fill_names(m: &[u8], out: &mut [u8], n: usize) -> usize
     let t = class_table();
     let mut i = m.len();
     let at = put_end(m, i, n, out, &t);
-    let levels = look_back(m, i, at_word_end(0, false), &t);
+    let levels = look_back(m, i, at_word_end(0, 0, false), &t);
     let mut v = NameState { at, levels };
     while 0 < i {
         i -= 1;
         v = step(m, i, v, out, &t);
     }
-    v.levels.steps
+    steps_taken(v.levels)
 }
 
 // The naming operation (paper 01, pass 2): writes the syllable names of the message at the start of the lent output, or refuses and leaves every byte.

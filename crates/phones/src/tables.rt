@@ -790,6 +790,7 @@ const SOUNDS: SoundTable = [
     154, // palatalizing unused 63
 ];
 
+// The table of sounds.
 pub fn sound_table() -> SoundTable
     ensures { λ r. ⌜ r ≡ soundTable ⌝ }
 {

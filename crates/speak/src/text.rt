@@ -7,7 +7,7 @@ ghost use Rattle.spec.specs.Tape.{tape};
 ghost use Rattle.spec.specs.Editing.{edited};
 ghost use Rattle.spec.specs.Utf8.{decoded};
 ghost use Rattle.spec.specs.Printed.{printedAnswer, textAnswer, printedText};
-ghost use Rattle.console.specs.Putting.{Put};
+ghost use Rattle.console.specs.Putting.{Appended};
 use console::text::TEXT;
 use console::text::put_answer;
 use console::text::put_bytes;
@@ -36,7 +36,7 @@ fn edit_read(m: &[u8], plain: &mut [u8]) -> usize
 fn put_read(t: &[u8], read: &mut [u8], plain: &mut [u8], print: &mut [u8]) -> usize
     requires { ⌜ (length (now t) ≤ 65536) × (length (now read) ≡ 65536)
         × (length (now plain) ≡ 65536) × (32768 ≤ length (now print)) ⌝ }
-    ensures { λ r. ⌜ Put (printedAnswer (textAnswer (now (t .entry))) (tape (edited (decoded (now (t .entry)))))) (now (print .entry)) (now (print .exit)) 0 r ⌝ }
+    ensures { λ r. ⌜ Appended (printedAnswer (textAnswer (now (t .entry))) (tape (edited (decoded (now (t .entry)))))) (now (print .entry)) (now (print .exit)) 0 r ⌝ }
     ensures { λ r. ⌜ r ≤ 32768 ⌝ }
 {
     match read_utf8(t, read) {

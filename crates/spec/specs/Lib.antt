@@ -17,6 +17,7 @@ pub mod Answers
 pub mod Editing
 pub mod Utf8
 pub mod LevelSteps
+pub mod Layers
 pub mod SpokenLevels
 pub mod Listeners
 pub mod Book

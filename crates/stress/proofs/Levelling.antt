@@ -1,16 +1,18 @@
--- The run of the levels' step: a mark makes the vowel before it stressed, the vowel before that is of level 1, and those further left are of level 2, or 1 where the word has no mark. The
--- steps are those that the definition counts.
-use Rattle.laws.proofs.Kit.{ℕ, zero, suc, _+_, _<_, _≡_, refl, sym, ap, _∙_, Bool, true, false, true≢false, cond, _||_, not, arith, List, [], _∷_, length, getD, drop, drop-length, add-one}
+-- The run of the levels' step: a mark makes the vowel before it stressed, the vowel before that is of level 1, and those further left are
+-- of level 2, or 1 where the word has no mark. The steps are those that the definition counts.
+use Rattle.laws.proofs.Kit.{ℕ, zero, suc, _+_, _<_, _≡_, refl, sym, ap, _∙_, Bool, true, false, true≢false, cond, _||_, not, arith, List}
+use Rattle.laws.proofs.Kit.{[], _∷_, length, getD, drop, drop-length, add-one}
 use Rattle.spec.specs.Letters.{between, isBreak, isMark, beginsWithMark}
-use Rattle.spec.specs.{Refusals.vowelByte, Syllables.nextStressed, Syllables.levelOf, LevelSteps.backAt, LevelSteps.backTo, LevelSteps.levelSteps}
+use Rattle.spec.specs.{Refusals.vowelByte, Syllables.nextStressed, Syllables.levelOf, LevelSteps.backAt, LevelSteps.backTo}
+use Rattle.spec.specs.LevelSteps.{levelSteps}
 use Rattle.spec.specs.declared.Level.the-variants.{Stressed, First, Second}
 use Rattle.message.specs.{Classes.classes, Classes.classOf, Places.Steady, Places.letterOf, Places.wordAt}
 use Rattle.message.proofs.Left.{mark-within, begins-at, unmarked-after, word-letter, word-break, word-end}
 use Rattle.message.proofs.{Bytes.vowel-break, Bytes.vowel-mark, Bytes.not-both, Computed.everything}
 use Rattle.laws.proofs.{Classes.break-mark, Classes.break-vowel, Classes.either, LevelSteps.steps-suffice}
 use Rattle.stress.specs.{declared.LevelRun.LevelRun, Places.markBefore, Places.markedAt}
-use Rattle.stress.specs.Levels.{levelAt, countedBy, numbered, nearly, sinceBy, endRun, overVowel, overMark, overBreak, overLetter}
-use Rattle.stress.specs.Levels.{stepOver, StepDue, LookDue, Looked, LevelsAt}
+use Rattle.stress.specs.Levels.{levelAt, countedBy, numbered, nearly, sinceBy, endRun, overVowel, overMark}
+use Rattle.stress.specs.Levels.{overBreak, overLetter, stepsOf, turnOf, stepOver, StepDue, LookDue, Looked, LevelsAt}
 use Rattle.stress.proofs.Raw.{where-same}
 use Rattle.stress.proofs.Marked.{marked-within, marked-break, marked-end}
 
@@ -87,8 +89,16 @@ levels-due {m = m} {i} e steady h l = record {
   since = omega (arith, l .most, steady .short);
 }
 
+-- the steps can be added up
+pub levels-taken : {m : List ℕ} {i : ℕ} {s : LevelRun} → Steady m → LevelsAt m i s → stepsOf s < 65536
+levels-taken {m} steady l = omega (arith, l .steps, steps-suffice m .two, steady .short)
+
+-- and then the run stands where it stood
+pub levels-turn : {m : List ℕ} {i : ℕ} {s : LevelRun} → LevelsAt m i s → LevelsAt m i (turnOf s)
+levels-turn l = record { since = l .since; marked = l .marked; most = l .most; steps = omega (arith, l .steps) }
+
 -- the run that is over took the message's steps
-pub levels-done : {m : List ℕ} {s : LevelRun} → LevelsAt m 0 s → s .steps ≡ levelSteps m
+pub levels-done : {m : List ℕ} {s : LevelRun} → LevelsAt m 0 s → stepsOf s ≡ levelSteps m
 unfolding backTo
 levels-done l = omega (arith, l .steps)
 
@@ -149,30 +159,38 @@ module _ (m : List ℕ) (steady : Steady m) (i : ℕ) (h : i < length m) where
 
       -- where the step may be taken ahead
       pub break-due : {t : List ℕ} → t ≡ classes → LookDue t m i (stepOver s (getD m i 0))
-      break-due e = rw over-break (record { table = e; steady = steady; within = omega (arith, h); steps = omega (arith, l .steps, steps-suffice m .two); since = refl; marked = refl })
+      break-due e = rw over-break (record {
+        table = e;
+        steady = steady;
+        within = omega (arith, h);
+        steps = omega (arith, l .steps, steps-suffice m .two);
+        since = refl;
+        marked = refl;
+      })
 
       -- after which the run stands there
       pub levels-break : {q : LevelRun} → Looked m i (stepOver s (getD m i 0)) q → LevelsAt m i q
       unfolding nextStressed
       levels-break a =
           let e = ap (λ x. x .steps) over-break in
+          let f = ap (λ x. x .before) over-break in
           record {
             since = rw (a .since, begins-at m i, break-mark (getD m i 0) b, word-break m steady i h b);
             marked = a .marked ∙ sym (marked-break m steady i h b);
             most = omega (arith, a .since, h);
-            steps = omega (arith, a .steps, e, l .steps, ends-break m i b);
+            steps = omega (arith, a .steps, a .before, e, f, l .steps, ends-break m i b);
           }
 
 -- so it may at the message's end
-pub end-due : {t m : List ℕ} → t ≡ classes → Steady m → LookDue t m (length m) (endRun 0 false)
+pub end-due : {t m : List ℕ} → t ≡ classes → Steady m → LookDue t m (length m) (endRun 0 0 false)
 end-due e steady = record { table = e; steady = steady; within = omega arith; steps = omega arith; since = refl; marked = refl }
 
 -- where the run begins
-pub levels-end : {m : List ℕ} → Steady m → {q : LevelRun} → Looked m (length m) (endRun 0 false) q → LevelsAt m (length m) q
+pub levels-end : {m : List ℕ} → Steady m → {q : LevelRun} → Looked m (length m) (endRun 0 0 false) q → LevelsAt m (length m) q
 unfolding nextStressed beginsWithMark levelSteps
 levels-end {m} steady a = record {
   since = rw (a .since, drop-length m, word-end m steady);
   marked = a .marked ∙ sym (marked-end m steady);
   most = omega (arith, a .since);
-  steps = omega (arith, a .steps);
+  steps = omega (arith, a .steps, a .before);
 }

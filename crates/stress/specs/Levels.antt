@@ -46,24 +46,48 @@ abbrev pub sinceBy : Bool → Bool → ℕ
 sinceBy stressed ahead = cond stressed 0 (cond ahead 1 2)
 
 -- the run at a word's end, after so many steps, with what is known of the word's marks
-abbrev pub endRun : ℕ → Bool → LevelRun
-endRun steps marked = record { steps = steps; since = 2; marked = marked; edge = true }
+abbrev pub endRun : ℕ → ℕ → Bool → LevelRun
+endRun before steps marked =
+    record { before = before; steps = steps; since = 2; marked = marked; edge = true }
 
 -- one step, over byte b: a vowel is a syllable more, a mark is where to count from, at a break another word ends
 abbrev pub overVowel : LevelRun → LevelRun
-overVowel s = record { steps = s .steps + 1; since = s .since + 1; marked = s .marked; edge = false }
+overVowel s =
+    record {
+      before = s .before;
+      steps = s .steps + 1;
+      since = s .since + 1;
+      marked = s .marked;
+      edge = false;
+    }
 
 abbrev pub overMark : LevelRun → LevelRun
-overMark s = record { steps = s .steps + 1; since = 0; marked = true; edge = true }
+overMark s =
+    record { before = s .before; steps = s .steps + 1; since = 0; marked = true; edge = true }
 
 abbrev pub overBreak : LevelRun → LevelRun
-overBreak s = endRun (s .steps + 1) false
+overBreak s = endRun (s .before) (s .steps + 1) false
 
 abbrev pub overLetter : LevelRun → LevelRun
-overLetter s = record { steps = s .steps + 1; since = s .since; marked = s .marked; edge = false }
+overLetter s =
+    record {
+      before = s .before;
+      steps = s .steps + 1;
+      since = s .since;
+      marked = s .marked;
+      edge = false;
+    }
 
 abbrev pub stepOver : LevelRun → ℕ → LevelRun
 stepOver s b = cond (vowelByte b) (overVowel s) (cond (isMark b) (overMark s) (cond (isBreak b) (overBreak s) (overLetter s)))
+
+-- all steps that were taken, and the run where the next turn of a walk begins
+abbrev pub stepsOf : LevelRun → ℕ
+stepsOf s = s .before + s .steps
+
+abbrev pub turnOf : LevelRun → LevelRun
+turnOf s =
+    record { before = stepsOf s; steps = 0; since = s .since; marked = s .marked; edge = s .edge }
 
 -- the step may be taken over byte b: it is one of an accepted message, and the counts have room
 pub record StepDue (t : List ℕ) (s : LevelRun) (b : ℕ) : Type 0 where
@@ -81,15 +105,18 @@ pub record LookDue (t m : List ℕ) (i : ℕ) (s : LevelRun) : Type 0 where
   pub since : s .since ≡ 2
   pub marked : s .marked ≡ false
 
--- it was taken ahead: whether the word has a mark is known, by a step for each byte back to and with its last mark or the break before it
+-- it was taken ahead: whether the word has a mark is known, by a step for each byte back to and
+-- with its last mark or the break before it
 pub record Looked (m : List ℕ) (i : ℕ) (s q : LevelRun) : Type 0 where
   pub since : q .since ≡ 2
   pub marked : q .marked ≡ markBefore m i
   pub steps : q .steps ≡ s .steps + backAt m i
+  pub before : q .before ≡ s .before
 
--- s is the run at place i, where it tells the levels to the left: what is left to step over are the bytes before it, and what the words' ends before it look back over
+-- s is the run at place i, where it tells the levels to the left: what is left to step over are the
+-- bytes before it, and what the words' ends before it look back over
 pub record LevelsAt (m : List ℕ) (i : ℕ) (s : LevelRun) : Type 0 where
   pub since : nearly (s .since) ≡ sinceBy (beginsWithMark (drop i m)) (nextStressed (wordAt m i))
   pub marked : s .marked ≡ markedAt m i
   pub most : s .since + i ≤ length m + 2
-  pub steps : s .steps + (i + backTo m i) ≡ levelSteps m
+  pub steps : stepsOf s + (i + backTo m i) ≡ levelSteps m

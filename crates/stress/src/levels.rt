@@ -1,10 +1,13 @@
-// The levels of vowels (paper 01, pass 2), found by a running step (paper 02, request 3), for both walks, which go from the message's end to its start. The step takes one byte, and of
-// the message it knows what its state carries, counts and flags. A walk takes it over each byte once; at the end of a word it is first taken ahead, back to the word's last mark or to the
-// break before it, to learn whether the word has a mark. How many steps these are
-// `levelSteps` says (crates/spec/specs/LevelSteps.antt); no byte is stepped over more than twice.
+// The levels of vowels (paper 01, pass 2), found by a running step (paper 02, request 3), for both
+// walks, which go from the message's end to its start. The step takes one byte, and of the message
+// it knows what its state carries, counts and flags. A walk takes it over each byte once; at the
+// end of a word it is first taken ahead, back to the word's last mark or to the break before it, to
+// learn whether the word has a mark. How many steps these are `levelSteps` says
+// (crates/spec/specs/LevelSteps.antt); no byte is stepped over more than twice.
 ghost use mathlib.Core.Path.{_≡_};
-ghost use Rattle.stress.specs.Levels.{Least, countedBy, numbered, endRun, stepOver, StepDue};
-ghost use Rattle.stress.specs.Levels.{LookDue, Looked};
+ghost use Prim.Native.Nat.{_<_};
+ghost use Rattle.stress.specs.Levels.{Least, countedBy, numbered, endRun, stepOver};
+ghost use Rattle.stress.specs.Levels.{stepsOf, turnOf, StepDue, LookDue, Looked};
 use crate::LevelRun;
 use message::alphabet;
 use message::classes;
@@ -16,10 +19,11 @@ use spec::Level;
 const FAR: usize = 2;
 
 // The run at a word's end, after so many steps, with what is known of the word's marks.
-pub fn at_word_end(steps: usize, marked: bool) -> LevelRun
-    ensures { λ r. ⌜ r ≡ endRun steps marked ⌝ }
+pub fn at_word_end(before: usize, steps: usize, marked: bool) -> LevelRun
+    ensures { λ r. ⌜ r ≡ endRun before steps marked ⌝ }
 {
     LevelRun {
+        before,
         steps,
         since: FAR,
         marked,
@@ -33,10 +37,12 @@ pub fn step(s: LevelRun, b: u8, t: &ClassTable) -> LevelRun
     ensures { λ r. ⌜ r ≡ stepOver s b ⌝ }
 {
     let c = class_of(b, t);
+    let before = s.before;
     let steps = s.steps + 1;
     let marked = s.marked;
     if classes::PLAIN_VOWEL <= c {
         return LevelRun {
+            before,
             steps,
             since: s.since + 1,
             marked,
@@ -45,6 +51,7 @@ pub fn step(s: LevelRun, b: u8, t: &ClassTable) -> LevelRun
     }
     if classes::FIRST_LETTER <= c {
         return LevelRun {
+            before,
             steps,
             since: s.since,
             marked,
@@ -53,13 +60,14 @@ pub fn step(s: LevelRun, b: u8, t: &ClassTable) -> LevelRun
     }
     if b == alphabet::MARK {
         return LevelRun {
+            before,
             steps,
             since: 0,
             marked: true,
             edge: true,
         };
     }
-    at_word_end(steps, false)
+    at_word_end(before, steps, false)
 }
 
 // Takes the step ahead from the end of a word, place i, until a mark or a break is met.
@@ -73,10 +81,34 @@ pub fn look_back(m: &[u8], i: usize, s: LevelRun, t: &ClassTable) -> LevelRun
         j -= 1;
         ahead = step(ahead, m[j], t);
         if ahead.edge {
-            return at_word_end(ahead.steps, ahead.marked);
+            return at_word_end(ahead.before, ahead.steps, ahead.marked);
         }
     }
-    at_word_end(ahead.steps, false)
+    at_word_end(ahead.before, ahead.steps, false)
+}
+
+// All steps that were taken.
+pub fn steps_taken(s: LevelRun) -> usize
+    requires { ⌜ stepsOf s < 65536 ⌝ }
+    ensures { λ r. ⌜ r ≡ stepsOf s ⌝ }
+{
+    s.before + s.steps
+}
+
+// The run where a turn of the walk begins: its steps are counted apart and then added. So the count
+// that the walk carries is changed at one place only, and the compiler can leave it out.
+pub fn begin_turn(s: LevelRun) -> LevelRun
+    requires { ⌜ stepsOf s < 65536 ⌝ }
+    ensures { λ r. ⌜ r ≡ turnOf s ⌝ }
+{
+    let before = steps_taken(s);
+    LevelRun {
+        before,
+        steps: 0,
+        since: s.since,
+        marked: s.marked,
+        edge: s.edge,
+    }
 }
 
 // The smaller of two numbers.

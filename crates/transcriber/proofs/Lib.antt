@@ -1,3 +1,4 @@
 pub mod Fused
 pub mod Tail
 pub mod Walking
+pub mod Promised

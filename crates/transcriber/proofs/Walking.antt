@@ -7,16 +7,17 @@ use Rattle.message.specs.Classes.{classes, classOf, isBreakClass, isSignClass, 
 use Rattle.message.specs.Places.{Steady, letterOf, wordAt}
 use Rattle.message.proofs.Left.{mark-within, word-letter, word-mark, word-break, word-end}
 use Rattle.message.proofs.{Bytes.by-class, Computed.everything, StepTable.class-spoken, Silent.elided-at}
-use Rattle.laws.proofs.{Classes.cond-same, Codes.vowel-sound, MarkIndex.sound-range, Putting.Put, Putting.put-none, Classes.below}
+use Rattle.laws.proofs.{Classes.cond-same, Codes.vowel-sound, MarkIndex.sound-range, Putting.put-none, Classes.below}
+use Rattle.laws.specs.Putting.{Put}
 use Rattle.phones.specs.Sounds.{toneBefore, consonantCode, toneBy, codeBy, Tells, codeBefore, Heard, soundTable}
 use Rattle.phones.specs.VowelSounds.{vowelCodes, VowelAt, Sung, sungCodes}
 use Rattle.transcriber.specs.{Fused.letterCodes, declared.Right.Right}
 use Rattle.stress.specs.{Places.leftAt, Places.syllableAt, declared.LevelRun.LevelRun}
 use Rattle.transcriber.specs.Places.{tapeAt, toneAt, soundAt, codesAt, toneAfter, soundAfter}
-use Rattle.transcriber.specs.Walk.{Stands, pieceAt, Ready, ReadyFor, Stepped}
+use Rattle.transcriber.specs.Walk.{Stands, begunOf, pieceAt, Ready, ReadyFor, Stepped}
 use Rattle.stress.specs.Levels.{countedBy, numbered, endRun, stepOver, StepDue, LookDue, Looked}
 use Rattle.phones.specs.declared.Vowel.{Vowel}
-use Rattle.stress.proofs.Levelling.{levels-found, levels-due, levels-over, break-due, levels-break, levels-end}
+use Rattle.stress.proofs.Levelling.{levels-found, levels-due, levels-over, break-due, levels-break, levels-end, levels-turn}
 use Rattle.stress.proofs.{Raw.where-same, Left.left-last}
 use Rattle.phones.proofs.SoundTable.{code-read}
 use Rattle.transcriber.proofs.Tail.{tape-letter, tape-mark, tape-break, tone-letter, sound-letter, tone-mark, sound-mark, tone-break}
@@ -267,5 +268,14 @@ module _ {m out : List ℕ} {i c : ℕ} {r : Right} (a : ReadyFor isVowelClass m
     vowel-steps f e l q = letter-steps (a .ready) vowel-spelt sung-codes (rw (e, f) (first-tells _ _ _)) l q
 
 -- what stands right of the message's end
-pub stands-end : {m : List ℕ} → Steady m → {n : ℕ} {l : LevelRun} → Looked m (length m) (endRun 0 false) l → Stands m (length m) (record { at = n; sound = 0; levels = l })
+pub stands-end : {m : List ℕ} → Steady m → {n : ℕ} {l : LevelRun} → Looked m (length m) (endRun 0 0 false) l
+    → Stands m (length m) (record { at = n; sound = 0; levels = l })
 stands-end {m} steady e = record { sound = rw (tone-end m steady, sound-end m steady, word-end m steady, none-softens) (tells-end false); levels = levels-end steady e }
+
+-- where a turn begins the same stands right of the place
+stands-begun : {m : List ℕ} {i : ℕ} {r : Right} → Stands m i r → Stands m i (begunOf r)
+stands-begun s = record { sound = s .sound; levels = levels-turn (s .levels) }
+
+-- so the byte at the place may be stepped to
+pub ready-begun : {m out : List ℕ} {i : ℕ} {r : Right} → Ready m out i r → Ready m out i (begunOf r)
+ready-begun y = record { within = y .within; steady = y .steady; stands = stands-begun (y .stands); room = y .room; place = y .place }

@@ -13,7 +13,7 @@ use Rattle.message.specs.Places.{Steady, wordAt}
 use Rattle.message.specs.Filling.{MayStep, DidStep}
 use Rattle.message.specs.Classes.{classes, classOf, isBreakClass}
 use Rattle.transcriber.specs.Places.{toneAt, soundAt, codesAt}
-use Rattle.stress.specs.Levels.{stepOver, LevelsAt}
+use Rattle.stress.specs.Levels.{stepOver, turnOf, LevelsAt}
 use Rattle.phones.specs.Sounds.{soundTable, Tells}
 use Rattle.stress.specs.declared.LevelRun.{LevelRun}
 use Rattle.transcriber.specs.declared.Right.{Right}
@@ -33,6 +33,10 @@ pub record ClassAt (m : List ℕ) (i c : ℕ) : Type 0 where
 pub record Stands (m : List ℕ) (i : ℕ) (r : Right) : Type 0 where
   pub sound : Tells (r .sound) (softens (firstByte (wordAt m i))) (toneAt m i) (soundAt m i)
   pub levels : LevelsAt m i (r .levels)
+
+-- the same where a turn of the walk begins
+abbrev pub begunOf : Right → Right
+begunOf r = record { at = r .at; sound = r .sound; levels = turnOf (r .levels) }
 
 -- what the byte at place i puts on the tape
 unfoldable pub pieceAt : List ℕ → ℕ → List ℕ

@@ -1,23 +1,25 @@
 // The transcriber: one walk over the message from its end, which writes the tape from its end.
 ghost use mathlib.Core.Path.{_≡_};
-ghost use Prim.Native.Nat.{_≤_};
+ghost use Prim.Native.Nat.{_<_, _≤_};
 ghost use lib.ListN.{length};
 ghost use Rattle.message.specs.Classes.{classes, isConsonantClass, isVowelClass, elidedAt};
 ghost use Rattle.spec.specs.Tape.{tape};
 ghost use Rattle.spec.specs.LevelSteps.{levelSteps};
 ghost use Rattle.spec.specs.Answers.{TranscribePromise};
-ghost use Rattle.laws.proofs.Putting.{Put};
+ghost use Rattle.spec.specs.Layers.{TapeDue, TapePromise};
+ghost use Rattle.laws.specs.Putting.{Put};
 ghost use Rattle.phones.specs.VowelSounds.{sungCodes};
-ghost use Rattle.transcriber.specs.Walk.{Lent, ClassAt, Ready, ReadyFor, BreakReady, Stepped};
-ghost use Rattle.transcriber.specs.Walk.{MayWrite};
+ghost use Rattle.stress.specs.Levels.{stepsOf};
+ghost use Rattle.transcriber.specs.Walk.{begunOf, Lent, ClassAt, Ready, ReadyFor, BreakReady};
+ghost use Rattle.transcriber.specs.Walk.{Stepped, MayWrite};
 use crate::Right;
+use crate::tables::lay_tables;
 use message::alphabet;
 use message::answers::refused;
 use message::check::check;
 use message::classes;
 use message::classes::ClassTable;
 use message::classify::class_of;
-use message::classify::class_table;
 use message::letters::is_elided;
 use message::output::put;
 use phones::Vowel;
@@ -28,7 +30,6 @@ use phones::consonants::seen_over;
 use phones::consonants::sound_of;
 use phones::consonants::sound_over_gap;
 use phones::tables::SoundTable;
-use phones::tables::sound_table;
 use phones::vowels::first_code;
 use phones::vowels::vowel_at;
 use spec::Answer;
@@ -38,8 +39,10 @@ use stress::LevelRun;
 use stress::before::class_before;
 use stress::levels;
 use stress::levels::at_word_end;
+use stress::levels::begin_turn;
 use stress::levels::level_of;
 use stress::levels::look_back;
+use stress::levels::steps_taken;
 
 // A break puts its mark, and left of it stands another word. c is its class, and passed the run of the levels over it.
 fn put_break(
@@ -171,16 +174,27 @@ fn step(m: &[u8], i: usize, r: Right, out: &mut [u8], t: &ClassTable, s: &SoundT
     put_break(m, i, c, r, levels, out, t, s)
 }
 
+// The same where a turn of the walk begins.
+fn begun(r: Right) -> Right
+    requires { ⌜ stepsOf (r .levels) < 65536 ⌝ }
+    ensures { λ q. ⌜ q ≡ begunOf r ⌝ }
+{
+    let at = r.at;
+    let sound = r.sound;
+    let levels = begin_turn(r.levels);
+    Right { at, sound, levels }
+}
+
 // Puts the tape of an accepted message right before place end of the output, and tells what stands right of the message's start: where the tape begins, and in how many steps the levels
 // were found. It is the one caller of the step, so that the state stays in registers.
 fn walk(m: &[u8], out: &mut [u8], end: usize, t: &ClassTable, s: &SoundTable) -> Right
     requires { ⌜ MayWrite (now t) (now s) (now m) (now out) end ⌝ }
     ensures { λ r.
         ⌜ Put (tape (now (m .entry))) (now (out .entry)) (now (out .exit)) end (r .at)
-        × (r .levels .steps ≡ levelSteps (now (m .entry))) ⌝ }
+        × (stepsOf (r .levels) ≡ levelSteps (now (m .entry))) ⌝ }
 {
     let mut i = m.len();
-    let levels = look_back(m, i, at_word_end(0, false), t);
+    let levels = look_back(m, i, at_word_end(0, 0, false), t);
     let mut r = Right {
         at: end,
         sound: VOICELESS_END,
@@ -188,19 +202,26 @@ fn walk(m: &[u8], out: &mut [u8], end: usize, t: &ClassTable, s: &SoundTable) ->
     };
     while 0 < i {
         i -= 1;
-        r = step(m, i, r, out, t, s);
+        r = step(m, i, begun(r), out, t, s);
     }
     r
 }
 
-// Puts the tape of an accepted message right before place end of the output, and tells where it begins. The tables are lent, since a copy of them for each part of a message would cost
-// more than the part.
-pub fn write_tape(m: &[u8], out: &mut [u8], end: usize, t: &ClassTable, s: &SoundTable) -> usize
-    requires { ⌜ MayWrite (now t) (now s) (now m) (now out) end ⌝ }
-    ensures { λ r. ⌜ Put (tape (now (m .entry))) (now (out .entry)) (now (out .exit)) end r ⌝ }
+// Puts the tape of an accepted message right before place end of the output, and tells in how many
+// steps the levels were found. The tables are lent, since a copy of them for each part of a message
+// would cost more than the part.
+pub fn write_tape<'a>(
+    m: &[u8],
+    out: &mut [u8],
+    end: usize,
+    t: &'a ClassTable,
+    s: &'a SoundTable,
+) -> usize
+    requires { ⌜ Lent (now t) (now s) × TapeDue (now m) (now out) end ⌝ }
+    ensures { λ k. ⌜ TapePromise (now (m .entry)) (now (out .entry)) (now (out .exit)) end k ⌝ }
 {
     let r = walk(m, out, end, t, s);
-    r.at
+    steps_taken(r.levels)
 }
 
 // The transcriber (paper 01): writes the tape of the message at the start of the lent output, or refuses and leaves every byte.
@@ -218,8 +239,7 @@ pub fn transcribe(m: &[u8], out: &mut [u8]) -> Answer
             place: n,
         });
     }
-    let t = class_table();
-    let s = sound_table();
-    write_tape(m, out, n, &t, &s);
+    let tables = lay_tables();
+    write_tape(m, out, n, &tables.bytes, &tables.sounds);
     Answer::Written { length: n, live: 0 }
 }

@@ -5,7 +5,7 @@ use Rattle.spec.specs.Letters.{between}
 use Rattle.spec.specs.Tables.{among}
 use Rattle.spec.specs.Utf8.{asciiBytes, characters, rowBytes, hasRow, sequence, byteOf, isTaken}
 use Rattle.laws.proofs.Classes.{either, refuted, below-same, among-same, among-none}
-use Rattle.laws.proofs.Edited.{breaks}
+use Rattle.laws.specs.Edited.{breaks}
 use Rattle.utf8.specs.Tables.{leadOf, leads, letterOf, letters, both, sequenceOf, sequences}
 use Rattle.message.proofs.StepTable.{tabulate-read}
 use Rattle.spec.proofs.Computed.{everything}

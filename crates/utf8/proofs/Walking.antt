@@ -4,7 +4,8 @@ use Rattle.spec.specs.Tables.{among}
 use Rattle.spec.specs.Utf8.{asciiBytes, hasRow, sequence, byteOf, isTaken, encoded, decoded, readTo, AllRows}
 use Rattle.laws.proofs.Classes.{either, below-or}
 use Rattle.laws.proofs.Utf8.{read-most, decoded-size, taken-octets, encoded-append}
-use Rattle.laws.proofs.Putting.{Put, put-none, put-at, put-behind, put-length}
+use Rattle.laws.proofs.Putting.{put-none, put-at, put-behind, put-length}
+use Rattle.laws.specs.Putting.{Put}
 use Rattle.utf8.specs.Walk.{Stands, Reaches}
 use Rattle.utf8.proofs.Sequences.{single-taken, single-byte, large-other, lead-within}
 

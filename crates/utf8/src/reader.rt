@@ -4,7 +4,7 @@ ghost use Prim.Native.Nat.{_+_, _≤_};
 ghost use lib.ListN.{length};
 ghost use Rattle.spec.specs.Tables.{among};
 ghost use Rattle.spec.specs.Utf8.{asciiBytes, decoded, ReadPromise};
-ghost use Rattle.laws.proofs.Putting.{Put};
+ghost use Rattle.laws.specs.Putting.{Put};
 ghost use Rattle.utf8.specs.Tables.{leads, letters};
 ghost use Rattle.utf8.specs.Walk.{Stands, Reaches};
 use crate::Extent;

@@ -6,7 +6,7 @@ ghost use lib.ListN.{length};
 ghost use Rattle.spec.specs.Refusals.{NoneFits};
 ghost use Rattle.spec.specs.Answers.{within, Promise};
 ghost use Rattle.spec.specs.Utf8.{hasRow, sequence, encoded, AllRows, WritePromise};
-ghost use Rattle.laws.proofs.Putting.{Put};
+ghost use Rattle.laws.specs.Putting.{Put};
 ghost use Rattle.utf8.specs.Tables.{sequences};
 use crate::tables::SequenceTable;
 use crate::tables::octets;

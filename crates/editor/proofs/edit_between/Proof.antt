@@ -1,6 +1,7 @@
 -- An output as long as the text is long enough; a shorter one is held against the length of what is edited.
 use Rattle.laws.proofs.Kit.{_≤_, _≡_, ⊎-elim, arith, length, needs}
-use Rattle.laws.proofs.Edited.{editFrom, walk-length}
+use Rattle.laws.proofs.Edited.{walk-length}
+use Rattle.laws.specs.Edited.{editFrom}
 use Rattle.laws.proofs.{Promises.promised-short, Promises.promised-written, Putting.put-first}
 use Rattle.editor.proofs.edit_between.Statement.{statement}
 use Rattle.editor.proofs.edit_between.Tie as tie

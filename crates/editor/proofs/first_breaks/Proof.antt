@@ -1,6 +1,6 @@
 -- Each turn passes one break more, or ends at the first other byte.
 use Rattle.laws.proofs.Kit.{_-_, sym, _∙_, arith, length, needs}
-use Rattle.laws.proofs.Edited.{breaks}
+use Rattle.laws.specs.Edited.{breaks}
 use Rattle.editor.proofs.Walking.{Counting, counting-none, counting-more, counting-stop, counting-end}
 use Rattle.editor.proofs.first_breaks.Statement.{statement}
 use Rattle.editor.proofs.first_breaks.Tie as tie

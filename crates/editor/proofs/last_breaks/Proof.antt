@@ -1,6 +1,6 @@
 -- Behind the place all bytes are breaks; each turn goes one further back, or ends at another byte.
 use Rattle.laws.proofs.Kit.{sym, _∙_, arith, needs}
-use Rattle.laws.proofs.Edited.{breaks}
+use Rattle.laws.specs.Edited.{breaks}
 use Rattle.editor.specs.Walk.{Trailing}
 use Rattle.editor.proofs.Walking.{trailing-none, trailing-more}
 use Rattle.editor.proofs.last_breaks.Statement.{statement}

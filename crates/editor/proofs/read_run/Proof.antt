@@ -1,7 +1,7 @@
 -- Each turn takes one break more into the run, or ends at the first other byte, which is before the end.
 use Rattle.laws.proofs.Kit.{_-_, _<_, refl, sym, _∙_, arith, length, needs}
 use Rattle.spec.specs.Letters.{isBreak}
-use Rattle.laws.proofs.Edited.{breaks}
+use Rattle.laws.specs.Edited.{breaks}
 use Rattle.editor.proofs.Walking.{counting-none, counting-within, Running, running-pause, running-gap, running-stop}
 use Rattle.editor.proofs.read_run.Statement.{statement}
 use Rattle.editor.proofs.read_run.Tie as tie

@@ -4,7 +4,7 @@ use Rattle.laws.proofs.Putting.{put-length, put-rest, put-first}
 use Rattle.stress.specs.Levels.{LevelsAt}
 use Rattle.naming.specs.Names.{namesAt, namePiece}
 use Rattle.message.proofs.Filling.{Writing, writing-length, writing-ready, writing-more}
-use Rattle.stress.proofs.Levelling.{levels-done, end-due}
+use Rattle.stress.proofs.Levelling.{levels-done, levels-taken, end-due}
 use Rattle.naming.proofs.{Namings.end-ends, Namings.naming-none, Names.names-start}
 use Rattle.naming.proofs.fill_names.Statement.{statement}
 use Rattle.naming.proofs.fill_names.Tie as tie
@@ -21,17 +21,19 @@ settled l = l .before .before .before .before .before .before
 
 same-length : tie.Need-same-length Inv-loop μ-loop
 same-length c =
-    let e = settled (c .before) in
-    writing-length (c .before .loop .inv) ∙ put-length _ _ _ _ _ (e .before .before .before .before .before .before .pre .room) (e .put-end .ensures)
+    let l = c .before .before in
+    let e = settled l in
+    writing-length (l .loop .inv) ∙
+    put-length _ _ _ _ _ (e .before .before .before .before .before .before .pre .room) (e .put-end .ensures)
 
 returns : tie.Need-returns Inv-loop μ-loop
 returns c =
-    let l = c .before .loop in
-    let p = settled (c .before) in
+    let l = c .before .before .loop in
+    let p = settled (c .before .before) in
     let s = p .before .before .before .before .before .before in
-    let e : l .i ≡ 0 = omega (arith, c .loop-test .left) in (
+    let e : l .i ≡ 0 = omega (arith, c .before .loop-test .left) in (
       rw (put-rest _ _ _ _ _ (s .pre .room) (p .put-end .ensures)) at (put-first _ _ _ _ _ (s .pre .total) (rw (e, names-start (s .args .m .now) (s .pre .steady)) at (l .inv .put))),
-      levels-done (rw e at (l .inv .stands)),
+      c .steps-taken .ensures ∙ levels-done (rw e at (l .inv .stands)),
     )
 
 pub fill-names-spec : {M : Type 1} → statement M
@@ -47,5 +49,7 @@ fill-names-spec =
     (λ c κs. let l = c .before .before .before in (settled l .before .before .before .class-table .ensures, writing-ready (l .loop .inv) (c .before .before .loop-test .taken)))
     (λ c. omega arith)
     (λ c. let n = c .before .before in let k = n .before .before .before in writing-more (k .before .loop .inv) (k .loop-test .taken) (n .step .ensures))
+    (λ c κs. let l = c .before in
+    levels-taken (settled l .before .before .before .before .before .before .pre .steady) (l .loop .inv .stands))
     same-length
     returns)

@@ -3,7 +3,7 @@ use Rattle.laws.proofs.Kit.{_≤_, _≡_, sym, _∙_, arith, length, length-tak
 use Rattle.spec.specs.Book.{addAnswer, afterListener}
 use Rattle.spec.specs.{Tape.tape, Refusals.checkOf, declared.Checked.the-variants.Accepted}
 use Rattle.laws.proofs.{Accepted.accepted-counts, Accepted.accepted-passes, Sizes.tape-size}
-use Rattle.message.proofs.{Answering.answered-refused, Steadiness.accepted-steady}
+use Rattle.message.proofs.Answering.{answered-refused}
 use Rattle.book.proofs.Promised.{add-refused, add-short, add-written}
 use Rattle.book.proofs.adding.append.Statement.{statement}
 use Rattle.book.proofs.adding.append.Tie as tie
@@ -26,9 +26,9 @@ write-record-requires c κs =
     let e = c .before in
     let j = e .before .before .before in
     let k = j .before .before .before .before .before in
-    let s = k .before .before .before .before .before in
     record {
-      steady = accepted-steady (s .args .m .now) (k .checked .given .0 .0) (accepted k) (λ i. omega (arith, k .before .before .before .shared-slice-known .given i));
+      counts = k .checked .given .0 .0;
+      accepted = accepted k;
       codes = counted k;
       few = omega (arith, few k);
       number = omega arith;

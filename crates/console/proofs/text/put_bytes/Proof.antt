@@ -1,12 +1,12 @@
 -- The bytes put so far are those before place i; each turn puts the byte there.
 use Rattle.laws.proofs.Kit.{_-_, _≤_, arith, add-one, _≡_, length, take, take-suc, take-all, length-take-le}
-use Rattle.console.specs.Putting.{Put}
+use Rattle.console.specs.Putting.{Appended}
 use Rattle.console.proofs.Texts.{put-none, put-over}
 use Rattle.console.proofs.text.put_bytes.Statement.{statement}
 use Rattle.console.proofs.text.put_bytes.Tie as tie
 
 abbrev Inv-loop : tie.InvT-loop
-Inv-loop text₀ at bytes end₀ i₀ text end i = (i ≤ length bytes) × (length text ≡ length text₀) × Put (take i bytes) text₀ text at end
+Inv-loop text₀ at bytes end₀ i₀ text end i = (i ≤ length bytes) × (length text ≡ length text₀) × Appended (take i bytes) text₀ text at end
 
 abbrev μ-loop : tie.MeasureT-loop
 μ-loop text₀ at bytes end₀ i₀ text end i = length bytes - i

@@ -1,12 +1,12 @@
 -- The codes put so far stand in the text, and each turn puts one more.
 use Rattle.laws.proofs.Kit.{suc, _-_, _≤_, arith, add-one, _≡_, length, length-append}
-use Rattle.console.specs.Putting.{Put}
+use Rattle.console.specs.Putting.{Appended}
 use Rattle.console.proofs.Texts.{put-none, put-over, printedTo, to-size, printed-all}
 use Rattle.console.proofs.text.put_codes.Statement.{statement}
 use Rattle.console.proofs.text.put_codes.Tie as tie
 
 abbrev Inv-loop : tie.InvT-loop
-Inv-loop codes text₀ at₀ i₀ text at i = (i ≤ length codes) × (length text ≡ length text₀) × Put (printedTo codes i) text₀ text 0 at
+Inv-loop codes text₀ at₀ i₀ text at i = (i ≤ length codes) × (length text ≡ length text₀) × Appended (printedTo codes i) text₀ text 0 at
 
 abbrev μ-loop : tie.MeasureT-loop
 μ-loop codes text₀ at₀ i₀ text at i = length codes - i

@@ -12,9 +12,10 @@ accepted c = let d = c .before .before in sym (d .before .before .check .ensures
 
 write-joined-requires : tie.Need-write-joined-requires
 write-joined-requires c κs =
-    let f = c .before .before .before .before .before in
+    let t = c .before .before .before .before in
+    let f = t .before in
     let b = f .before .before in (
-      search needs,
+      t .lay-tables .ensures,
       tape-due _ _ _ (accepted b) (b .bad-cut .ensures) (f .before .if1 .left) (f .if2 .left) (λ j. omega (arith, b .before .before .before .before .before .before .before .shared-slice-known .given j)),
     )
 
@@ -23,7 +24,8 @@ returns-4 c =
     let w = c .before .before in
     let f = w .before .before .before .before .before .before in
     let b = f .before .before in
-    join-written _ _ _ (accepted b) (b .bad-cut .ensures) (f .before .if1 .left) (f .if2 .left) (w .write-joined .last .1 .1 .0) _ (w .write-joined .ensures)
+    let j = w .write-joined in
+    join-written _ _ _ (accepted b) (b .bad-cut .ensures) (f .before .if1 .left) (f .if2 .left) (j .last .1 .1 .0) (j .result) (j .ensures)
 
 pub join-spec : {M : Type 1} → statement M
 unfolding joinAnswer
@@ -35,8 +37,8 @@ join-spec =
     (search needs)
     (λ c. let b = c .before in join-cut _ _ _ (accepted b) (b .bad-cut .ensures) (c .if1 .taken))
     (λ c. let b = c .before .before in join-short _ _ _ (accepted b) (b .bad-cut .ensures) (c .before .if1 .left) (c .if2 .taken))
-    (search needs) (search needs) (search needs)
-    (λ c. sym (length-take-le _ _ (c .before .before .before .if2 .left)))
+    (search needs) (search needs)
+    (λ c. sym (length-take-le _ _ (c .before .before .if2 .left)))
     write-joined-requires
     (search needs)
     returns-4)

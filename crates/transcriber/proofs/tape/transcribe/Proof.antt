@@ -1,8 +1,9 @@
 -- The check's refusal is answered, then a lent output that is too short; an accepted message is steady and has as many codes as the check counted, so its tape is written.
 use Rattle.laws.proofs.Kit.{_≡_, sym, _∙_, arith, length, needs}
 use Rattle.spec.specs.{Tape.tape, Refusals.checkOf, Answers.tapeAnswer, declared.Checked.the-variants.Accepted}
-use Rattle.laws.proofs.{Accepted.accepted-counts, Putting.put-first}
-use Rattle.message.proofs.{Answering.answered-refused, Answering.answered-short, Answering.answered-written, Steadiness.accepted-steady}
+use Rattle.laws.proofs.Accepted.{accepted-counts}
+use Rattle.message.proofs.Answering.{answered-refused, answered-short, answered-written}
+use Rattle.transcriber.proofs.Promised.{tape-first}
 use Rattle.transcriber.proofs.tape.transcribe.Statement.{statement}
 use Rattle.transcriber.proofs.tape.transcribe.Tie as tie
 
@@ -16,16 +17,11 @@ counted c = accepted-counts (c .before .before .before .before .before .args .m 
 
 write-tape-requires : tie.Need-write-tape-requires
 write-tape-requires c κs =
-    let a = c .before .before .before in
-    let e = a .before .before in
+    let a = c .before .before .before .before in
+    let e = a .before in
     let k = e .before .before in
-    let s = k .before .before .before .before .before in
-    record {
-      lent = record { byte = a .before .class-table .ensures; sound = a .sound-table .ensures };
-      steady = accepted-steady (s .args .m .now) (k .checked .given .0 .0) (accepted k) (λ j. omega (arith, k .before .before .before .before .shared-slice-known .given j));
-      room = omega (arith, counted k);
-      place = e .if1 .left;
-    }
+    let n = k .checked .given .0 .0 in
+    (a .lay-tables .ensures, record { counts = n; accepted = accepted k; room = omega (arith, counted k); place = e .if1 .left })
 
 pub transcribe-spec : {M : Type 1} → statement M
 unfolding tapeAnswer
@@ -35,8 +31,8 @@ transcribe-spec =
     (search needs) (search needs) (search needs) (search needs)
     (λ c. let k = c .before .before .before in rw (c .refused .ensures, k .check .ensures .answer) (answered-refused _ _ (sym (k .check .ensures .answer) ∙ c .before .enum-told .given .1)))
     (λ c. let k = c .before .before in answered-short (accepted k) (counted k) (c .if1 .taken))
-    (search needs) (search needs)
+    (search needs)
     write-tape-requires
     (search needs)
     (λ c. let f = c .before .before in let e = f .before .before .before .before .before .before in let k = e .before .before in
-    answered-written (accepted k) (counted k) (e .if1 .left) (put-first _ _ _ _ _ (counted k) (f .write-tape .ensures))))
+    answered-written (accepted k) (counted k) (e .if1 .left) (tape-first (counted k) (f .write-tape .ensures))))

@@ -4,8 +4,8 @@ use Rattle.spec.specs.Tape.{tape}
 use Rattle.laws.proofs.Putting.{put-none}
 use Rattle.transcriber.specs.{Places.tapeAt, Walk.Stands, Walk.pieceAt}
 use Rattle.message.proofs.Filling.{Writing, writing-length, writing-ready, writing-more}
-use Rattle.stress.proofs.Levelling.{levels-done, end-due}
-use Rattle.transcriber.proofs.{Tail.tape-start, Tail.tape-end, Walking.piece-step, Walking.stands-end}
+use Rattle.stress.proofs.Levelling.{levels-done, levels-taken, end-due}
+use Rattle.transcriber.proofs.{Tail.tape-start, Tail.tape-end, Walking.piece-step, Walking.stands-end, Walking.ready-begun}
 use Rattle.transcriber.proofs.tape.walk.Statement.{statement}
 use Rattle.transcriber.proofs.tape.walk.Tie as tie
 
@@ -48,8 +48,11 @@ walk-spec =
     (λ c κs. let s = c .before .before .before in rw (c .at-word-end .ensures) (end-due (s .pre .lent .byte) (s .pre .steady)))
     loop-holds
     (λ c. omega arith)
-    (λ c κs. let l = c .before .before in (start l .pre .lent, writing-ready (l .loop .inv) (c .before .loop-test .taken)))
+    (λ c κs. let l = c .before in levels-taken (start l .pre .steady) (l .loop .inv .stands .levels))
+    (λ c κs. let b = c .before in let n = b .before in let l = n .before in
+    (start l .pre .lent, rw (b .begun .ensures) (ready-begun (writing-ready (l .loop .inv) (n .loop-test .taken)))))
     (λ c. omega arith)
-    (λ c. let n = c .before .before in let k = n .before .before in writing-more (k .before .loop .inv) (k .loop-test .taken) (n .step .ensures))
+    (λ c. let n = c .before .before in let b = n .before .before in let k = b .before in
+    writing-more (k .before .loop .inv) (k .loop-test .taken) (rw (b .begun .ensures) at (n .step .ensures)))
     (λ c. writing-length (c .before .loop .inv))
     returns)

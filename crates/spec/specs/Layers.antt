@@ -1,0 +1,22 @@
+-- What the transcriber promises the layers above it (paper 01, 'Joints': the joiner knows the
+-- transcriber by its promise only). The joiner and the phrase book write tapes by this promise.
+-- Assumes nothing: these are definitions.
+use Prim.Native.Nat.{ℕ, _-_, _≤_}
+use mathlib.Core.Path.{_≡_}
+use mathlib.Core.List.{List, _++_}
+use lib.ListN.{length, take, drop}
+use Rattle.spec.specs.{Tape.tape, Refusals.checkOf, LevelSteps.levelSteps}
+use Rattle.spec.specs.{declared.Counts.Counts, declared.Checked.the-variants.Accepted}
+
+-- m is accepted, and its tape has room right before place `end` of the output
+pub record TapeDue (m out : List ℕ) (end : ℕ) : Type 0 where
+  pub counts : Counts
+  pub accepted : checkOf m ≡ Accepted counts
+  pub room : length (tape m) ≤ end
+  pub place : end ≤ length out
+
+-- its tape was put right before that place, and nothing else was changed; and its levels took so
+-- many steps
+pub record TapePromise (m out out′ : List ℕ) (end steps : ℕ) : Type 0 where
+  pub output : out′ ≡ take (end - length (tape m)) out ++ (tape m ++ drop end out)
+  pub counted : steps ≡ levelSteps m
