@@ -1,6 +1,7 @@
 -- What dispatch's addition answers where the check does not refuse: the book's refusal, then number 11, and else the record stands behind the book.
 use Rattle.laws.proofs.Kit.{ℕ, _+_, _<_, _≤_, _≡_, refl, sym, ap, _∙_, arith, List, append-assoc, leb, length, take, drop, length-append, length-take-le}
-use Rattle.spec.specs.Book.{headSize, recordOf, Reading, holds, unsound, readBook, bookIn, leastAfter, afterListener, afterBook, NewPhrase, phraseOf, withAddition, addAnswer, AddPromise}
+use Rattle.spec.specs.Book.{headSize, recordOf, Reading, holds, unsound, readBook, bookIn, leastAfter, afterListener, afterBook, NewPhrase}
+use Rattle.spec.specs.Book.{phraseOf, withAddition, addAnswer, AddPromise}
 use Rattle.spec.specs.Answers.{afterCheck, outputAfter}
 use Rattle.spec.specs.{declared.Listener.the-variants.Dispatch, Refusals.refusal, Refusals.checkOf, declared.Refusal.Refusal, declared.Counts.Counts, declared.Checked.the-variants.Accepted, declared.Answer.Answer, declared.Answer.the-variants.Written, declared.Answer.the-variants.Refused}
 use Rattle.laws.proofs.{Classes.either, Accepted.accepted-counts, Book.record-size, Promises.promised, Promises.promised-short}

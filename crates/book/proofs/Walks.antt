@@ -1,9 +1,13 @@
 -- The walk over a book, place by place: what is read at a place of the bytes is what stands at the start of the bytes from there on.
 use Rattle.laws.proofs.Kit.{ℕ, suc, _+_, _*_, _<_, _≤_, _≡_, refl, sym, ap, _∙_, true, false, ⊎-elim, cond, _&&_, and-true, List, [], _∷_, add-one, arith, eqb, leb, length, drop, length-append, getD, getD-drop, length-drop, length-take-le, take-all, drop-of-length-le, drop-drop, le-leb, lt-leb, eqb-true, eqb-false, ne-eqb, eq-eqb}
-use Rattle.spec.specs.Book.{Phrase, recordOf, records, headSize, recordMark, pairAt, numberIn, lengthIn, spanIn, phraseIn, hasRecordMark, isWhole, isRecord, row15, row16, Bytes, bookIn, Reading, holds, unsound, _then_, readFrom, readBook, Search, none, entry, search, recordAt, startOf, heard, placed, locateAnswer, unheard, leastAfter, afterBook, RisingFrom}
+use Rattle.spec.specs.Book.{Phrase, recordOf, records, headSize, recordMark, pairAt, numberIn, lengthIn, spanIn, phraseIn, hasRecordMark}
+use Rattle.spec.specs.Book.{isWhole, isRecord, row15, row16, Bytes, bookIn, Reading, holds, unsound, _then_, readFrom, readBook, Search}
+use Rattle.spec.specs.Book.{none, entry, search, recordAt, startOf, heard, placed, locateAnswer, unheard, leastAfter, afterBook, RisingFrom}
 use Rattle.spec.specs.{Listeners.mayHear, Listeners.withheld, declared.Listener.Listener, declared.Located.Located, Tables.same, Refusals.refusal, declared.Refusal.Refusal, declared.Answer.Answer, declared.Answer.the-variants.Refused}
 use Rattle.spec.specs.declared.Located.the-variants as located
-use Rattle.laws.proofs.{Classes.either, Classes.refuted, Classes.below-or, Book.Stands, Book.record-stands, Book.stands-15, Book.read-15, Book.read-16, Book.read-record, Book.Judged, Book.isSound, Book.isRefused, Book.judge, Book.record-size, Book.written-reads, Lookup.found-stands, Lookup.record-there, Lookup.tape-inside}
+use Rattle.laws.proofs.{Classes.either, Classes.refuted, Classes.below-or, Book.Stands, Book.record-stands, Book.stands-15, Book.read-15}
+use Rattle.laws.proofs.{Book.read-16, Book.read-record, Book.Judged, Book.isSound, Book.isRefused, Book.judge, Book.record-size}
+use Rattle.laws.proofs.{Book.written-reads, Lookup.found-stands, Lookup.record-there, Lookup.tape-inside}
 use Rattle.book.specs.Walking.{EndOf, walkedOf, noted, PlaceIn, toldAt}
 use Rattle.book.specs.{declared.Seen.Seen, declared.Walked.Walked, declared.Walked.the-variants.Sound, declared.Walked.the-variants.Unsound}
 

@@ -3,10 +3,13 @@ use Rattle.laws.proofs.Kit.{ℕ, _≤_, _≡_, refl, sym, _∙_, cond, List, []
 use Rattle.spec.specs.Answers.{numberOf, lengthOf, outputAfter}
 use Rattle.spec.specs.Book.{Phrase, NewPhrase, phraseOf, afterListener, withAddition, addAnswer, AddPromise}
 use Rattle.spec.specs.BookDemands.{Addition, AddedTo, usedAfter, addedBy, OneByOne, lastBuffer, lastUsed, accepted, HoldsJust}
-use Rattle.spec.specs.{declared.Listener.Listener, declared.Listener.the-variants.Pump, declared.Answer.Answer, declared.Answer.the-variants.Written, declared.Answer.the-variants.Refused}
+use Rattle.spec.specs.{declared.Listener.Listener, declared.Listener.the-variants.Pump, declared.Answer.Answer}
+use Rattle.spec.specs.{declared.Answer.the-variants.Written, declared.Answer.the-variants.Refused}
 use Rattle.laws.proofs.Additions.{Numbered, add-numbered, additions-kept}
-use Rattle.capi.specs.Said.{SaidAdded, named, AddsFor, Call, CalledOn, isAccepted, countAfter, CallByCall, bufferAfterAll, countAfterAll, acceptedCalls, AdditionsInC}
-use Rattle.capi.specs.{declared.GovorunAdded.GovorunAdded, declared.Named.Named, declared.Named.the-variants.Known, declared.Named.the-variants.Other}
+use Rattle.capi.specs.Said.{SaidAdded, named, AddsFor, Call, CalledOn, isAccepted, countAfter, CallByCall, bufferAfterAll}
+use Rattle.capi.specs.Said.{countAfterAll, acceptedCalls, AdditionsInC}
+use Rattle.capi.specs.{declared.GovorunAdded.GovorunAdded, declared.Named.Named, declared.Named.the-variants.Known}
+use Rattle.capi.specs.{declared.Named.the-variants.Other}
 
 -- Who is no listener is turned away as pump crews are.
 abbrev caller : Named → Listener
@@ -21,12 +24,14 @@ as-caller Other buffer used x p =
     record { answer = p .answer; output = p .output; number = p .number; place = p .place; length = p .length; live = p .live }
 
 -- what is said of an answer that has a number where it is a refusal
-count-said : (a : Answer) (used : ℕ) {r : GovorunAdded} → Numbered a → SaidAdded a r → usedAfter a used ≡ cond (eqb (r .number) 0) (r .used) used
+count-said : (a : Answer) (used : ℕ) {r : GovorunAdded} → Numbered a → SaidAdded a r
+    → usedAfter a used ≡ cond (eqb (r .number) 0) (r .used) used
 unfolding usedAfter numberOf lengthOf
 count-said (Written n k) used h s = rw (s .number, s .used) refl
 count-said (Refused x) used h s = rw (s .number, ne-eqb (x .number) 0 (λ e. omega (arith, h, e))) refl
 
-added-said : (a : Answer) (f : Phrase) (fs : List Phrase) {r : GovorunAdded} → Numbered a → SaidAdded a r → addedBy a f fs ≡ cond (eqb (r .number) 0) (f ∷ fs) fs
+added-said : (a : Answer) (f : Phrase) (fs : List Phrase) {r : GovorunAdded} → Numbered a → SaidAdded a r
+    → addedBy a f fs ≡ cond (eqb (r .number) 0) (f ∷ fs) fs
 unfolding addedBy numberOf
 added-said (Written n k) f fs h s = rw (s .number) refl
 added-said (Refused x) f fs h s = rw (s .number, ne-eqb (x .number) 0 (λ e. omega (arith, h, e))) refl

@@ -1,5 +1,6 @@
--- A program keeps one byte more of its input than it takes. What stands behind that byte changes nothing, since the input is too long already.
-use Rattle.laws.proofs.Kit.{ℕ, suc, _<_, arith, _≡_, refl, sym, ap, _∙_, ⊎-elim, List, [], _∷_, _++_, length, take, length-take-le, take-all, lt-leb}
+-- A program keeps one byte more of its input than it takes. What stands behind changes nothing, since the input is too long already.
+use Rattle.laws.proofs.Kit.{ℕ, suc, _<_, arith, _≡_, refl, sym, ap, _∙_, ⊎-elim, List, [], _∷_, _++_, length, take, length-take-le}
+use Rattle.laws.proofs.Kit.{take-all, lt-leb}
 use Rattle.spec.specs.Printed.{printedAnswer, printed, isDecimal, printedText, printedLevel}
 use Rattle.spec.specs.{Tables.ascii, Answers.afterCheck, Answers.tapeAnswer, Refusals.refusal, declared.Answer.the-variants.Refused}
 use Rattle.laws.proofs.{Accepted.given-refused, Accepted.long-given, Classes.below-or}

@@ -1,6 +1,8 @@
 -- The phrase book: a record that is written reads back, and what reads as a record was written so; hence any bytes are the records of some rising phrases and then their end or the first place of a refusal.
 use Rattle.laws.proofs.Kit.{ℕ, zero, suc, _+_, _-_, _*_, _/_, _%_, _<_, _≤_, _≡_, refl, sym, ap, _∙_, true, false, not, _&&_, true≢false, false≢true, _⊎_, inl, inr, ⊎-elim, List, [], _∷_, _++_, append-assoc, append-nil, arith, eqb, leb, length, take, drop, getD, length-append, length-drop, take-append-drop, take-at, drop-at, getD-drop, getD-take, List·getD-eq-default, drop-drop, length-take, length-take-le, eqb-true, leb-true, le-leb, lt-leb}
-use Rattle.spec.specs.Book.{Phrase, recordMark, twoBytes, headOf, recordOf, records, headSize, numberIn, setIn, lengthIn, spanIn, pairAt, phraseIn, hasRecordMark, isWhole, isRecord, row15, row16, Reading, holds, unsound, _then_, readFrom, readBook, Bytes, bookIn, leastAfter, Fits, RisingFrom, Sound}
+use Rattle.spec.specs.Book.{Phrase, recordMark, twoBytes, headOf, recordOf, records, headSize, numberIn, setIn, lengthIn, spanIn, pairAt}
+use Rattle.spec.specs.Book.{phraseIn, hasRecordMark, isWhole, isRecord, row15, row16, Reading, holds, unsound, _then_, readFrom, readBook}
+use Rattle.spec.specs.Book.{Bytes, bookIn, leastAfter, Fits, RisingFrom, Sound}
 use Rattle.spec.specs.{Tables.same, Refusals.refusal, declared.Refusal.Refusal, BookDemands.UpTo, BookDemands.BookDue, BookDemands.noRecord, BookDemands.notAbove}
 use Rattle.laws.proofs.{Classes.either, Classes.below-or}
 

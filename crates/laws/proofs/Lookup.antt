@@ -1,11 +1,14 @@
 -- Lookups in a phrase book: numbers rise, so what is found under a number is the one phrase that the book has there, and it stands where the records before it end; a listener hears just the phrases that are for him.
 use Rattle.laws.proofs.Kit.{ℕ, suc, _+_, _≤_, _≡_, refl, sym, ap, _∙_, _⊎_, _↔_, inl, inr, ⊎-elim, List, [], _∷_, _++_, append-assoc, arith, eqb, length, take, drop, length-append, length-take, take-append-drop, take-at, drop-at, drop-append-add, eqb-true, eq-eqb, ne-eqb}
-use Rattle.spec.specs.Book.{Phrase, recordMark, twoBytes, headOf, recordOf, records, headSize, Reading, holds, unsound, readBook, Bytes, bookIn, Search, none, entry, search, recordAt, startOf, Heard, nothing, aloud, heard, told, handed, findAnswer, tapeAfter, placed, locateAnswer, toldOf, partAt, endOf, Fits, RisingFrom, FindPromise, LocatePromise}
+use Rattle.spec.specs.Book.{Phrase, recordMark, twoBytes, headOf, recordOf, records, headSize, Reading, holds, unsound, readBook, Bytes}
+use Rattle.spec.specs.Book.{bookIn, Search, none, entry, search, recordAt, startOf, Heard, nothing, aloud, heard, told, handed, findAnswer}
+use Rattle.spec.specs.Book.{tapeAfter, placed, locateAnswer, toldOf, partAt, endOf, Fits, RisingFrom, FindPromise, LocatePromise}
 use Rattle.spec.specs.BookDemands.{Listed, IsFor, Has, FindDue, ofRecords, notForHim, LooksUp}
 use Rattle.spec.specs.{Listeners.mayHear, Refusals.refusal, declared.Listener.Listener, declared.Found.Found, declared.Located.Located}
 use Rattle.spec.specs.declared.Found.the-variants.{Tape, Refused}
 use Rattle.spec.specs.declared.Located.the-variants as located
-use Rattle.laws.proofs.{Classes.either, Book.Judged, Book.isSound, Book.isRefused, Book.judge, Book.record-size, Book.sound-read, Book.due-read, Book.bytes-in}
+use Rattle.laws.proofs.{Classes.either, Book.Judged, Book.isSound, Book.isRefused, Book.judge, Book.record-size, Book.sound-read}
+use Rattle.laws.proofs.{Book.due-read, Book.bytes-in}
 
 -- numbers from the least on
 listed-least : (least : ℕ) (f : Phrase) (fs : List Phrase) → RisingFrom least fs → Listed f fs → least ≤ f .number

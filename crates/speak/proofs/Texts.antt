@@ -1,11 +1,13 @@
 -- With buffers as long as the longest text the reader refuses with 13 alone and the editor nothing, so what is answered goes by the text.
-use Rattle.laws.proofs.Kit.{ℕ, _<_, _≤_, arith, _≡_, _≢_, sym, ap, _∙_, Bool, true, false, true≢false, ⊎-elim, List, [], _++_, length, take, eq-eqb, ne-eqb, le-leb, lt-leb}
+use Rattle.laws.proofs.Kit.{ℕ, _<_, _≤_, arith, _≡_, _≢_, sym, ap, _∙_, Bool, true, false, true≢false, ⊎-elim, List, [], _++_, length, take}
+use Rattle.laws.proofs.Kit.{eq-eqb, ne-eqb, le-leb, lt-leb}
 use Rattle.spec.specs.Answers.{numberOf, placeOf, within, tapeAnswer}
 use Rattle.spec.specs.Editing.{edited, editAnswer, EditPromise}
 use Rattle.spec.specs.Utf8.{decoded, readTo, readAnswer, ReadPromise}
 use Rattle.spec.specs.Printed.{printedAnswer, afterWriting, textAnswer, printedText}
 use Rattle.spec.specs.Utf8Demands.{ReadDue, unreadable, noRoom}
-use Rattle.spec.specs.{Tables.ascii, Tape.tape, declared.Refusal.Refusal, declared.Answer.Answer, declared.Answer.the-variants.Written, declared.Answer.the-variants.Refused}
+use Rattle.spec.specs.{Tables.ascii, Tape.tape, declared.Refusal.Refusal, declared.Answer.Answer, declared.Answer.the-variants.Written}
+use Rattle.spec.specs.{declared.Answer.the-variants.Refused}
 use Rattle.laws.proofs.{Classes.below-or, Utf8.read-most, Demands.edited-demands, Demands.read-demands}
 use Rattle.console.proofs.Room.{room-for-all}
 use Rattle.console.proofs.Texts.{Part, part, refusal-short}

@@ -10,7 +10,8 @@ use Rattle.spec.specs.Refusals.{refusal}
 use Rattle.spec.specs.Answers.{outputAfter}
 use Rattle.spec.specs.SpokenLevels.{bytes}
 use Rattle.spec.specs.Listeners.{mayHear}
-use Rattle.spec.specs.Book.{Phrase, records, Reading, holds, unsound, readBook, bookIn, findAnswer, tapeAfter, locateAnswer, NewPhrase, withAddition, addAnswer}
+use Rattle.spec.specs.Book.{Phrase, records, Reading, holds, unsound, readBook, bookIn, findAnswer, tapeAfter, locateAnswer}
+use Rattle.spec.specs.Book.{NewPhrase, withAddition, addAnswer}
 use Rattle.spec.specs.declared.Answer.{Answer}
 use Rattle.spec.specs.declared.Answer.the-variants as answer
 use Rattle.spec.specs.declared.Found.{Found}

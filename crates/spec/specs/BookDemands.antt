@@ -79,7 +79,8 @@ pub record MayAdd (l : Listener) (book : List ℕ) (x : NewPhrase) : Type 0 wher
 pub data AddDue (l : Listener) (book : List ℕ) (x : NewPhrase) (size room : ℕ) : ℕ → ℕ → Type 0
   where
     notDispatch : mayWrite l ≡ false → AddDue l book x size room 17 0
-    ofMessage : (k p : ℕ) → mayWrite l ≡ true → Given (x .message) k p → AddDue l book x size room k p
+    ofMessage : (k p : ℕ) → mayWrite l ≡ true → Given (x .message) k p
+        → AddDue l book x size room k p
     ofBook : (k p : ℕ) → mayWrite l ≡ true → NoneFits (x .message) → BookDue book k p
         → AddDue l book x size room k p
     notAboveLast : (fs : List Phrase) → mayWrite l ≡ true → NoneFits (x .message) → Sound book fs
