@@ -16,6 +16,7 @@ use spec::Answer;
 use spec::Checked;
 use spec::Listener;
 use spec::Refusal;
+use spec::numbers;
 use transcriber::tables::lay_tables;
 use transcriber::tape::write_tape;
 
@@ -27,7 +28,7 @@ fn judge(book: &[u8], number: usize) -> Answer
         Walked::Sound { least, place: _ } => {
             if number < least {
                 return Answer::Refused(Refusal {
-                    number: 16,
+                    number: numbers::NUMBER_NOT_ABOVE,
                     place: book.len(),
                 });
             }
@@ -68,7 +69,7 @@ fn append(buffer: &mut [u8], used: usize, number: u16, set: u8, m: &[u8]) -> Ans
     let total = end + records::HEAD_SIZE + n;
     if buffer.len() < total {
         return Answer::Refused(Refusal {
-            number: 11,
+            number: numbers::SHORT_OUTPUT,
             place: total,
         });
     }

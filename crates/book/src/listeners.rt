@@ -3,6 +3,7 @@ ghost use mathlib.Core.Path.{_≡_};
 ghost use Rattle.spec.specs.Listeners.{mayHear, withheld};
 use spec::Listener;
 use spec::Refusal;
+use spec::numbers;
 
 // Is the listener in the set of a phrase? Each has a bit; the set's other bits are passed over.
 pub fn may_hear(listener: Listener, set: u8) -> bool
@@ -20,7 +21,7 @@ pub fn not_for_listener() -> Refusal
     ensures { λ r. ⌜ r ≡ withheld ⌝ }
 {
     Refusal {
-        number: 17,
+        number: numbers::NOT_FOR_LISTENER,
         place: 0,
     }
 }

@@ -10,6 +10,7 @@ use crate::records::is_record;
 use crate::records::pair_at;
 use crate::records::record_end;
 use spec::Refusal;
+use spec::numbers;
 
 // Where the book ends in a buffer: at the used count, or at the buffer's end where the count is above that.
 pub fn book_end(buffer: &[u8], used: usize) -> usize
@@ -49,7 +50,7 @@ pub fn walk(book: &[u8], wanted: usize) -> Walked
         let number = pair_at(book, i + records::NUMBER);
         if number < s.least {
             return Walked::Unsound(Refusal {
-                number: 16,
+                number: numbers::NUMBER_NOT_ABOVE,
                 place: i,
             });
         }
@@ -58,7 +59,7 @@ pub fn walk(book: &[u8], wanted: usize) -> Walked
     }
     if i < book.len() {
         return Walked::Unsound(Refusal {
-            number: 15,
+            number: numbers::BROKEN_RECORD,
             place: i,
         });
     }

@@ -6,6 +6,7 @@ ghost use lib.ListN.{length, drop};
 ghost use Rattle.spec.specs.Book.{headSize, pairAt, spanIn, hasRecordMark, isRecord, twoBytes, headOf};
 ghost use Rattle.laws.specs.Putting.{Put};
 ghost use Rattle.book.specs.Walking.{HeadDue};
+use spec::numbers::RECORD_MARK;
 
 pub const HEAD_SIZE: usize = 7;
 
@@ -15,9 +16,6 @@ pub const NUMBER: usize = 2;
 pub const SET: usize = 4;
 
 pub const LENGTH: usize = 5;
-
-// The mark's bytes are 52 and 9F, so this is its number, low byte first.
-const MARK: usize = 0x9F52;
 
 // The two bytes from place i on as a number, low byte first.
 pub fn pair_at(x: &[u8], i: usize) -> usize
@@ -32,7 +30,7 @@ fn is_marked(x: &[u8], i: usize) -> bool
     requires { ⌜ i + 1 < length (now x) ⌝ }
     ensures { λ r. ⌜ r ≡ hasRecordMark (drop i (now (x .entry))) ⌝ }
 {
-    pair_at(x, i) == MARK
+    pair_at(x, i) == RECORD_MARK
 }
 
 // Where the record at place i ends by its head.
@@ -81,7 +79,7 @@ pub fn put_head(out: &mut [u8], i: usize, number: usize, set: u8, n: usize) -> u
     requires { ⌜ HeadDue (now out) i number n ⌝ }
     ensures { λ r. ⌜ Put (headOf number set n) (now (out .entry)) (now (out .exit)) r i ⌝ }
 {
-    let number_place = put_pair(out, i, MARK);
+    let number_place = put_pair(out, i, RECORD_MARK);
     let set_place = put_pair(out, number_place, number);
     let length_place = put_byte(out, set_place, set);
     put_pair(out, length_place, n)

@@ -12,10 +12,9 @@ ghost use Rattle.laws.specs.Putting.{Put};
 ghost use Rattle.editor.specs.Walk.{others, Last, LastWord, EndsInWord, ReadsRun, reads, piece, Goes};
 use spec::Answer;
 use spec::Refusal;
-
-const GAP: u8 = 0x20;
-
-const PAUSE: u8 = 0x23;
+use spec::alphabet::GAP;
+use spec::alphabet::PAUSE;
+use spec::numbers;
 
 // A run of breaks: how many bytes it has, and the break that it becomes.
 pub struct Run {
@@ -224,7 +223,7 @@ fn edit_between(text: &[u8], out: &mut [u8]) -> Answer
         let n = measure(text, last);
         if out.len() < n {
             return Answer::Refused(Refusal {
-                number: 11,
+                number: numbers::SHORT_OUTPUT,
                 place: n,
             });
         }

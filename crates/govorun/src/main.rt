@@ -5,10 +5,11 @@ use console::text::TEXT;
 use console::text::print_message;
 use libc::STDERR_FILENO;
 use libc::STDOUT_FILENO;
+use spec::numbers::MESSAGE_MAX;
 
 // One byte more than the longest message tells that a message is too long.
 fn main() {
-    let mut message = [0u8; 4097];
+    let mut message = [0u8; MESSAGE_MAX + 1];
     let Input::Bytes(n) = read_input(&mut message) else {
         io::write_all(
             STDERR_FILENO,

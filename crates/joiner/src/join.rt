@@ -12,12 +12,14 @@ ghost use Rattle.joiner.specs.Writing.{outside, Looks, Reach, Laid};
 use crate::JoinCounts;
 use crate::Progress;
 use crate::joints::changes_at;
-use message::alphabet;
 use message::answers::refused;
 use message::check::check;
 use spec::Answer;
 use spec::Checked;
 use spec::Refusal;
+use spec::alphabet;
+use spec::codes;
+use spec::numbers;
 use transcriber::tables::ByteTable;
 use transcriber::tables::SoundTable;
 use transcriber::tables::lay_tables;
@@ -196,14 +198,14 @@ pub fn join(m: &[u8], cuts: &[usize], out: &mut [u8]) -> Answer
     let bad = bad_cut(m, cuts);
     if bad != cuts.len() {
         return Answer::Refused(Refusal {
-            number: 12,
+            number: numbers::MISPLACED_CUT,
             place: bad,
         });
     }
     let n = counts.codes;
     if out.len() < n {
         return Answer::Refused(Refusal {
-            number: 11,
+            number: numbers::SHORT_OUTPUT,
             place: n,
         });
     }

@@ -3,9 +3,9 @@ ghost use mathlib.Core.Path.{_≡_};
 ghost use Rattle.laws.specs.Beside.{isVoiced, isHigh, isIOrE};
 ghost use Rattle.joiner.specs.Writing.{Beside, Changing};
 use crate::Changes;
-use message::alphabet;
 use message::letters::letter_at;
-use phones::codes;
+use spec::alphabet;
+use spec::codes;
 
 // Is it a voiced obstruent's sound?
 fn is_voiced(code: u8) -> bool

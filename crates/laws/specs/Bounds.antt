@@ -1,6 +1,7 @@
 -- Answers whose numbers are small.
 -- Assumes nothing: these are definitions.
 use Prim.Native.Nat.{_≤_}
+use Rattle.spec.specs.Numbers.{messageMax}
 use Rattle.spec.specs.Answers.{numberOf, placeOf, lengthOf, liveOf}
 use Rattle.spec.specs.Answers.{checkedNumber, checkedPlace, checkedCodes, checkedNames}
 use Rattle.spec.specs.{declared.Checked.Checked, declared.Answer.Answer}
@@ -8,7 +9,7 @@ use Rattle.spec.specs.{declared.Checked.Checked, declared.Answer.Answer}
 -- the check's answer in numbers that are small
 pub record SmallCheck (d : Checked) : Type 0 where
   pub number : checkedNumber d ≤ 10
-  pub place : checkedPlace d ≤ 4096
+  pub place : checkedPlace d ≤ messageMax
   pub codes : checkedCodes d ≤ 8192
   pub names : checkedNames d ≤ 8192
 

@@ -9,15 +9,13 @@ ghost use Rattle.laws.specs.Putting.{Put};
 ghost use Rattle.levels.specs.Placing.{Room, Adds, Splits, signWords, partWords};
 use spec::Answer;
 use spec::Refusal;
+use spec::numbers;
 use words::put_below_hundred;
 use words::put_hundreds;
 use words::put_thousands;
 use words::put_word;
 
 mod words;
-
-// The range of levels goes to this on either side of zero.
-const FARTHEST: i32 = 9999;
 
 // No level has words of more bytes.
 pub const LONGEST: usize = 54;
@@ -35,7 +33,7 @@ pub struct Parts {
 fn is_outside(level: i32) -> bool
     ensures { λ r. ⌜ r ≡ leb 10000 (natAbs level) ⌝ }
 {
-    (level < -FARTHEST) | (FARTHEST < level)
+    (level < -numbers::LEVEL_MAX) | (numbers::LEVEL_MAX < level)
 }
 
 // How far from zero a level is.
@@ -113,7 +111,7 @@ pub fn speak_level(level: i32, out: &mut [u8]) -> Answer
 {
     if is_outside(level) {
         return Answer::Refused(Refusal {
-            number: 14,
+            number: numbers::LEVEL_OUTSIDE,
             place: 0,
         });
     }
@@ -121,7 +119,7 @@ pub fn speak_level(level: i32, out: &mut [u8]) -> Answer
         let n = measure(level);
         if out.len() < n {
             return Answer::Refused(Refusal {
-                number: 11,
+                number: numbers::SHORT_OUTPUT,
                 place: n,
             });
         }

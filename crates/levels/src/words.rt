@@ -6,8 +6,7 @@ ghost use Rattle.spec.specs.SpokenLevels.{units, teens, tens, hundreds, feminin
 ghost use Rattle.spec.specs.SpokenLevels.{thousand, thousands};
 ghost use Rattle.levels.specs.Placing.{Room, Adds, lowWords};
 use bytes::copy;
-
-const GAP: u8 = 0x20;
+use spec::alphabet::GAP;
 
 // Puts a word, behind a gap unless it is the first, and answers the place after it.
 pub fn put_word(out: &mut [u8], at: usize, word: &[u8]) -> usize

@@ -7,6 +7,7 @@ use mathlib.Core.Path.{_≡_}
 use mathlib.Core.Bool.{true, false, cond}
 use mathlib.Core.List.{List}
 use lib.ListN.{length, getD, drop}
+use Rattle.spec.specs.Numbers.{messageMax}
 use Rattle.spec.specs.Letters.{Letter, read, firstWord, small, isMark, isBreak, beginsWithMark}
 use Rattle.spec.specs.Refusals.{vowelByte}
 use Rattle.message.specs.Classes.{classOf}
@@ -29,7 +30,7 @@ letterOf m i = record { byte = small (getD m i 0); stressed = beginsWithMark (dr
 -- Steady: no more than 4,096 bytes, each below 256 and named, and a mark stands right after a
 -- vowel. The check's acceptance gives it.
 pub record Steady (m : List ℕ) : Type 0 where
-  pub short : length m ≤ 4096
+  pub short : length m ≤ messageMax
   pub bytes : (i : ℕ) → getD m i 0 < 256
   pub named : (i : ℕ) → i < length m → classOf (getD m i 0) ≡ 0 → ⊥
   pub marks : (i : ℕ) → suc i < length m → isMark (getD m (suc i) 0) ≡ true

@@ -6,6 +6,7 @@ use mathlib.Core.Bool.{Bool, cond, _&&_, _||_}
 use mathlib.Core.List.{List}
 use lib.Dec.{eqb}
 use lib.ListN.{length, getD}
+use Rattle.spec.specs.Numbers.{messageMax}
 use Rattle.spec.specs.Letters.{between}
 use Rattle.spec.specs.Refusals.{refusal}
 use Rattle.spec.specs.declared.Checked.{Checked}
@@ -123,7 +124,7 @@ faultHere m i =
 -- after `from` as the word lacks letters there to have 64, so before it no letter is a 65th.
 pub record Sees (m : List ℕ) (s : Seen) : Type 0 where
   pub bytes : (j : ℕ) → getD m j 0 < 256
-  pub short : length m ≤ 4096
+  pub short : length m ≤ messageMax
   pub within : s .at ≤ length m
   pub clear : (j : ℕ) → j < s .at → faultHere m j ≡ 0
   pub kind : s .kind ≡ kindAt m (s .at)
@@ -170,7 +171,7 @@ pub record Counted (m : List ℕ) (i : ℕ) (s : Seen) : Type 0 where
 pub record Begins (m t s : List ℕ) : Type 0 where
   pub tables : Tables t s
   pub some : 0 < length m
-  pub short : length m ≤ 4096
+  pub short : length m ≤ messageMax
 
 -- The check stands at a byte.
 pub record Stands (m t s : List ℕ) (seen : Seen) : Type 0 where

@@ -19,9 +19,7 @@ use crate::classes::GAP;
 use crate::classes::HARD_ONLY;
 use crate::classes::HARD_SIGN;
 use crate::classes::HARD_SIGN_AFTER_VOWEL;
-use crate::classes::LETTERS_MAX;
 use crate::classes::MARK;
-use crate::classes::MESSAGE_MAX;
 use crate::classes::NAME;
 use crate::classes::PAUSE;
 use crate::classes::PLAIN_VOWEL;
@@ -39,6 +37,9 @@ use crate::pairs::pair_table;
 use spec::Checked;
 use spec::Counts;
 use spec::Refusal;
+use spec::numbers;
+use spec::numbers::MESSAGE_MAX;
+use spec::numbers::WORD_MAX;
 
 // The entry for the byte at place i after kind k.
 fn entry_at(m: &[u8], i: usize, k: usize, t: &ClassTable, s: &PairTable) -> usize
@@ -140,7 +141,7 @@ fn letters_at(m: &[u8], seen: Seen, t: &ClassTable) -> usize
             marks += 1;
         }
     }
-    at + LETTERS_MAX - seen.limit - marks
+    at + WORD_MAX - seen.limit - marks
 }
 
 // The same with the letters counted, where the limit is less than four bytes ahead. Each letter is counted once.
@@ -159,7 +160,7 @@ fn count_on(m: &[u8], seen: Seen, t: &ClassTable) -> Seen
         at,
         kind,
         from: at,
-        limit: at + LETTERS_MAX - n,
+        limit: at + WORD_MAX - n,
         sum,
     }
 }
@@ -197,7 +198,7 @@ fn step(m: &[u8], seen: Seen, t: &ClassTable, s: &PairTable) -> Step
         return Step::Fault((e / STOP - 1) as u8);
     }
     if is_too_many(c, at, limit) {
-        return Step::Fault(10);
+        return Step::Fault(numbers::LONG_WORD);
     }
     let kind = next_kind(counted.kind, c);
     let sum = counted.sum + e % ASK - silent_at(m, at);
@@ -251,7 +252,7 @@ fn finish(n: usize, seen: Seen) -> Checked
     let kind = seen.kind;
     if (GAP <= kind) & (kind <= PAUSE) {
         return Checked::Refused(Refusal {
-            number: 4,
+            number: numbers::MISPLACED_BREAK,
             place: n - 1,
         });
     }
@@ -269,7 +270,7 @@ fn walk(m: &[u8], t: &ClassTable, s: &PairTable) -> Checked
         at: 0,
         kind: GAP,
         from: 0,
-        limit: LETTERS_MAX,
+        limit: WORD_MAX,
         sum: 0,
     };
     while seen.at < m.len() {
@@ -298,13 +299,13 @@ pub fn check(m: &[u8]) -> Checked
     let n = m.len();
     if n == 0 {
         return Checked::Refused(Refusal {
-            number: 1,
+            number: numbers::EMPTY_MESSAGE,
             place: 0,
         });
     }
     if MESSAGE_MAX < n {
         return Checked::Refused(Refusal {
-            number: 2,
+            number: numbers::LONG_MESSAGE,
             place: 0,
         });
     }

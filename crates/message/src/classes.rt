@@ -39,15 +39,11 @@ pub const FIRST_LETTER: usize = HARD_SIGN;
 
 pub const FIRST_PALATALIZING: usize = IOTATED;
 
-// How many bytes there are, and so entries of a table by byte; the longest message and the longest word.
+// How many bytes there are, and so entries of a table by byte.
 pub const BYTES: usize = 256;
 
 // The table that has the class of each byte.
 pub type ClassTable = [u8; BYTES];
-
-pub const MESSAGE_MAX: usize = 4096;
-
-pub const LETTERS_MAX: usize = 64;
 
 // The table of pairs has a row for each kind and a column for each class.
 pub const COLUMNS: usize = 16;

@@ -1,4 +1,3 @@
-pub mod alphabet;
 pub mod answers;
 pub mod check;
 pub mod classes;

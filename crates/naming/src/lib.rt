@@ -11,7 +11,6 @@ ghost use Rattle.laws.specs.Putting.{Put};
 ghost use Rattle.stress.specs.Places.{leftAt};
 ghost use Rattle.naming.specs.Names.{namePiece, WordEnd, NameReady, VowelNamed, Named};
 ghost use Rattle.naming.specs.Names.{NamesDue};
-use message::alphabet;
 use message::answers::refused;
 use message::check::check;
 use message::classes;
@@ -25,6 +24,8 @@ use spec::Cover;
 use spec::Level;
 use spec::Refusal;
 use spec::Syllable;
+use spec::alphabet;
+use spec::numbers;
 use stress::LevelRun;
 use stress::before::class_before;
 use stress::levels;
@@ -143,7 +144,7 @@ pub fn name(m: &[u8], out: &mut [u8]) -> Answer
     let n = counts.names;
     if out.len() < n {
         return Answer::Refused(Refusal {
-            number: 11,
+            number: numbers::SHORT_OUTPUT,
             place: n,
         });
     }

@@ -8,8 +8,8 @@ ghost use Rattle.phones.specs.VowelSounds.{letterBefore, hardBefore};
 use crate::LetterBefore;
 use crate::letter_classes::is_hard_only;
 use crate::letter_classes::is_paired;
-use message::alphabet;
 use message::classes;
+use spec::alphabet;
 use stress::before::byte_before;
 
 fn is_break_class(k: usize) -> bool

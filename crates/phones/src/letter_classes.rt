@@ -3,7 +3,7 @@
 // neighbours in the alphabet.
 ghost use mathlib.Core.Path.{_≡_};
 ghost use Rattle.spec.specs.Letters.{small, isHardOnly, isPaired, isSoftOnly};
-use message::alphabet;
+use spec::alphabet;
 
 // Class T: ж ш ц.
 pub fn is_hard_only(b: u8) -> bool

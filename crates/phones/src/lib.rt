@@ -1,5 +1,4 @@
 mod boundary;
-pub mod codes;
 pub mod consonants;
 mod letter_classes;
 pub mod tables;

@@ -14,15 +14,15 @@ use crate::LetterBefore;
 use crate::Vowel;
 use crate::boundary::hard_before;
 use crate::boundary::letter_before;
-use crate::codes;
 use crate::letter_classes::is_hard_only;
 use crate::letter_classes::is_soft_only;
-use message::alphabet;
 use message::classes;
 use message::classes::ClassTable;
 use spec::Cover;
 use spec::Level;
 use spec::Syllable;
+use spec::alphabet;
+use spec::codes;
 use stress::before::class_before;
 use stress::syllables::syllable_by;
 

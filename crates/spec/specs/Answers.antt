@@ -6,6 +6,7 @@ use mathlib.Core.Bool.{cond}
 use mathlib.Core.List.{List, _++_}
 use lib.Dec.{eqb, leb}
 use lib.ListN.{length, drop}
+use Rattle.spec.specs.Numbers.{shortOutput, misplacedCut}
 use Rattle.spec.specs.Tape.{tape, names}
 use Rattle.spec.specs.Refusals.{refusal, checkOf}
 use Rattle.spec.specs.Joints.{joined, liveCount, badCut}
@@ -50,7 +51,7 @@ checkedNames (checked.Refused r) = 0
 
 -- number 11: a lent output of this room is too short for n bytes; the place is n
 unfoldable pub within : ℕ → ℕ → ℕ → Answer
-within room n live = cond (leb n room) (Written n live) (Refused (refusal 11 n))
+within room n live = cond (leb n room) (Written n live) (Refused (refusal shortOutput n))
 
 -- the check's refusals come first
 unfoldable pub afterCheck : Checked → Answer → Answer
@@ -74,7 +75,7 @@ tapeAnswer m room = afterCheck (checkOf m) (within room (length (tape m)) 0)
 unfoldable pub joinAnswer : List ℕ → List ℕ → ℕ → Answer
 joinAnswer m cuts room =
     afterCheck (checkOf m)
-    (cond (eqb (badCut m cuts) (length cuts)) (within room (length (joined m cuts)) (liveCount m cuts)) (Refused (refusal 12 (badCut m cuts))))
+    (cond (eqb (badCut m cuts) (length cuts)) (within room (length (joined m cuts)) (liveCount m cuts)) (Refused (refusal misplacedCut (badCut m cuts))))
 
 -- What an operation promises of its answer r and of what the lent output held, out, and holds afterwards, out′: the answer that is due, in number, place, length and live count,
 -- and the bytes of it, text, before the output's own.

@@ -6,6 +6,7 @@ use mathlib.Core.Bool.{Bool, cond, _&&_, not}
 use mathlib.Core.List.{List, [], _∷_, _++_}
 use lib.Dec.{eqb, leb}
 use lib.ListN.{length, take, drop, getD}
+use Rattle.spec.specs.Numbers.{brokenRecord, numberNotAbove}
 use Rattle.spec.specs.Tape.{tape}
 use Rattle.spec.specs.Tables.{same}
 use Rattle.spec.specs.Refusals.{refusal, checkOf}
@@ -115,8 +116,8 @@ unfoldable pub readFrom : ℕ → ℕ → ℕ → List ℕ → Reading
 readFrom skip place least [] = holds []
 readFrom (suc skip) place least (b ∷ x) = readFrom skip (suc place) least x
 readFrom zero place least (b ∷ x) =
-    cond (row15 (b ∷ x)) (unsound (refusal 15 place))
-    (cond (row16 least (b ∷ x)) (unsound (refusal 16 place))
+    cond (row15 (b ∷ x)) (unsound (refusal brokenRecord place))
+    (cond (row16 least (b ∷ x)) (unsound (refusal numberNotAbove place))
     (phraseIn (b ∷ x) then readFrom (spanIn (b ∷ x) - 1) (suc place) (suc (numberIn (b ∷ x))) x))
 
 unfoldable pub readBook : List ℕ → Reading
@@ -228,7 +229,7 @@ leastAfter least (f ∷ fs) = leastAfter (suc (f .number)) fs
 
 -- the book's refusals: those of its records, and 16 at its end for a number that is not above the last one's
 unfoldable pub afterBook : Reading → ℕ → ℕ → Answer → Answer
-afterBook (holds fs) n bookEnd a = cond (leb (leastAfter 0 fs) n) a (answer.Refused (refusal 16 bookEnd))
+afterBook (holds fs) n bookEnd a = cond (leb (leastAfter 0 fs) n) a (answer.Refused (refusal numberNotAbove bookEnd))
 afterBook (unsound r) n bookEnd a = answer.Refused r
 
 -- what an addition asks for: a message under a number, for a set of listeners

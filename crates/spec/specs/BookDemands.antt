@@ -7,6 +7,7 @@ use mathlib.Core.Bool.{true, false}
 use mathlib.Core.Logic.{_⊎_, _↔_}
 use mathlib.Core.List.{List, [], _∷_, _++_, map}
 use lib.ListN.{length, take}
+use Rattle.spec.specs.Numbers.{brokenRecord, numberNotAbove, notForListener}
 use Rattle.spec.specs.Refusals.{refusal, NoneFits, Given}
 use Rattle.spec.specs.Listeners.{mayHear, mayWrite}
 use Rattle.spec.specs.Book.{Phrase, recordOf, records, bookIn, search, startOf, heard, told}
@@ -29,8 +30,8 @@ pub record UpTo (book : List ℕ) (fs : List Phrase) (rest : List ℕ) : Type 0 
 -- The numbers of a book: 15 where after sound records more bytes stand that no record begins, and 16 where one does whose number is not above the last.
 pub data BookDue (book : List ℕ) : ℕ → ℕ → Type 0 where
   noRecord : (fs : List Phrase) (b : ℕ) (rest : List ℕ) → UpTo book fs (b ∷ rest)
-      → ((f : Phrase) (after : List ℕ) → Fits f → b ∷ rest ≡ recordOf f ++ after → ⊥) → BookDue book 15 (length (records fs))
-  notAbove : (fs : List Phrase) (f : Phrase) (rest : List ℕ) → Fits f → UpTo book fs (recordOf f ++ rest) → f .number < leastAfter 0 fs → BookDue book 16 (length (records fs))
+      → ((f : Phrase) (after : List ℕ) → Fits f → b ∷ rest ≡ recordOf f ++ after → ⊥) → BookDue book brokenRecord (length (records fs))
+  notAbove : (fs : List Phrase) (f : Phrase) (rest : List ℕ) → Fits f → UpTo book fs (recordOf f ++ rest) → f .number < leastAfter 0 fs → BookDue book numberNotAbove (length (records fs))
 
 -- a phrase is one of these
 abbrev pub Listed : Phrase → List Phrase → Type 0
@@ -59,7 +60,7 @@ pub record HasNone (l : Listener) (book : List ℕ) (n : ℕ) : Type 0 where
 -- The numbers of a lookup: the book's, and then 17 at 0, where it has none for him.
 pub data FindDue (l : Listener) (book : List ℕ) (n : ℕ) : ℕ → ℕ → Type 0 where
   ofRecords : (k p : ℕ) → BookDue book k p → FindDue l book n k p
-  notForHim : HasNone l book n → FindDue l book n 17 0
+  notForHim : HasNone l book n → FindDue l book n notForListener 0
 
 -- A lookup of number n by a listener hands back the tape exactly where the book has it for him, and gives each number exactly where it is due.
 pub record LooksUp (l : Listener) (book : List ℕ) (n : ℕ) (old new : List ℕ) (r : Found) : Type 0 where
@@ -78,13 +79,13 @@ pub record MayAdd (l : Listener) (book : List ℕ) (x : NewPhrase) : Type 0 wher
 -- then the book's, then 16 at its end, and then 11.
 pub data AddDue (l : Listener) (book : List ℕ) (x : NewPhrase) (size room : ℕ) : ℕ → ℕ → Type 0
   where
-    notDispatch : mayWrite l ≡ false → AddDue l book x size room 17 0
+    notDispatch : mayWrite l ≡ false → AddDue l book x size room notForListener 0
     ofMessage : (k p : ℕ) → mayWrite l ≡ true → Given (x .message) k p
         → AddDue l book x size room k p
     ofBook : (k p : ℕ) → mayWrite l ≡ true → NoneFits (x .message) → BookDue book k p
         → AddDue l book x size room k p
     notAboveLast : (fs : List Phrase) → mayWrite l ≡ true → NoneFits (x .message) → Sound book fs
-        → x .number < leastAfter 0 fs → AddDue l book x size room 16 (length book)
+        → x .number < leastAfter 0 fs → AddDue l book x size room numberNotAbove (length book)
     noRoomBehind : MayAdd l book x → room < size → AddDue l book x size room 11 size
 
 -- What holds for any buffer of bytes and any used count.

@@ -8,6 +8,7 @@ use mathlib.Core.Bool.{true}
 use mathlib.Core.Logic.{_⊎_, _↔_}
 use mathlib.Core.List.{List, [], _++_}
 use lib.ListN.{length, drop, getD}
+use Rattle.spec.specs.Numbers.{shortOutput, misplacedCut}
 use Rattle.spec.specs.Letters.{isBreak}
 use Rattle.spec.specs.Tape.{tape, names}
 use Rattle.spec.specs.Refusals.{NoneFits, Given}
@@ -20,8 +21,8 @@ use Rattle.spec.specs.declared.Answer.{Answer}
 -- 1 and 2, then 3 to 10, then 12 at the first bad cut, then 11. The naming operation and the transcriber have no cuts.
 pub data Due (m cuts : List ℕ) (size room : ℕ) : ℕ → ℕ → Type 0 where
   turnedAway : (n p : ℕ) → Given m n p → Due m cuts size room n p
-  wrongCut : (i : ℕ) → NoneFits m → FirstBad m cuts i → Due m cuts size room 12 i
-  tooShort : NoneFits m → Rising m cuts → room < size → Due m cuts size room 11 size
+  wrongCut : (i : ℕ) → NoneFits m → FirstBad m cuts i → Due m cuts size room misplacedCut i
+  tooShort : NoneFits m → Rising m cuts → room < size → Due m cuts size room shortOutput size
 
 -- An operation is carried out: the output begins with its text and keeps its other bytes, and the answer tells the text's length and how many cuts are live.
 pub record CarriedOut (text : List ℕ) (count : ℕ) (out out′ : List ℕ) (r : Answer) : Type 0 where

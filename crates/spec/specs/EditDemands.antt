@@ -6,6 +6,7 @@ use mathlib.Core.Bool.{false}
 use mathlib.Core.Logic.{_↔_}
 use mathlib.Core.List.{List}
 use lib.ListN.{length, take}
+use Rattle.spec.specs.Numbers.{emptyMessage, longMessage, misplacedBreak, shortOutput, messageMax}
 use Rattle.spec.specs.Refusals.{fits, NoneFits, Given}
 use Rattle.spec.specs.Answers.{numberOf, lengthOf}
 use Rattle.spec.specs.Editing.{OnlyBreaks, edited, EditPromise}
@@ -14,7 +15,7 @@ use Rattle.spec.specs.Demands.{Settled, Exactly, Demand1, Demand2, Deman
 
 -- The editor's only number: 11, with the edited text's length, where the output is shorter.
 abbrev pub EditDue : List ℕ → ℕ → ℕ → ℕ → Type 0
-EditDue t room n p = (n ≡ 11) × (p ≡ length (edited t)) × (room < length (edited t))
+EditDue t room n p = (n ≡ shortOutput) × (p ≡ length (edited t)) × (room < length (edited t))
 
 -- The demands for a text t of any bytes and any length, through its edited form.
 pub record EditedDemands (t : List ℕ) : Type 0 where
@@ -32,10 +33,10 @@ pub record EditedDemands (t : List ℕ) : Type 0 where
   -- an accepted message is its own edited form
   pub own : NoneFits t → edited t ≡ t
   -- no break stands first, last or after a break any more, so number 4 fits nowhere
-  pub breaks : (p : ℕ) → fits (edited t) 4 p ≡ false
+  pub breaks : (p : ℕ) → fits (edited t) misplacedBreak p ≡ false
   -- number 1 is for a text of breaks alone, and number 2 counts the edited bytes
-  pub empty : Given (edited t) 1 0 ↔ OnlyBreaks t
-  pub long : Given (edited t) 2 0 ↔ (4096 < length (edited t))
+  pub empty : Given (edited t) emptyMessage 0 ↔ OnlyBreaks t
+  pub long : Given (edited t) longMessage 0 ↔ (messageMax < length (edited t))
   -- the check, naming, transcriber and joiner, handed the edited text, with every place counted there
   pub demand1 : Demand1 (edited t)
   pub demand2 : Demand2 (edited t)

@@ -6,6 +6,7 @@ use mathlib.Core.Logic.{_↔_}
 use mathlib.Core.List.{List}
 use lib.ListN.{length, take}
 use lib.IntN.{ℤ, natAbs}
+use Rattle.spec.specs.Numbers.{shortOutput, levelOutside, levelMax}
 use Rattle.spec.specs.Tape.{tape}
 use Rattle.spec.specs.Refusals.{NoneFits}
 use Rattle.spec.specs.Answers.{numberOf, lengthOf, TranscribePromise}
@@ -15,8 +16,8 @@ use Rattle.spec.specs.Demands.{CarriedOut, Settled, Exactly}
 
 -- The numbers for a level: 14, outside the range, and then 11.
 pub data LevelDue (level : ℤ) (room : ℕ) : ℕ → ℕ → Type 0 where
-  outside : 9999 < natAbs level → LevelDue level room 14 0
-  noRoomFor : InRange level → room < length (spoken level) → LevelDue level room 11 (length (spoken level))
+  outside : levelMax < natAbs level → LevelDue level room levelOutside 0
+  noRoomFor : InRange level → room < length (spoken level) → LevelDue level room shortOutput (length (spoken level))
 
 -- What holds for any signed number that is to be spoken as a level.
 pub record LevelDemands (level : ℤ) : Type 0 where

@@ -1,3 +1,4 @@
+pub mod Numbers
 pub mod Alphabet
 pub mod Tables
 pub mod Letters

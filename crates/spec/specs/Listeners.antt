@@ -3,6 +3,7 @@
 use Prim.Native.Nat.{ℕ, _/_, _%_}
 use mathlib.Core.Bool.{Bool, true, false}
 use lib.Dec.{eqb}
+use Rattle.spec.specs.Numbers.{notForListener}
 use Rattle.spec.specs.Refusals.{refusal}
 use Rattle.spec.specs.declared.Refusal.{Refusal}
 use Rattle.spec.specs.declared.Listener.{Listener}
@@ -22,4 +23,4 @@ mayWrite Dispatch = true
 
 -- Number 17, not for this listener: its place is 0.
 abbrev pub withheld : Refusal
-withheld = refusal 17 0
+withheld = refusal notForListener 0

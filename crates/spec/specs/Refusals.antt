@@ -8,6 +8,7 @@ use mathlib.Core.Logic.{_⊎_}
 use mathlib.Core.List.{List, [], _∷_}
 use lib.Dec.{eqb, leb}
 use lib.ListN.{length, getD, drop}
+use Rattle.spec.specs.Numbers.{emptyMessage, longMessage, unknownByte, misplacedBreak, misplacedMark, signFirst, signAfterSign, consonantAfterHardSign, vowelSignVowel, longWord, messageMax, wordMax}
 use Rattle.spec.specs.Alphabet.{«ъ»}
 use Rattle.spec.specs.Letters.{small, isBreak, isMark, isConsonant, isSign, isVowel}
 use Rattle.spec.specs.Counting.{codeCount, nameCount}
@@ -88,7 +89,7 @@ row9 before b after = vowelByte b && vowelSign (adjacent before)
 
 -- number 10: the 65th letter of a word
 unfoldable pub row10 : List ℕ → ℕ → List ℕ → Bool
-row10 before b after = letterByte b && eqb (lettersBefore before) 64
+row10 before b after = letterByte b && eqb (lettersBefore before) wordMax
 
 -- a row of the table: its number and its test
 pub data Row : Type 0 where
@@ -97,8 +98,8 @@ pub data Row : Type 0 where
 -- numbers 3 to 10, in the order in which they are given at one place
 unfoldable pub rows : List Row
 rows =
-    (3 when row3) ∷ (4 when row4) ∷ (5 when row5) ∷ (6 when row6)
-    ∷ (7 when row7) ∷ (8 when row8) ∷ (9 when row9) ∷ (10 when row10) ∷ []
+    (unknownByte when row3) ∷ (misplacedBreak when row4) ∷ (misplacedMark when row5) ∷ (signFirst when row6)
+    ∷ (signAfterSign when row7) ∷ (consonantAfterHardSign when row8) ∷ (vowelSignVowel when row9) ∷ (longWord when row10) ∷ []
 
 -- the number of the first row that fits at a byte; 0 where none does
 unfoldable pub firstFit : List Row → List ℕ → ℕ → List ℕ → ℕ
@@ -122,10 +123,10 @@ scan accepted before (b ∷ after) =
 -- message has as many codes and names as its letters and breaks make.
 unfoldable pub checkOf : List ℕ → Checked
 checkOf m =
-    cond (eqb (length m) 0) (Refused (refusal 1 0))
-    (cond (leb (length m) 4096)
+    cond (eqb (length m) 0) (Refused (refusal emptyMessage 0))
+    (cond (leb (length m) messageMax)
     (scan (Accepted (record { codes = codeCount m; names = nameCount m })) [] m)
-    (Refused (refusal 2 0)))
+    (Refused (refusal longMessage 0)))
 
 -- Which numbers fit where, one by one. Does number k of the rows fit at a byte?
 unfoldable pub fitsIn : List Row → ℕ → List ℕ → ℕ → List ℕ → Bool
@@ -140,8 +141,8 @@ beforeAt m (suc p) = getD m p 0 ∷ beforeAt m p
 -- does the condition of number k, 1 to 10, hold at place p of a message?
 unfoldable pub fits : List ℕ → ℕ → ℕ → Bool
 fits m k p =
-    cond (eqb k 1) (eqb p 0 && eqb (length m) 0)
-    (cond (eqb k 2) (eqb p 0 && not (leb (length m) 4096))
+    cond (eqb k emptyMessage) (eqb p 0 && eqb (length m) 0)
+    (cond (eqb k longMessage) (eqb p 0 && not (leb (length m) messageMax))
     (leb (suc p) (length m) && fitsIn rows k (beforeAt m p) (getD m p 0) (drop (suc p) m)))
 
 -- the index of number k in a list of rows
@@ -151,7 +152,7 @@ indexIn ((n when test) ∷ rs) k = cond (eqb n k) 0 (suc (indexIn rs k))
 
 -- the order of the numbers at one place: 1, 2, then the rows as they stand in their list
 unfoldable pub rank : ℕ → ℕ
-rank k = cond (eqb k 1) 0 (cond (eqb k 2) 1 (suc (suc (indexIn rows k))))
+rank k = cond (eqb k emptyMessage) 0 (cond (eqb k longMessage) 1 (suc (suc (indexIn rows k))))
 
 -- none of numbers 1 to 10 fits a message anywhere
 abbrev pub NoneFits : List ℕ → Type 0

@@ -8,6 +8,7 @@ use mathlib.Core.List.{List, [], _∷_, _++_}
 use lib.Dec.{eqb, leb}
 use lib.ListN.{length}
 use lib.IntN.{ℤ, pos, negsuc, natAbs}
+use Rattle.spec.specs.Numbers.{levelOutside, levelMax}
 use Rattle.spec.specs.Alphabet.{gap}
 use Rattle.spec.specs.Letters.{isMark}
 use Rattle.spec.specs.Refusals.{refusal}
@@ -115,11 +116,11 @@ spoken level = spaced (levelWords level)
 
 -- the levels that are spoken: -9,999 to 9,999
 abbrev pub InRange : ℤ → Type 0
-InRange level = natAbs level ≤ 9999
+InRange level = natAbs level ≤ levelMax
 
 -- The operation, lent an output of this room: number 14 first of all, and then 11.
 unfoldable pub levelAnswer : ℤ → ℕ → Answer
-levelAnswer level room = cond (leb (natAbs level) 9999) (within room (length (spoken level)) 0) (Refused (refusal 14 0))
+levelAnswer level room = cond (leb (natAbs level) levelMax) (within room (length (spoken level)) 0) (Refused (refusal levelOutside 0))
 
 abbrev pub LevelPromise : ℤ → List ℕ → List ℕ → Answer → Type 0
 LevelPromise level out out′ r = Promise (levelAnswer level (length out)) (spoken level) out out′ r

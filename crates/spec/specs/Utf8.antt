@@ -7,6 +7,7 @@ use mathlib.Core.Logic.{_≢_}
 use mathlib.Core.List.{List, [], _∷_, _++_, map}
 use lib.Dec.{eqb, leb}
 use lib.ListN.{length, take, drop}
+use Rattle.spec.specs.Numbers.{unreadableText}
 use Rattle.spec.specs.Alphabet.{gap, pause, mark}
 use Rattle.spec.specs.Tables.{among, same}
 use Rattle.spec.specs.Refusals.{refusal, checkOf}
@@ -133,7 +134,7 @@ pub record StopsAt (t : List ℕ) (p : ℕ) : Type 0 where
 
 -- The reader, lent an output of this room: number 13 where not all of the text is cut, at the first octet that is left, and then 11.
 unfoldable pub readAnswer : List ℕ → ℕ → Answer
-readAnswer t room = cond (eqb (readTo t) (length t)) (within room (length (decoded t)) 0) (Refused (refusal 13 (readTo t)))
+readAnswer t room = cond (eqb (readTo t) (length t)) (within room (length (decoded t)) 0) (Refused (refusal unreadableText (readTo t)))
 
 -- The writer: numbers 1 to 10, and then 11.
 unfoldable pub writeAnswer : List ℕ → ℕ → Answer

@@ -6,6 +6,7 @@ use mathlib.Core.Path.{_≡_}
 use mathlib.Core.Logic.{_↔_}
 use mathlib.Core.List.{List, []}
 use lib.ListN.{length, take}
+use Rattle.spec.specs.Numbers.{shortOutput, unreadableText}
 use Rattle.spec.specs.Refusals.{NoneFits}
 use Rattle.spec.specs.Answers.{numberOf, lengthOf}
 use Rattle.spec.specs.Utf8.{WellFormed, encoded, decoded, RunOf, Readable, StopsAt, ReadPromise, WritePromise}
@@ -15,8 +16,8 @@ use Rattle.spec.specs.EditDemands.{EditedDemands}
 
 -- The reader's numbers: 13, where the text is readable no further, and then 11.
 pub data ReadDue (t : List ℕ) (room : ℕ) : ℕ → ℕ → Type 0 where
-  unreadable : (p : ℕ) → StopsAt t p → ReadDue t room 13 p
-  noRoom : Readable t → room < length (decoded t) → ReadDue t room 11 (length (decoded t))
+  unreadable : (p : ℕ) → StopsAt t p → ReadDue t room unreadableText p
+  noRoom : Readable t → room < length (decoded t) → ReadDue t room shortOutput (length (decoded t))
 
 -- What holds for a text t of any bytes and any length that is to be read as UTF-8.
 pub record ReadDemands (t : List ℕ) : Type 0 where
@@ -26,8 +27,8 @@ pub record ReadDemands (t : List ℕ) : Type 0 where
   -- lent an output long enough, it accepts exactly the runs of the table's sequences
   pub exact : (out out′ : List ℕ) (r : Answer) → ReadPromise t out out′ r → Exactly (Readable t) (ReadDue t (length out)) (decoded t) 0 out out′ r
   -- however much is lent, it refuses all others with 13, and so every malformed text
-  pub others : (out out′ : List ℕ) (r : Answer) → ReadPromise t out out′ r → (numberOf r ≡ 13) ↔ (Readable t → ⊥)
-  pub malformed : (out out′ : List ℕ) (r : Answer) → ReadPromise t out out′ r → (WellFormed t → ⊥) → numberOf r ≡ 13
+  pub others : (out out′ : List ℕ) (r : Answer) → ReadPromise t out out′ r → (numberOf r ≡ unreadableText) ↔ (Readable t → ⊥)
+  pub malformed : (out out′ : List ℕ) (r : Answer) → ReadPromise t out out′ r → (WellFormed t → ⊥) → numberOf r ≡ unreadableText
   -- there is one way to cut it
   pub once : (m : List ℕ) → RunOf t m → m ≡ decoded t
   -- an output as long as the text is long enough

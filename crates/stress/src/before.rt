@@ -4,10 +4,10 @@ ghost use Prim.Native.Nat.{_≤_};
 ghost use lib.ListN.{length};
 ghost use Rattle.message.specs.Classes.{classes};
 ghost use Rattle.stress.specs.Before.{byteBefore, classBefore};
-use message::alphabet;
 use message::classes;
 use message::classes::ClassTable;
 use message::classify::class_of;
+use spec::alphabet;
 
 // The class of the byte before place i; a pause at the start of the message.
 pub fn class_before(m: &[u8], i: usize, t: &ClassTable) -> usize

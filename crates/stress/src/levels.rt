@@ -9,11 +9,11 @@ ghost use Prim.Native.Nat.{_<_};
 ghost use Rattle.stress.specs.Levels.{Least, countedBy, numbered, endRun, stepOver};
 ghost use Rattle.stress.specs.Levels.{stepsOf, turnOf, StepDue, LookDue, Looked};
 use crate::LevelRun;
-use message::alphabet;
 use message::classes;
 use message::classes::ClassTable;
 use message::classify::class_of;
 use spec::Level;
+use spec::alphabet;
 
 // How many syllables from a mark it makes no difference any more.
 const FAR: usize = 2;

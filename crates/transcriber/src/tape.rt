@@ -14,7 +14,6 @@ ghost use Rattle.transcriber.specs.Walk.{begunOf, Lent, ClassAt, Ready, 
 ghost use Rattle.transcriber.specs.Walk.{Stepped, MayWrite};
 use crate::Right;
 use crate::tables::lay_tables;
-use message::alphabet;
 use message::answers::refused;
 use message::check::check;
 use message::classes;
@@ -23,7 +22,6 @@ use message::classify::class_of;
 use message::letters::is_elided;
 use message::output::put;
 use phones::Vowel;
-use phones::codes;
 use phones::consonants::VOICELESS_END;
 use phones::consonants::consonant_code;
 use phones::consonants::seen_over;
@@ -35,6 +33,9 @@ use phones::vowels::vowel_at;
 use spec::Answer;
 use spec::Checked;
 use spec::Refusal;
+use spec::alphabet;
+use spec::codes;
+use spec::numbers;
 use stress::LevelRun;
 use stress::before::class_before;
 use stress::levels;
@@ -235,7 +236,7 @@ pub fn transcribe(m: &[u8], out: &mut [u8]) -> Answer
     let n = counts.codes;
     if out.len() < n {
         return Answer::Refused(Refusal {
-            number: 11,
+            number: numbers::SHORT_OUTPUT,
             place: n,
         });
     }

@@ -17,6 +17,7 @@ use crate::tables::letter_table;
 use editor::is_break;
 use spec::Answer;
 use spec::Refusal;
+use spec::numbers;
 
 // Does the octet stand for itself: the stress mark, a break or a mark of punctuation?
 fn is_single(b: u8) -> bool
@@ -104,14 +105,14 @@ pub fn read_utf8(text: &[u8], out: &mut [u8]) -> Answer
     let extent = measure(text, &leads);
     if extent.octets < text.len() {
         return Answer::Refused(Refusal {
-            number: 13,
+            number: numbers::UNREADABLE_TEXT,
             place: extent.octets,
         });
     }
     let length = extent.bytes;
     if out.len() < length {
         return Answer::Refused(Refusal {
-            number: 11,
+            number: numbers::SHORT_OUTPUT,
             place: length,
         });
     }

@@ -3,6 +3,7 @@ ghost use mathlib.Core.Path.{_≡_};
 ghost use mathlib.Core.Bool.{true};
 ghost use Prim.Native.Nat.{_≤_};
 ghost use lib.ListN.{length};
+ghost use Rattle.spec.specs.Numbers.{messageMax};
 ghost use Rattle.spec.specs.Refusals.{NoneFits};
 ghost use Rattle.spec.specs.Answers.{within, Promise};
 ghost use Rattle.spec.specs.Utf8.{hasRow, sequence, encoded, AllRows, WritePromise};
@@ -15,6 +16,7 @@ use message::check::check;
 use spec::Answer;
 use spec::Checked;
 use spec::Refusal;
+use spec::numbers;
 
 // How many octets a byte of a message has.
 fn width(b: u8) -> usize
@@ -29,7 +31,7 @@ fn width(b: u8) -> usize
 
 // How many octets a message has.
 fn measure(m: &[u8]) -> usize
-    requires { ⌜ AllRows (now m) × (length (now m) ≤ 4096) ⌝ }
+    requires { ⌜ AllRows (now m) × (length (now m) ≤ messageMax) ⌝ }
     ensures { λ r. ⌜ r ≡ length (encoded (now (m .entry))) ⌝ }
 {
     let mut n = 0;
@@ -74,7 +76,7 @@ fn write_accepted(m: &[u8], out: &mut [u8]) -> Answer
         let n = measure(m);
         if out.len() < n {
             return Answer::Refused(Refusal {
-                number: 11,
+                number: numbers::SHORT_OUTPUT,
                 place: n,
             });
         }
