@@ -1,4 +1,5 @@
--- Paper 01, 'Turned-away messages', what is answered and what the lent output holds afterwards, for every operation.
+-- Paper 01, 'Turned-away messages', what is answered and what the lent output holds afterwards, for
+-- every operation.
 -- Assumes nothing: these are definitions.
 use Prim.Native.Nat.{ℕ}
 use mathlib.Core.Path.{_≡_}
@@ -15,7 +16,8 @@ use Rattle.spec.specs.declared.Answer.{Answer}
 use Rattle.spec.specs.declared.Checked.the-variants as checked
 use Rattle.spec.specs.declared.Answer.the-variants.{Written, Refused}
 
--- The paper's number, place, length and live count of an answer; an accepted message has number 0 and place 0.
+-- The paper's number, place, length and live count of an answer; an accepted message has number 0
+-- and place 0.
 unfoldable pub numberOf : Answer → ℕ
 numberOf (Written n k) = 0
 numberOf (Refused r) = r .number
@@ -32,7 +34,8 @@ unfoldable pub liveOf : Answer → ℕ
 liveOf (Written n k) = k
 liveOf (Refused r) = 0
 
--- The same of the check's answer, whose accepted case has the lengths of the tape and of the naming.
+-- The same of the check's answer, whose accepted case has the lengths of the tape and of the
+-- naming.
 unfoldable pub checkedNumber : Checked → ℕ
 checkedNumber (checked.Accepted counts) = 0
 checkedNumber (checked.Refused r) = r .number
@@ -77,8 +80,9 @@ joinAnswer m cuts room =
     afterCheck (checkOf m)
     (cond (eqb (badCut m cuts) (length cuts)) (within room (length (joined m cuts)) (liveCount m cuts)) (Refused (refusal misplacedCut (badCut m cuts))))
 
--- What an operation promises of its answer r and of what the lent output held, out, and holds afterwards, out′: the answer that is due, in number, place, length and live count,
--- and the bytes of it, text, before the output's own.
+-- What an operation promises of its answer r and of what the lent output held, out, and holds
+-- afterwards, out′: the answer that is due, in number, place, length and live count, and the bytes
+-- of it, text, before the output's own.
 pub record Promise (due : Answer) (text out out′ : List ℕ) (r : Answer) : Type 0 where
   pub answer : r ≡ due
   pub output : out′ ≡ outputAfter due text out

@@ -1,5 +1,7 @@
--- What holds of a phrase book (paper 02, requests 6 and 7): of one lookup or addition (`book-demands` of crate laws proves it), of a list of additions
--- (`additions-kept`), and that a listener learns nothing of what is not for him (`silence`, and for one addition `unheard-addition`).
+-- What holds of a phrase book (paper 02, requests 6 and 7): of one lookup or addition
+-- (`book-demands` of crate laws proves it), of a list of additions (`additions-kept`), and that a
+-- listener learns nothing of what is not for him (`silence`, and for one addition
+-- `unheard-addition`).
 -- Assumes nothing: these are definitions.
 use Prim.Native.Nat.{ℕ, _+_, _*_, _<_, _≤_}
 use mathlib.Core.Path.{_≡_}
@@ -22,16 +24,20 @@ use Rattle.spec.specs.declared.Found.the-variants as found
 use Rattle.spec.specs.declared.Located.{Located}
 use Rattle.spec.specs.Demands.{Settled, Exactly}
 
--- What stands in a book up to a place: the records of these phrases, whose numbers rise, and then these bytes.
+-- What stands in a book up to a place: the records of these phrases, whose numbers rise, and then
+-- these bytes.
 pub record UpTo (book : List ℕ) (fs : List Phrase) (rest : List ℕ) : Type 0 where
   pub bytes : book ≡ records fs ++ rest
   pub rising : RisingFrom 0 fs
 
--- The numbers of a book: 15 where after sound records more bytes stand that no record begins, and 16 where one does whose number is not above the last.
+-- The numbers of a book: 15 where after sound records more bytes stand that no record begins, and
+-- 16 where one does whose number is not above the last.
 pub data BookDue (book : List ℕ) : ℕ → ℕ → Type 0 where
   noRecord : (fs : List Phrase) (b : ℕ) (rest : List ℕ) → UpTo book fs (b ∷ rest)
       → ((f : Phrase) (after : List ℕ) → Fits f → b ∷ rest ≡ recordOf f ++ after → ⊥) → BookDue book brokenRecord (length (records fs))
-  notAbove : (fs : List Phrase) (f : Phrase) (rest : List ℕ) → Fits f → UpTo book fs (recordOf f ++ rest) → f .number < leastAfter 0 fs → BookDue book numberNotAbove (length (records fs))
+  notAbove : (fs : List Phrase) (f : Phrase) (rest : List ℕ) → Fits f
+      → UpTo book fs (recordOf f ++ rest) → f .number < leastAfter 0 fs
+      → BookDue book numberNotAbove (length (records fs))
 
 -- a phrase is one of these
 abbrev pub Listed : Phrase → List Phrase → Type 0
@@ -62,7 +68,8 @@ pub data FindDue (l : Listener) (book : List ℕ) (n : ℕ) : ℕ → ℕ → Ty
   ofRecords : (k p : ℕ) → BookDue book k p → FindDue l book n k p
   notForHim : HasNone l book n → FindDue l book n notForListener 0
 
--- A lookup of number n by a listener hands back the tape exactly where the book has it for him, and gives each number exactly where it is due.
+-- A lookup of number n by a listener hands back the tape exactly where the book has it for him, and
+-- gives each number exactly where it is due.
 pub record LooksUp (l : Listener) (book : List ℕ) (n : ℕ) (old new : List ℕ) (r : Found) : Type 0 where
   pub gives : (t : List ℕ) → ((r ≡ found.Tape) × (new ≡ t)) ↔ Has l book n t
   pub refuses : (k p : ℕ) → ((r ≡ found.Refused (refusal k p)) × (new ≡ old)) ↔ FindDue l book n k p
@@ -91,11 +98,14 @@ pub data AddDue (l : Listener) (book : List ℕ) (x : NewPhrase) (size room : �
 -- What holds for any buffer of bytes and any used count.
 pub record BookDemands (buffer : List ℕ) (used : ℕ) : Type 0 where
   -- a lookup is exact
-  pub find : (l : Listener) (n : ℕ) (old new : List ℕ) (r : Found) → FindPromise l buffer used n old new r → LooksUp l (bookIn buffer used) n old new r
+  pub find : (l : Listener) (n : ℕ) (old new : List ℕ) (r : Found)
+      → FindPromise l buffer used n old new r → LooksUp l (bookIn buffer used) n old new r
   -- one that tells the place is such a lookup: the bytes there are handed back
-  pub locate : (l : Listener) (n : ℕ) (r : Located) → LocatePromise l buffer used n r → FindPromise l buffer used n [] (partAt r buffer) (toldOf r)
+  pub locate : (l : Listener) (n : ℕ) (r : Located) → LocatePromise l buffer used n r
+      → FindPromise l buffer used n [] (partAt r buffer) (toldOf r)
   -- and it does not depend on what stands after the used count
-  pub rest : (buffer₂ : List ℕ) (used₂ : ℕ) → bookIn buffer₂ used₂ ≡ bookIn buffer used → (l : Listener) (n : ℕ) (old new new₂ : List ℕ) (r r₂ : Found)
+  pub rest : (buffer₂ : List ℕ) (used₂ : ℕ) → bookIn buffer₂ used₂ ≡ bookIn buffer used
+      → (l : Listener) (n : ℕ) (old new new₂ : List ℕ) (r r₂ : Found)
       → FindPromise l buffer used n old new r → FindPromise l buffer₂ used₂ n old new₂ r₂ → (r₂ ≡ r) × (new₂ ≡ new)
   -- an addition is carried out, or refused with every byte left
   pub settled : (l : Listener) (x : NewPhrase) (buffer′ : List ℕ) (r : Answer)
@@ -131,7 +141,8 @@ pub record AddedTo (buffer : List ℕ) (used : ℕ) (a : Addition) : Type 0 wher
   pub set : a .phrase .set < 256
   pub promise : AddPromise (a .listener) buffer used (a .phrase) (a .after) (a .answer)
 
--- the used count after it, which the next addition gets, and the phrases that it and the later ones added
+-- the used count after it, which the next addition gets, and the phrases that it and the later ones
+-- added
 unfoldable pub usedAfter : Answer → ℕ → ℕ
 usedAfter (Written n live) used = n
 usedAfter (Refused r) used = used
@@ -145,7 +156,8 @@ abbrev pub OneByOne : List ℕ → ℕ → List Addition → Type 0
 OneByOne buffer used [] = Unit {0}
 OneByOne buffer used (a ∷ more) = AddedTo buffer used a × OneByOne (a .after) (usedAfter (a .answer) used) more
 
--- the buffer and the used count after the last, and the phrases of those that were accepted, in order
+-- the buffer and the used count after the last, and the phrases of those that were accepted, in
+-- order
 abbrev pub lastBuffer : List ℕ → List Addition → List ℕ
 lastBuffer buffer [] = buffer
 lastBuffer buffer (a ∷ more) = lastBuffer (a .after) more
@@ -158,19 +170,25 @@ abbrev pub accepted : List Addition → List Phrase
 accepted [] = []
 accepted (a ∷ more) = addedBy (a .answer) (phraseOf (a .phrase)) (accepted more)
 
--- The book holds just these phrases in order, and each lookup gives the tape that one of them has for the listener, and else 17.
+-- The book holds just these phrases in order, and each lookup gives the tape that one of them has
+-- for the listener, and else 17.
 pub record HoldsJust (buffer : List ℕ) (used : ℕ) (fs : List Phrase) : Type 0 where
   pub sound : Sound (bookIn buffer used) fs
   pub size : used ≡ length (records fs)
-  pub find : (l : Listener) (n : ℕ) (old new : List ℕ) (r : Found) → FindPromise l buffer used n old new r
+  pub find : (l : Listener) (n : ℕ) (old new : List ℕ) (r : Found)
+      → FindPromise l buffer used n old new r
       → (r ≡ told (heard l (search fs n))) × (new ≡ handed (heard l (search fs n)) old)
-  pub locate : (l : Listener) (n : ℕ) (r : Located) → LocatePromise l buffer used n r → r ≡ placed (startOf fs n) (heard l (search fs n))
+  pub locate : (l : Listener) (n : ℕ) (r : Located) → LocatePromise l buffer used n r
+      → r ≡ placed (startOf fs n) (heard l (search fs n))
 
--- After every list of additions to an empty book, by whatever listeners and whatever stood in the buffer, it holds just the tapes of those that were accepted, under their numbers and with their sets, in order.
+-- After every list of additions to an empty book, by whatever listeners and whatever stood in the
+-- buffer, it holds just the tapes of those that were accepted, under their numbers and with their
+-- sets, in order.
 abbrev pub AdditionsKept : List ℕ → List Addition → Type 0
 AdditionsKept buffer additions = OneByOne buffer 0 additions → HoldsJust (lastBuffer buffer additions) (lastUsed 0 additions) (accepted additions)
 
--- One lookup: the number asked for and what the lent place referred to, what was answered, and what the place refers to afterwards.
+-- One lookup: the number asked for and what the lent place referred to, what was answered, and what
+-- the place refers to afterwards.
 pub record Lookup : Type 0 where
   pub number : ℕ
   pub before : List ℕ
@@ -205,14 +223,19 @@ pub record AgreeFor (l : Listener) (book book₂ : List ℕ) : Type 0 where
   pub both : BothSound book book₂
   pub same : (n : ℕ) (t : List ℕ) → IsFor l (both .phrases) n t ↔ IsFor l (both .phrases₂) n t
 
--- Slip 7, the law of silence, which the field calls noninterference. Two sound books that agree in what a listener may hear answer him alike, whatever else they hold, whatever else is in the sets, and wherever the records stand. It is one theorem for pump
--- crews, road crews and dispatch. An answer is what is handed back: a refusal's number and place, or the tape's bytes. Where in the book these stand is no part of it.
--- What it does not cover: 15 and 16, which tell of the state of the whole book, so both must be sound; time, since a lookup goes through every record, and takes a few instructions more for a phrase that is not for him than for one that is not there; and the
+-- Slip 7, the law of silence, which the field calls noninterference. Two sound books that agree in
+-- what a listener may hear answer him alike, whatever else they hold, whatever else is in the sets,
+-- and wherever the records stand. It is one theorem for pump crews, road crews and dispatch. An
+-- answer is what is handed back: a refusal's number and place, or the tape's bytes. Where in the
+-- book these stand is no part of it. What it does not cover: 15 and 16, which tell of the state of
+-- the whole book, so both must be sound; time, since a lookup goes through every record, and takes
+-- a few instructions more for a phrase that is not for him than for one that is not there; and the
 -- start that a caller in C is told, who has the whole book at hand.
 abbrev pub Silence : Listener → List ℕ → ℕ → List ℕ → ℕ → Type 0
 Silence l buffer used buffer₂ used₂ = AgreeFor l (bookIn buffer used) (bookIn buffer₂ used₂) → AnswerAlike l buffer used buffer₂ used₂
 
--- So an addition, dispatch's own too, changes no answer of a listener who is not in its phrase's set; of any buffer of bytes, sound or not.
+-- So an addition, dispatch's own too, changes no answer of a listener who is not in its phrase's
+-- set; of any buffer of bytes, sound or not.
 abbrev pub UnheardAddition : Listener → List ℕ → ℕ → Addition → Type 0
 UnheardAddition l buffer used a =
     AddedTo buffer used a → mayHear l (a .phrase .set) ≡ false

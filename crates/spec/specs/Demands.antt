@@ -1,6 +1,8 @@
--- The operator's three demands (paper 00) as statements over what the operations promise. Each operation's contract is its promise, and `demand1`, `demand2` and
--- `demand3` of crate laws prove these of it. What the requests of paper 02 add has a file each: EditDemands, Utf8Demands, LevelDemands, BookDemands.
--- That no step goes outside the lent memory and that every step ends is no statement over values: it is proved of each function by the language.
+-- The operator's three demands (paper 00) as statements over what the operations promise. Each
+-- operation's contract is its promise, and `demand1`, `demand2` and `demand3` of crate laws prove
+-- these of it. What the requests of paper 02 add has a file each: EditDemands, Utf8Demands,
+-- LevelDemands, BookDemands. That no step goes outside the lent memory and that every step ends is
+-- no statement over values: it is proved of each function by the language.
 -- Assumes nothing: these are definitions.
 use Prim.Native.Nat.{ℕ, _<_, _≤_}
 use mathlib.Core.Path.{_≡_}
@@ -12,19 +14,24 @@ use Rattle.spec.specs.Numbers.{shortOutput, misplacedCut}
 use Rattle.spec.specs.Letters.{isBreak}
 use Rattle.spec.specs.Tape.{tape, names}
 use Rattle.spec.specs.Refusals.{NoneFits, Given}
-use Rattle.spec.specs.Joints.{Rising, CutOf, breaks, joined, EachPart, markIndex, SplitAt, DiffersAt, isLive, NoneLive, liveCount, FirstBad}
-use Rattle.spec.specs.Answers.{numberOf, placeOf, lengthOf, liveOf, checkedNumber, checkedPlace, checkedCodes, checkedNames, CheckPromise, NamePromise, TranscribePromise, JoinPromise}
+use Rattle.spec.specs.Joints.{Rising, CutOf, breaks, joined, EachPart, markIndex, SplitAt}
+use Rattle.spec.specs.Joints.{DiffersAt, isLive, NoneLive, liveCount, FirstBad}
+use Rattle.spec.specs.Answers.{numberOf, placeOf, lengthOf, liveOf, checkedNumber}
+use Rattle.spec.specs.Answers.{checkedPlace, checkedCodes, checkedNames, CheckPromise}
+use Rattle.spec.specs.Answers.{NamePromise, TranscribePromise, JoinPromise}
 use Rattle.spec.specs.declared.Checked.{Checked}
 use Rattle.spec.specs.declared.Answer.{Answer}
 
--- The number and the place that the table has for a message, a list of cuts and an output of this room, where the full answer has this size; its whole order is
--- 1 and 2, then 3 to 10, then 12 at the first bad cut, then 11. The naming operation and the transcriber have no cuts.
+-- The number and the place that the table has for a message, a list of cuts and an output of this
+-- room, where the full answer has this size; its whole order is 1 and 2, then 3 to 10, then 12 at
+-- the first bad cut, then 11. The naming operation and the transcriber have no cuts.
 pub data Due (m cuts : List ℕ) (size room : ℕ) : ℕ → ℕ → Type 0 where
   turnedAway : (n p : ℕ) → Given m n p → Due m cuts size room n p
   wrongCut : (i : ℕ) → NoneFits m → FirstBad m cuts i → Due m cuts size room misplacedCut i
   tooShort : NoneFits m → Rising m cuts → room < size → Due m cuts size room shortOutput size
 
--- An operation is carried out: the output begins with its text and keeps its other bytes, and the answer tells the text's length and how many cuts are live.
+-- An operation is carried out: the output begins with its text and keeps its other bytes, and the
+-- answer tells the text's length and how many cuts are live.
 pub record CarriedOut (text : List ℕ) (count : ℕ) (out out′ : List ℕ) (r : Answer) : Type 0 where
   pub output : out′ ≡ text ++ drop (length text) out
   pub number : numberOf r ≡ 0
@@ -67,7 +74,8 @@ pub record Demand1 (m : List ℕ) : Type 0 where
       → Settled (Due m cuts (length (joined m cuts)) (length out))
       (joined m cuts) (liveCount m cuts) out out′ r
 
--- An operation accepts exactly what it must, where Accepted says what that is, and refuses exactly as it must.
+-- An operation accepts exactly what it must, where Accepted says what that is, and refuses exactly
+-- as it must.
 pub record Exactly (Accepted : Type 0) (Number : ℕ → ℕ → Type 0) (text : List ℕ) (count : ℕ) (out out′ : List ℕ) (r : Answer) : Type 0 where
   -- lent an output long enough, it accepts exactly this
   pub accepts : length text ≤ length out → (numberOf r ≡ 0) ↔ Accepted
@@ -78,12 +86,16 @@ pub record Exactly (Accepted : Type 0) (Number : ℕ → ℕ → Type 0) (text :
 
 -- Demand 2, for any bytes m.
 pub record Demand2 (m : List ℕ) : Type 0 where
-  -- the check accepts exactly what none of numbers 1 to 10 fits anywhere, and gives each number exactly where it is due
+  -- the check accepts exactly what none of numbers 1 to 10 fits anywhere, and gives each number
+  -- exactly where it is due
   pub accepts : (r : Checked) → CheckPromise m r → (checkedNumber r ≡ 0) ↔ NoneFits m
-  pub refuses : (r : Checked) → CheckPromise m r → (n p : ℕ) → 1 ≤ n → ((checkedNumber r ≡ n) × (checkedPlace r ≡ p)) ↔ Given m n p
+  pub refuses : (r : Checked) → CheckPromise m r → (n p : ℕ) → 1 ≤ n
+      → ((checkedNumber r ≡ n) × (checkedPlace r ≡ p)) ↔ Given m n p
   -- it tells how much must be lent
-  pub counts : (r : Checked) → CheckPromise m r → NoneFits m → (checkedCodes r ≡ length (tape m)) × (checkedNames r ≡ length (names m))
-  -- the transcriber accepts exactly the same and gives the tape that the passes define, and the naming operation the names
+  pub counts : (r : Checked) → CheckPromise m r → NoneFits m
+      → (checkedCodes r ≡ length (tape m)) × (checkedNames r ≡ length (names m))
+  -- the transcriber accepts exactly the same and gives the tape that the passes define, and the
+  -- naming operation the names
   pub transcriber : (out out′ : List ℕ) (r : Answer) → TranscribePromise m out out′ r
       → Exactly (NoneFits m) (Due m [] (length (tape m)) (length out)) (tape m) 0 out out′ r
   pub naming : (out out′ : List ℕ) (r : Answer) → NamePromise m out out′ r
@@ -92,7 +104,8 @@ pub record Demand2 (m : List ℕ) : Type 0 where
   pub joiner : (cuts out out′ : List ℕ) (r : Answer) → JoinPromise m cuts out out′ r
       → Exactly (NoneFits m × Rising m cuts) (Due m cuts (length (joined m cuts)) (length out)) (joined m cuts) (liveCount m cuts) out out′ r
 
--- The first tape is the whole message's, `tape m`; the second its parts' and the marks of the cuts between them, `joined m cuts`.
+-- The first tape is the whole message's, `tape m`; the second its parts' and the marks of the cuts
+-- between them, `joined m cuts`.
 pub record TwoTapes (m cuts : List ℕ) : Type 0 where
   -- each part is an accepted message of its own
   pub parts : EachPart NoneFits m cuts
@@ -104,7 +117,8 @@ pub record TwoTapes (m cuts : List ℕ) : Type 0 where
   pub whole : (c : ℕ) → CutOf c cuts → SplitAt m c (tape m)
   pub pieces : (c : ℕ) → CutOf c cuts → SplitAt m c (joined m cuts)
   -- and a live one is heard there: a code beside that mark is another
-  pub differs : (c : ℕ) → CutOf c cuts → isLive m c ≡ true → DiffersAt (tape m) (joined m cuts) (markIndex m c)
+  pub differs : (c : ℕ) → CutOf c cuts → isLive m c ≡ true
+      → DiffersAt (tape m) (joined m cuts) (markIndex m c)
 
 -- The output begins with the second tape, and a count of 0 tells that the first would be no other.
 pub record Joins (m cuts out out′ : List ℕ) (r : Answer) : Type 0 where
@@ -120,5 +134,6 @@ pub record Demand3 (m : List ℕ) : Type 0 where
   -- one claim over the whole list
   pub tapes : (cuts : List ℕ) → Rising m cuts → TwoTapes m cuts
   -- the joiner, with room for the second tape, whatever stood there before
-  pub joiner : (cuts : List ℕ) → Rising m cuts → (out out′ : List ℕ) (r : Answer) → length (joined m cuts) ≤ length out
+  pub joiner : (cuts : List ℕ) → Rising m cuts → (out out′ : List ℕ) (r : Answer)
+      → length (joined m cuts) ≤ length out
       → JoinPromise m cuts out out′ r → Joins m cuts out out′ r

@@ -8,7 +8,8 @@ use mathlib.Core.List.{List, [], _∷_, _++_}
 use lib.Dec.{eqb, leb}
 use lib.ListN.{length, take, drop, getD}
 use Rattle.spec.specs.Alphabet.{«и», «э»}
-use Rattle.spec.specs.Letters.{Letter, read, firstWord, lastWord, isGap, isBreak, isSign, isObstruent}
+use Rattle.spec.specs.Letters.{Letter, read, firstWord, lastWord, isGap, isBreak, isSign}
+use Rattle.spec.specs.Letters.{isObstruent}
 use Rattle.spec.specs.Codes.{markOf, isMarkCode}
 use Rattle.spec.specs.Voicing.{voices}
 use Rattle.spec.specs.Vowels.{endsHard}
@@ -36,7 +37,8 @@ breaksFrom k (b ∷ m) = cond (isBreak b) (k ∷ breaksFrom (suc k) m) (breaksFr
 unfoldable pub breaks : List ℕ → List ℕ
 breaks m = breaksFrom 0 m
 
--- the parts from place a on, each read as if nothing stood around it, and between two of them the mark of the cut that parts them
+-- the parts from place a on, each read as if nothing stood around it, and between two of them the
+-- mark of the cut that parts them
 unfoldable pub joinedFrom : (List ℕ → List ℕ) → List ℕ → ℕ → List ℕ → List ℕ
 joinedFrom reading m a [] = reading (drop a m)
 joinedFrom reading m a (c ∷ cuts) = reading (take (c - a) (drop a m)) ++ (markOf (getD m c 0) ∷ joinedFrom reading m (suc c) cuts)
@@ -53,7 +55,8 @@ EachPartFrom P m a (c ∷ cuts) = P (take (c - a) (drop a m)) × EachPartFrom P 
 abbrev pub EachPart : (List ℕ → Type 0) → List ℕ → List ℕ → Type 0
 EachPart P m cuts = EachPartFrom P m 0 cuts
 
--- where the mark of a cut at place c stands on either tape: after the codes of what stands before the cut
+-- where the mark of a cut at place c stands on either tape: after the codes of what stands before
+-- the cut
 unfoldable pub markIndex : List ℕ → ℕ → ℕ
 markIndex m c = length (sounds (take c m))
 
@@ -67,7 +70,8 @@ unfoldable pub breakMarks : List ℕ → List ℕ
 breakMarks [] = []
 breakMarks (b ∷ m) = cond (isBreak b) (markOf b ∷ breakMarks m) (breakMarks m)
 
--- A tape of the message, whole or in parts, at the cut at place c: codes, the cut's own mark, codes.
+-- A tape of the message, whole or in parts, at the cut at place c: codes, the cut's own mark,
+-- codes.
 pub record SplitAt (m : List ℕ) (c : ℕ) (t : List ℕ) : Type 0 where
   pub before : List ℕ
   pub after : List ℕ
@@ -100,7 +104,8 @@ unfoldable pub beginsWithIOrE : List Letter → Bool
 beginsWithIOrE [] = false
 beginsWithIOrE (l ∷ w) = eqb (l .byte) «и» || (eqb (l .byte) «э» && not (l .stressed))
 
--- (a): an obstruent before the cut, and sounds that voice it just after its mark in the whole message's tape
+-- (a): an obstruent before the cut, and sounds that voice it just after its mark in the whole
+-- message's tape
 unfoldable pub liveByVoice : List ℕ → ℕ → Bool
 liveByVoice m c = endsInObstruent (wordBefore m c) && voices (drop (suc (markIndex m c)) (sounds m))
 
@@ -121,11 +126,13 @@ unfoldable pub liveCount : List ℕ → List ℕ → ℕ
 liveCount m [] = 0
 liveCount m (c ∷ cuts) = cond (isLive m c) (suc (liveCount m cuts)) (liveCount m cuts)
 
--- number 12 at one cut: it is not the place of a break (0, past the end, is no break), or it is below the least place that it may have
+-- number 12 at one cut: it is not the place of a break (0, past the end, is no break), or it is
+-- below the least place that it may have
 unfoldable pub row12 : List ℕ → ℕ → ℕ → Bool
 row12 m least c = not (isBreak (getD m c 0)) || not (leb least c)
 
--- the index of the first bad cut of a list whose first cut has the index k; the list's end where there is none
+-- the index of the first bad cut of a list whose first cut has the index k; the list's end where
+-- there is none
 unfoldable pub badCutFrom : List ℕ → ℕ → ℕ → List ℕ → ℕ
 badCutFrom m least k [] = k
 badCutFrom m least k (c ∷ cuts) = cond (row12 m least c) k (badCutFrom m (suc c) (suc k) cuts)

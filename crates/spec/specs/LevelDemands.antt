@@ -1,4 +1,5 @@
--- What holds of a level that is to be spoken (paper 02, request 5). `level-demands` of crate laws proves it.
+-- What holds of a level that is to be spoken (paper 02, request 5). `level-demands` of crate laws
+-- proves it.
 -- Assumes nothing: these are definitions.
 use Prim.Native.Nat.{ℕ, _<_, _≤_}
 use mathlib.Core.Path.{_≡_}
@@ -17,7 +18,8 @@ use Rattle.spec.specs.Demands.{CarriedOut, Settled, Exactly}
 -- The numbers for a level: 14, outside the range, and then 11.
 pub data LevelDue (level : ℤ) (room : ℕ) : ℕ → ℕ → Type 0 where
   outside : levelMax < natAbs level → LevelDue level room levelOutside 0
-  noRoomFor : InRange level → room < length (spoken level) → LevelDue level room shortOutput (length (spoken level))
+  noRoomFor : InRange level → room < length (spoken level)
+      → LevelDue level room shortOutput (length (spoken level))
 
 -- What holds for any signed number that is to be spoken as a level.
 pub record LevelDemands (level : ℤ) : Type 0 where
@@ -25,17 +27,21 @@ pub record LevelDemands (level : ℤ) : Type 0 where
   pub settled : (out out′ : List ℕ) (r : Answer) → LevelPromise level out out′ r
       → Settled (LevelDue level (length out)) (spoken level) 0 out out′ r
   -- lent an output long enough, exactly the levels of the range are spoken
-  pub exact : (out out′ : List ℕ) (r : Answer) → LevelPromise level out out′ r → Exactly (InRange level) (LevelDue level (length out)) (spoken level) 0 out out′ r
+  pub exact : (out out′ : List ℕ) (r : Answer) → LevelPromise level out out′ r
+      → Exactly (InRange level) (LevelDue level (length out)) (spoken level) 0 out out′ r
   -- what was written are its words, the message that is handed on
-  pub handed : (out out′ : List ℕ) (r : Answer) → LevelPromise level out out′ r → numberOf r ≡ 0 → take (lengthOf r) out′ ≡ spoken level
+  pub handed : (out out′ : List ℕ) (r : Answer) → LevelPromise level out out′ r → numberOf r ≡ 0
+      → take (lengthOf r) out′ ≡ spoken level
   -- 54 bytes are always enough
   pub size : InRange level → length (spoken level) ≤ 54
   -- two levels have equal words exactly when they are equal
-  pub equal : (other : ℤ) → InRange level → InRange other → (spoken level ≡ spoken other) ↔ (level ≡ other)
+  pub equal : (other : ℤ) → InRange level → InRange other
+      → (spoken level ≡ spoken other) ↔ (level ≡ other)
   -- each word has one stress mark
   pub marks : Each (λ w. marksIn w ≡ 1) (levelWords level)
   -- the words are an accepted message
   pub message : InRange level → NoneFits (spoken level)
   -- so the transcriber, lent an output long enough, gives its tape
-  pub transcriber : InRange level → (out out′ : List ℕ) (r : Answer) → TranscribePromise (spoken level) out out′ r → length (tape (spoken level)) ≤ length out
+  pub transcriber : InRange level → (out out′ : List ℕ) (r : Answer)
+      → TranscribePromise (spoken level) out out′ r → length (tape (spoken level)) ≤ length out
       → CarriedOut (tape (spoken level)) 0 out out′ r

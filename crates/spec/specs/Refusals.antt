@@ -8,7 +8,10 @@ use mathlib.Core.Logic.{_⊎_}
 use mathlib.Core.List.{List, [], _∷_}
 use lib.Dec.{eqb, leb}
 use lib.ListN.{length, getD, drop}
-use Rattle.spec.specs.Numbers.{emptyMessage, longMessage, unknownByte, misplacedBreak, misplacedMark, signFirst, signAfterSign, consonantAfterHardSign, vowelSignVowel, longWord, messageMax, wordMax}
+use Rattle.spec.specs.Numbers.{emptyMessage, longMessage, unknownByte, misplacedBreak}
+use Rattle.spec.specs.Numbers.{misplacedMark, signFirst, signAfterSign}
+use Rattle.spec.specs.Numbers.{consonantAfterHardSign, vowelSignVowel, longWord, messageMax}
+use Rattle.spec.specs.Numbers.{wordMax}
 use Rattle.spec.specs.Alphabet.{«ъ»}
 use Rattle.spec.specs.Letters.{small, isBreak, isMark, isConsonant, isSign, isVowel}
 use Rattle.spec.specs.Counting.{codeCount, nameCount}
@@ -112,7 +115,8 @@ faultAt before b after = firstFit rows before b after
 abbrev pub refusal : ℕ → ℕ → Refusal
 refusal n p = record { number = n; place = p }
 
--- rows 3 to 10 by smallest place, over a message's bytes after those that stand before; a place counts the bytes before it
+-- rows 3 to 10 by smallest place, over a message's bytes after those that stand before; a place
+-- counts the bytes before it
 unfoldable pub scan : Checked → List ℕ → List ℕ → Checked
 scan accepted before [] = accepted
 scan accepted before (b ∷ after) =
@@ -158,7 +162,8 @@ rank k = cond (eqb k emptyMessage) 0 (cond (eqb k longMessage) 1 (suc (suc (inde
 abbrev pub NoneFits : List ℕ → Type 0
 NoneFits m = (k p : ℕ) → fits m k p ≡ false
 
--- number k at place q comes before number n at place p: 1 and 2 have place 0 and come first there; then by the smallest place, at one place in the order of the table
+-- number k at place q comes before number n at place p: 1 and 2 have place 0 and come first there;
+-- then by the smallest place, at one place in the order of the table
 abbrev pub Earlier : ℕ → ℕ → ℕ → ℕ → Type 0
 Earlier k q n p = (q < p) ⊎ ((q ≡ p) × (rank k < rank n))
 

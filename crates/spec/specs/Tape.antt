@@ -12,12 +12,13 @@ use Rattle.spec.specs.Phones.{phonesFrom}
 use Rattle.spec.specs.Voicing.{voices, voice}
 use Rattle.spec.specs.Palatalization.{palatalize}
 
--- A word through passes 1 to 5. Two bits come from its neighbours: hard, a hard boundary stands before it; next, the next word of its phrase voices an obstruent before it.
+-- A word through passes 1 to 5. Two bits come from its neighbours: hard, a hard boundary stands
+-- before it; next, the next word of its phrase voices an obstruent before it.
 unfoldable pub wordTape : Bool → Bool → List Letter → List ℕ
 wordTape hard next w = palatalize (voice next (phonesFrom hard (factsOf w) 0 (elide w)))
 
--- The tape of a stretch of a message, given the same two bits for what stands around it. Nothing crosses a pause.
--- Pass 3's hard boundary: a gap, after a word that ends hard.
+-- The tape of a stretch of a message, given the same two bits for what stands around it. Nothing
+-- crosses a pause. Pass 3's hard boundary: a gap, after a word that ends hard.
 unfoldable pub segment : Bool → Bool → Message → List ℕ
 segment hard next (last w) = wordTape hard next w
 segment hard next (more w x r) =

@@ -1,5 +1,5 @@
--- Paper 01, pass 3, with paper 02, request 4: the hard boundary, the sounds of vowels, and which have a glide. The words here have
--- been through pass 1.
+-- Paper 01, pass 3, with paper 02, request 4: the hard boundary, the sounds of vowels, and which
+-- have a glide. The words here have been through pass 1.
 -- Assumes nothing: these are definitions.
 use Prim.Native.Nat.{ℕ}
 use mathlib.Core.Bool.{Bool, true, false, cond, _&&_, _||_}
@@ -15,7 +15,8 @@ use Rattle.spec.specs.declared.Level.{Level}
 use Rattle.spec.specs.declared.Level.the-variants.{Stressed, First, Second}
 use Rattle.spec.specs.declared.Syllable.{Syllable}
 
--- the last letter of a word is p and the one before it is q: does the word end in T or P, or in ь with T before it?
+-- the last letter of a word is p and the one before it is q: does the word end in T or P, or in ь
+-- with T before it?
 unfoldable pub hardEnd : ℕ → ℕ → Bool
 hardEnd q p = isHardOnly p || (isPaired p || (eqb p «ь» && isHardOnly q))
 
@@ -43,7 +44,8 @@ byLevel Second s one two = two
 unfoldable pub initial : ℕ → Bool
 initial p = eqb p 0
 
--- The vowel table, a row a vowel. p is the letter before ("after"); hard says that a hard boundary stands right before this letter; s is the vowel's syllable.
+-- The vowel table, a row a vowel. p is the letter before ("after"); hard says that a hard boundary
+-- stands right before this letter; s is the vowel's syllable.
 module _ (hard : Bool) (p : ℕ) (s : Syllable) where
   -- pass 3, row а: reduced one way after a soft-only consonant (class Q), and kept А1 where initial
   unfoldable pub rowА : ℕ
@@ -102,7 +104,8 @@ bare Covered = false
 abbrev pub iotated : List ℕ
 iotated = «е» ∷ «ё» ∷ «ю» ∷ «я» ∷ []
 
--- Has the vowel b, after p, a glide (the paper's J) before its sound? е ё ю я have one in a bare syllable, and they and и have one after a sign. о has one after ь (paper 02, request 4).
+-- Has the vowel b, after p, a glide (the paper's J) before its sound? е ё ю я have one in a bare
+-- syllable, and they and и have one after a sign. о has one after ь (paper 02, request 4).
 unfoldable pub glides : ℕ → Cover → ℕ → Bool
 glides p cover b =
     (among iotated b && (bare cover || isSign p))
