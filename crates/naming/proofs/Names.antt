@@ -9,10 +9,10 @@ use Rattle.message.specs.Places.{wordAt, letterOf, Steady}
 use Rattle.message.proofs.Left.{read-letter, read-mark, read-break, read-end}
 use Rattle.message.proofs.Bytes.{vowel-break, vowel-mark}
 use Rattle.laws.proofs.{Classes.cond-app, Classes.either, Elided.names-elide}
-use Rattle.stress.specs.Places.{Left, leftAt, markBefore, factsAt}
+use Rattle.stress.specs.Places.{Left, leftAt, factsAt, syllableAt}
 use Rattle.naming.specs.Names.{tailNamesOf, namesAt}
 use Rattle.stress.proofs.Left.{start, afterLetter, left-letter, left-mark, left-break}
-use Rattle.stress.proofs.Marked.{marked-within, marked-first, marked-after}
+use Rattle.stress.proofs.Whole.{whole-within, whole-first, whole-after}
 
 -- at the start of a word the names from there on are those of the message
 start-names : (hard : Bool) (r : Message) → namesOf r ≡ tailNamesOf (start hard) (factsOf (firstWord r)) r
@@ -31,8 +31,8 @@ module _ (l : Left) (facts : Facts) (x : Letter) where
 module _ (m : List ℕ) (steady : Steady m) where
   -- the names from the first place on are all of them
   pub names-start : namesAt m 0 ≡ names m
-  unfolding namesAt names leftAt markBefore wordAt
-  names-start = rw (marked-first m steady 0 refl (steady .first)) (sym (start-names false (read m)))
+  unfolding namesAt names leftAt wordAt
+  names-start = rw (whole-first m) (sym (start-names false (read m)))
 
   -- at the end only an incomplete syllable is left to name
   pub names-end : namesAt m (length m) ≡ incomplete (leftAt m (length m) .p)
@@ -41,22 +41,27 @@ module _ (m : List ℕ) (steady : Steady m) where
 
   -- a letter that is a vowel names its syllable, another none
   pub names-letter : (i : ℕ) → i < length m → isBreak (getD m i 0) ≡ false → isMark (getD m i 0) ≡ false
-      → namesAt m i ≡ cond (vowelByte (getD m i 0)) (nameOf (syllableOf (factsAt m i) (leftAt m i .p) (letterOf m i) (wordAt m (suc i))) ∷ namesAt m (suc i)) (namesAt m (suc i))
+      → namesAt m i ≡ cond (vowelByte (getD m i 0)) (nameOf (syllableAt m i) ∷ namesAt m (suc i)) (namesAt m (suc i))
   unfolding namesAt vowelByte letterOf wordAt
-  names-letter i h b k = rw (← marked-within m steady i h b, left-letter m i h b k, read-letter m i h b k) (put-names (leftAt m i) (factsAt m i) (letterOf m i) (read (drop (suc i) m)))
+  names-letter i h b k =
+      rw (← whole-within m steady i h b, left-letter m i h b k, read-letter m i h b k)
+      (put-names (leftAt m i) (factsAt m i) (letterOf m i) (read (drop (suc i) m)))
 
   -- so a vowel puts a name before the rest's
   pub names-vowel : (i : ℕ) → i < length m → vowelByte (getD m i 0) ≡ true
-      → namesAt m i ≡ nameOf (syllableOf (factsAt m i) (leftAt m i .p) (letterOf m i) (wordAt m (suc i))) ∷ namesAt m (suc i)
+      → namesAt m i ≡ nameOf (syllableAt m i) ∷ namesAt m (suc i)
   names-vowel i h v = rw v at (names-letter i h (vowel-break _ (steady .bytes i) v) (vowel-mark _ (steady .bytes i) v))
 
   -- a byte that is neither a vowel nor a break names nothing
   pub names-other : (i : ℕ) → i < length m → isBreak (getD m i 0) ≡ false → vowelByte (getD m i 0) ≡ false → namesAt m i ≡ namesAt m (suc i)
   unfolding namesAt
   names-other i h b v =
-      either (isMark (getD m i 0)) (λ k. rw (← marked-within m steady i h b, left-mark m i h k, read-mark m i h k)) (λ k. rw v at (names-letter i h b k))
+      either (isMark (getD m i 0)) (λ k. rw (← whole-within m steady i h b, left-mark m i h k, read-mark m i h k))
+      (λ k. rw v at (names-letter i h b k))
 
   -- at a break an incomplete syllable is named
   pub names-break : (i : ℕ) → i < length m → isBreak (getD m i 0) ≡ true → namesAt m i ≡ incomplete (leftAt m i .p) ++ namesAt m (suc i)
   unfolding namesAt tailNamesOf namesFrom wordAt
-  names-break i h b = rw (read-break m i h b, left-break m i h b, marked-after m steady i b) (ap (λ (t : List ℕ). incomplete (leftAt m i .p) ++ t) (start-names _ (read (drop (suc i) m))))
+  names-break i h b =
+      rw (read-break m i h b, left-break m i h b, whole-after m i b)
+      (ap (λ (t : List ℕ). incomplete (leftAt m i .p) ++ t) (start-names _ (read (drop (suc i) m))))

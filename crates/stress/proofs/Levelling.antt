@@ -14,7 +14,7 @@ use Rattle.stress.specs.{declared.LevelRun.LevelRun, Places.markBefore, 
 use Rattle.stress.specs.Levels.{levelAt, countedBy, numbered, nearly, sinceBy, endRun, overVowel, overMark}
 use Rattle.stress.specs.Levels.{overBreak, overLetter, stepsOf, turnOf, stepOver, StepDue, LookDue, Looked, LevelsAt}
 use Rattle.stress.proofs.Raw.{where-same}
-use Rattle.stress.proofs.Marked.{marked-within, marked-break, marked-end}
+use Rattle.stress.proofs.Marked.{marked-within, marked-break, marked-end, facts-marked}
 
 -- a letter of these classes is no vowel, no break and no mark
 pub plain-letter : (b : ℕ) → b < 256 → between 4 9 (classOf b) ≡ true → (isBreak b ≡ false) × (isMark b ≡ false) × (vowelByte b ≡ false)
@@ -108,7 +108,7 @@ module _ (m : List ℕ) (steady : Steady m) (i : ℕ) (h : i < length m) where
     pub levels-found : isBreak (getD m i 0) ≡ false → numbered (countedBy (s .since) (s .marked)) ≡ levelAt m i
     unfolding levelOf letterOf
     levels-found b =
-        level-nearly (s .since) (s .marked) ∙ rw (l .since, l .marked, marked-within m steady i h b)
+        level-nearly (s .since) (s .marked) ∙ rw (l .since, l .marked, facts-marked m steady i (omega arith), marked-within m steady i h b)
         (level-since (beginsWithMark (drop (suc i) m)) (nextStressed (wordAt m (suc i))) (markedAt m (suc i)))
 
     -- over a vowel

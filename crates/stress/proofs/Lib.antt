@@ -2,3 +2,4 @@ pub mod Left
 pub mod Levelling
 pub mod Marked
 pub mod Raw
+pub mod Whole

@@ -1,12 +1,15 @@
--- Whether the word at a place has a mark: within a word, at its end and at its start.
-use Rattle.laws.proofs.Kit.{ℕ, suc, _<_, _≡_, true, false, or-assoc, or-comm, or-false, List, length, getD, drop, drop-cons, drop-length}
+-- Whether the word at a place has a mark, as the bytes beside the place tell it: within a word, at its end and at its start. So the bytes
+-- tell of the mark what the facts of the whole word say.
+use Rattle.laws.proofs.Kit.{ℕ, zero, suc, _<_, _≤_, _≡_, refl, sym, _∙_, true, false, arith, or-assoc, or-comm, or-false, List, length}
+use Rattle.laws.proofs.Kit.{getD, drop, drop-cons, drop-length}
 use Rattle.spec.specs.Letters.{isMark, isBreak}
 use Rattle.spec.specs.Syllables.{hasMark}
 use Rattle.message.specs.Places.{wordAt, Steady}
 use Rattle.message.proofs.Left.{begins-at, unmarked-after}
-use Rattle.laws.proofs.Classes.{break-vowel}
-use Rattle.stress.specs.Places.{markBefore, markFrom, markedAt}
+use Rattle.laws.proofs.Classes.{break-vowel, either}
+use Rattle.stress.specs.Places.{markBefore, markFrom, markedAt, factsAt}
 use Rattle.stress.proofs.Left.{mark-first}
+use Rattle.stress.proofs.Whole.{whole-within, whole-first, whole-after}
 
 module _ (m : List ℕ) (steady : Steady m) where
   -- whether the word has a mark does not change within it
@@ -25,11 +28,19 @@ module _ (m : List ℕ) (steady : Steady m) where
   marked-end = rw (drop-length m) (or-false (markBefore m (length m)))
 
   -- at the start of a word the mark is told by its letters
-  pub marked-first : (i : ℕ) → markBefore m i ≡ false → isMark (getD m i 0) ≡ false → markedAt m i ≡ hasMark (wordAt m i)
+  marked-first : (i : ℕ) → markBefore m i ≡ false → isMark (getD m i 0) ≡ false → markedAt m i ≡ hasMark (wordAt m i)
   unfolding markedAt wordAt
   marked-first i b k = rw (b, ← mark-first (drop i m), begins-at m i, k)
 
   -- so it is after a break
-  pub marked-after : (i : ℕ) → isBreak (getD m i 0) ≡ true → markedAt m (suc i) ≡ hasMark (wordAt m (suc i))
+  marked-after : (i : ℕ) → isBreak (getD m i 0) ≡ true → markedAt m (suc i) ≡ hasMark (wordAt m (suc i))
   unfolding markBefore
   marked-after i b = marked-first (suc i) (rw b) (unmarked-after m steady i (break-vowel (getD m i 0) b))
+
+  -- so it is as the facts of the whole word say
+  pub facts-marked : (i : ℕ) → i ≤ length m → factsAt m i .marked ≡ markedAt m i
+  unfolding markBefore
+  facts-marked zero h = rw (whole-first m) (sym (marked-first 0 refl (steady .first)))
+  facts-marked (suc i) h =
+      either (isBreak (getD m i 0)) (λ b. rw (whole-after m i b) (sym (marked-after i b)))
+      (λ b. rw (← whole-within m steady i h b) (facts-marked i (omega arith)) ∙ marked-within i h b)

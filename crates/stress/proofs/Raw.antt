@@ -5,13 +5,13 @@ use Rattle.spec.specs.Letters.{between, small, plainVowels, softeningVowels, is
 use Rattle.spec.specs.Syllables.{coverAfter, incomplete, syllableOf}
 use Rattle.spec.specs.Vowels.{initial}
 use Rattle.message.specs.Classes.{classOf, pauseClass, isBreakClass, isSignClass, isCoveringClass, isVowelClass, isLetterClass}
-use Rattle.message.specs.Places.{Steady, letterOf, wordAt}
+use Rattle.message.specs.Places.{Steady}
 use Rattle.message.proofs.Bytes.{by-class, letter-class}
 use Rattle.message.proofs.{Before.vowel-before, Computed.everything}
 use Rattle.laws.proofs.Classes.{among-same, below, below-same}
 use Rattle.stress.specs.Before.{byteBefore, classBefore, ByteTells, ClassTells, syllableBy}
 use Rattle.stress.specs.Levels.{levelAt}
-use Rattle.stress.specs.Places.{Left, stepLeft, leftAt, factsAt}
+use Rattle.stress.specs.Places.{Left, stepLeft, leftAt, syllableAt}
 use Rattle.stress.proofs.Left.{left-last}
 
 -- a number between two others
@@ -109,9 +109,7 @@ module _ (m : List ℕ) (steady : Steady m) where
   unfolding incomplete
   incomplete-raw i h = rw (class-tells i h .covers)
 
-  -- the syllable of the letter at place i
-  pub syllable-raw : (i : ℕ) → i < length m
-      → syllableOf (factsAt m i) (leftAt m i .p) (letterOf m i) (wordAt m (suc i))
-      ≡ syllableBy (classBefore m i) (levelAt m i)
+  -- the syllable of the vowel at place i
+  pub syllable-raw : (i : ℕ) → i < length m → syllableAt m i ≡ syllableBy (classBefore m i) (levelAt m i)
   unfolding syllableOf coverAfter
   syllable-raw i h = rw (class-tells i (omega arith) .covers)

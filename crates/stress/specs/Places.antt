@@ -4,10 +4,10 @@
 -- Assumes nothing: these are definitions.
 use Prim.Native.Nat.{ℕ, zero, suc}
 use mathlib.Core.Bool.{Bool, false, cond, _&&_, _||_, not}
-use mathlib.Core.List.{List, [], _∷_}
+use mathlib.Core.List.{List, [], _∷_, _++_}
 use lib.ListN.{getD, drop}
-use Rattle.spec.specs.Letters.{small, isMark, isBreak, isGap}
-use Rattle.spec.specs.Syllables.{Facts, syllableOf}
+use Rattle.spec.specs.Letters.{Letter, small, isMark, isBreak, isGap}
+use Rattle.spec.specs.Syllables.{Facts, factsOf, syllableOf}
 use Rattle.spec.specs.Vowels.{hardEnd}
 use Rattle.message.specs.Places.{wordAt, letterOf}
 use Rattle.spec.specs.declared.Syllable.{Syllable}
@@ -41,9 +41,19 @@ markFrom (b ∷ m) = not (isBreak b) && (isMark b || markFrom m)
 unfoldable pub markedAt : List ℕ → ℕ → Bool
 markedAt m i = markBefore m i || markFrom (drop i m)
 
--- the facts of the word at place i
+-- the letters of the word before place i
+unfoldable pub lettersAt : List ℕ → ℕ → List Letter
+lettersAt m zero = []
+lettersAt m (suc i) =
+    let b = getD m i 0 in
+    cond (isBreak b) [] (cond (isMark b) (lettersAt m i) (lettersAt m i ++ (letterOf m i ∷ [])))
+
+-- the whole word at place i, and its facts
+unfoldable pub wholeAt : List ℕ → ℕ → List Letter
+wholeAt m i = lettersAt m i ++ wordAt m i
+
 abbrev pub factsAt : List ℕ → ℕ → Facts
-factsAt m i = record { marked = markedAt m i }
+factsAt m i = factsOf (wholeAt m i)
 
 -- the syllable of the vowel at place i
 abbrev pub syllableAt : List ℕ → ℕ → Syllable

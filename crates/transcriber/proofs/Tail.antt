@@ -8,12 +8,12 @@ use Rattle.spec.specs.{Codes.markOf, Codes.isVoicing, Vowels.endsHardFrom, Vowe
 use Rattle.message.specs.Places.{wordAt, letterOf, Steady}
 use Rattle.message.proofs.Left.{mark-within, word-put, read-letter, read-mark, read-break, read-end}
 use Rattle.laws.proofs.{Stretch.voices-over, Stretch.voices-first}
-use Rattle.stress.specs.Places.{Left, leftAt, markBefore, factsAt}
+use Rattle.stress.specs.Places.{Left, leftAt, factsAt}
 use Rattle.transcriber.specs.Places.{tailTape, tailNext, tailWord, tapeAt, toneAt, soundAt, codesAt, toneAfter, soundAfter}
 use Rattle.transcriber.specs.Fused.{letterCodes, fusedFrom}
 use Rattle.phones.specs.Sounds.{toneBefore}
 use Rattle.stress.proofs.Left.{start, afterLetter, left-letter, left-mark, left-break}
-use Rattle.stress.proofs.Marked.{marked-within, marked-first, marked-after}
+use Rattle.stress.proofs.Whole.{whole-within, whole-first, whole-after}
 use Rattle.transcriber.proofs.Fused.{word-fused}
 
 -- at the start of a word its stretch is the tape of what follows
@@ -83,8 +83,8 @@ voices-start hard r =
 module _ (m : List ℕ) (steady : Steady m) where
   -- the whole tape is the tape at the first place
   pub tape-start : tapeAt m 0 ≡ tape m
-  unfolding tapeAt sounds leftAt markBefore wordAt
-  tape-start = rw (marked-first m steady 0 refl (steady .first)) (sym (start-tape false (read m)))
+  unfolding tapeAt sounds leftAt wordAt
+  tape-start = rw (whole-first m) (sym (start-tape false (read m)))
 
   -- nothing is left at the end
   pub tape-end : tapeAt m (length m) ≡ []
@@ -94,44 +94,52 @@ module _ (m : List ℕ) (steady : Steady m) where
   -- a letter's codes stand before the rest's
   pub tape-letter : (i : ℕ) → i < length m → isBreak (getD m i 0) ≡ false → isMark (getD m i 0) ≡ false → tapeAt m i ≡ codesAt m i ++ tapeAt m (suc i)
   unfolding tapeAt codesAt toneAt soundAt wordAt
-  tape-letter i h b k = rw (← marked-within m steady i h b, left-letter m i h b k, read-letter m i h b k) (put-tape (leftAt m i) (factsAt m i) (letterOf m i) (read (drop (suc i) m)))
+  tape-letter i h b k =
+      rw (← whole-within m steady i h b, left-letter m i h b k, read-letter m i h b k)
+      (put-tape (leftAt m i) (factsAt m i) (letterOf m i) (read (drop (suc i) m)))
 
   -- a mark makes no code
   pub tape-mark : (i : ℕ) → i < length m → isMark (getD m i 0) ≡ true → tapeAt m i ≡ tapeAt m (suc i)
   unfolding tapeAt
-  tape-mark i h k = rw (← marked-within m steady i h (mark-within (getD m i 0) k), left-mark m i h k, read-mark m i h k)
+  tape-mark i h k = rw (← whole-within m steady i h (mark-within (getD m i 0) k), left-mark m i h k, read-mark m i h k)
 
   -- a break makes its own
   pub tape-break : (i : ℕ) → i < length m → isBreak (getD m i 0) ≡ true → tapeAt m i ≡ markOf (getD m i 0) ∷ tapeAt m (suc i)
   unfolding tapeAt tailTape fusedFrom endsHardFrom wordAt
-  tape-break i h b = rw (read-break m i h b, left-break m i h b, marked-after m steady i b) (ap (λ (t : List ℕ). markOf (getD m i 0) ∷ t) (start-tape _ (read (drop (suc i) m))))
+  tape-break i h b =
+      rw (read-break m i h b, left-break m i h b, whole-after m i b)
+      (ap (λ (t : List ℕ). markOf (getD m i 0) ∷ t) (start-tape _ (read (drop (suc i) m))))
 
   -- the tone after a place, when a letter has put its codes there
   pub tone-letter : (i : ℕ) → i < length m → isBreak (getD m i 0) ≡ false → isMark (getD m i 0) ≡ false
       → toneAt m i ≡ toneAfter (codesAt m i) (toneAt m (suc i))
   unfolding toneAt soundAt codesAt wordAt
-  tone-letter i h b k = rw (← marked-within m steady i h b, left-letter m i h b k, read-letter m i h b k) (put-heard (leftAt m i) (factsAt m i) (letterOf m i) (read (drop (suc i) m)) .0)
+  tone-letter i h b k =
+      rw (← whole-within m steady i h b, left-letter m i h b k, read-letter m i h b k)
+      (put-heard (leftAt m i) (factsAt m i) (letterOf m i) (read (drop (suc i) m)) .0)
 
   -- the first sound then
   pub sound-letter : (i : ℕ) → i < length m → isBreak (getD m i 0) ≡ false → isMark (getD m i 0) ≡ false
       → soundAt m i ≡ soundAfter (codesAt m i) (soundAt m (suc i))
   unfolding toneAt soundAt codesAt wordAt
-  sound-letter i h b k = rw (← marked-within m steady i h b, left-letter m i h b k, read-letter m i h b k) (put-heard (leftAt m i) (factsAt m i) (letterOf m i) (read (drop (suc i) m)) .1)
+  sound-letter i h b k =
+      rw (← whole-within m steady i h b, left-letter m i h b k, read-letter m i h b k)
+      (put-heard (leftAt m i) (factsAt m i) (letterOf m i) (read (drop (suc i) m)) .1)
 
   -- a mark changes no tone
   pub tone-mark : (i : ℕ) → i < length m → isMark (getD m i 0) ≡ true → toneAt m i ≡ toneAt m (suc i)
   unfolding toneAt
-  tone-mark i h k = rw (← marked-within m steady i h (mark-within (getD m i 0) k), left-mark m i h k, read-mark m i h k)
+  tone-mark i h k = rw (← whole-within m steady i h (mark-within (getD m i 0) k), left-mark m i h k, read-mark m i h k)
 
   -- and no sound
   pub sound-mark : (i : ℕ) → i < length m → isMark (getD m i 0) ≡ true → soundAt m i ≡ soundAt m (suc i)
   unfolding soundAt
-  sound-mark i h k = rw (← marked-within m steady i h (mark-within (getD m i 0) k), left-mark m i h k, read-mark m i h k)
+  sound-mark i h k = rw (← whole-within m steady i h (mark-within (getD m i 0) k), left-mark m i h k, read-mark m i h k)
 
   -- before a break the tone is told by the first sound after it
   pub tone-break : (i : ℕ) → i < length m → isBreak (getD m i 0) ≡ true → toneAt m i ≡ cond (isGap (getD m i 0) && isVoicing (soundAt m (suc i))) voiced voiceless
   unfolding toneAt soundAt wordAt toneOf tailNext tailWord fusedFrom firstWord endsHardFrom
-  tone-break i h b = rw (read-break m i h b, left-break m i h b, marked-after m steady i b, voices-start)
+  tone-break i h b = rw (read-break m i h b, left-break m i h b, whole-after m i b, voices-start)
 
   -- and the word has no sound left
   pub sound-break : (i : ℕ) → i < length m → isBreak (getD m i 0) ≡ true → soundAt m i ≡ 0
