@@ -1,4 +1,5 @@
 pub mod Boundaries
+pub mod Following
 pub mod Keys
 pub mod SoundTable
 pub mod VowelSounds

@@ -1,15 +1,16 @@
 -- The code's table by its rule: what it gives for a letter and a sound is the letter's code before that sound, by one computation over all of them.
 use Rattle.laws.proofs.Kit.{ℕ, _+_, _*_, _%_, _<_, _≤_, _≡_, refl, true, cond, List, [], _∷_, arith, eqb, leb, getD, eqb-true, leb-true}
 use Rattle.laws.proofs.Classes.{below-same, pairs-same}
-use Rattle.spec.specs.{Letters.small, Letters.isConsonant, Refusals.consonantByte, Codes.isSound, Codes.isVoicing}
+use Rattle.spec.specs.{Letters.small, Letters.isConsonant, Refusals.consonantByte, Codes.isSound}
 use Rattle.message.proofs.Computed.{everything}
-use Rattle.phones.specs.Sounds.{toneBefore, consonantCode, toneBy, codeBy, codeBefore, Heard, alike, rowIn, softRow, soundRow}
+use Rattle.phones.specs.Following.{followingEnd, stepped, isVoiced, voicesOver, followingBy}
+use Rattle.phones.specs.Sounds.{consonantCode, codeBefore, Heard, alike, rowIn, softRow, soundRow}
 use Rattle.phones.specs.Sounds.{codeRow, firstRows, soundTable}
 use Rattle.stress.proofs.Raw.{where-same}
 
 -- every definition of the table
 unfoldable pub table : Unit {0}
-unfolding everything isSound toneBefore consonantCode toneBy codeBy alike rowIn softRow soundRow codeRow firstRows soundTable
+unfolding everything isSound followingEnd stepped followingBy consonantCode alike rowIn softRow soundRow codeRow firstRows soundTable
 table = tt
 
 -- a sound's row begins within the table
@@ -18,9 +19,9 @@ unfolding table
 row-low s h = below-same (λ x. leb (getD soundTable (644 + x) 0) 154) (λ _. true) 128 s refl h
 
 -- and the first six are those of the sounds that voice
-pub row-voices : (s : ℕ) → s < 64 → isVoicing (codeBy s) ≡ leb (getD soundTable (644 + s) 0) 41
-unfolding table
-row-voices s h = below-same (λ x. isVoicing (codeBy x)) (λ x. leb (getD soundTable (644 + x) 0) 41) 64 s refl h
+pub row-voices : (s : ℕ) → s < 64 → voicesOver (followingBy s) ≡ leb (getD soundTable (644 + s) 0) 41
+unfolding table isVoiced voicesOver
+row-voices s h = below-same (λ x. voicesOver (followingBy x)) (λ x. leb (getD soundTable (644 + x) 0) 41) 64 s refl h
 
 -- what stands in it for a letter
 abbrev inRow : ℕ → ℕ → ℕ

@@ -10,43 +10,28 @@ use Rattle.spec.specs.Refusals.{consonantByte}
 use Rattle.spec.specs.Tables.{among}
 use Rattle.spec.specs.Codes.{А*, Б, Б', В', Г, Г', Х1, Х1', Д, Д', Ж, Ж', З, З', К, К', Л', М', Н'}
 use Rattle.spec.specs.Codes.{П, П', Р', С, С', Т, Т', Ф, Ф', Х, Х', Ц, Ц1, Ч, Ч1, Ш, Щ, palatalized}
-use Rattle.spec.specs.Codes.{isVoicing, isDevoicing}
 use Rattle.spec.specs.Voicing.{Tone, voiced, voiceless, asWritten, toned}
 use Rattle.message.specs.Classes.{tabulate}
 use Rattle.spec.specs.Letters.{isObstruent}
 use Rattle.spec.specs.Phones.{writtenCode}
 use Rattle.spec.specs.Palatalization.{isSoft}
+use Rattle.phones.specs.Following.{Following, followingBy}
 
--- what one sound makes of an obstruent right before it
-unfoldable pub toneBefore : ℕ → Tone
-toneBefore c = cond (isVoicing c) voiced (cond (isDevoicing c) voiceless asWritten)
+-- the code of a consonant b: soft says that the next letter palatalizes it, and f what follows it
+unfoldable pub consonantCode : ℕ → Bool → Following → ℕ
+consonantCode b soft f =
+    let k = cond (isObstruent b) (toned (f .tone) b (writtenCode b)) (writtenCode b) in
+    cond (isSoft (record { letter = b; softened = soft; code = k }) (f .code)) (palatalized k) k
 
--- the code of a consonant b: soft says that the next letter palatalizes it, tone and c come from
--- the codes after it
-unfoldable pub consonantCode : ℕ → Bool → Tone → ℕ → ℕ
-consonantCode b soft tone c =
-    let k = cond (isObstruent b) (toned tone b (writtenCode b)) (writtenCode b) in
-    cond (isSoft (record { letter = b; softened = soft; code = k }) c) (palatalized k) k
-
--- How the code says by one number what stands right of a letter: the code of the next sound of its word, or 57 or 0 where it has none and the next word voices an obstruent or does not; and 64 more where the next letter palatalizes.
--- What an obstruent is before it
-unfoldable pub toneBy : ℕ → Tone
-toneBy n = cond (eqb n 57) voiced (cond (eqb n 0) voiceless (toneBefore n))
-
--- the code, 0 for none
-unfoldable pub codeBy : ℕ → ℕ
-codeBy n = cond (eqb n 57) 0 n
-
--- the number s tells these
-pub record Tells (s : ℕ) (x : Bool) (t : Tone) (c : ℕ) : Type 0 where
+-- the number s tells that f follows, and whether the next letter palatalizes: then it is 64 more
+pub record Tells (s : ℕ) (x : Bool) (f : Following) : Type 0 where
   pub low : s < 128
   pub soft : leb 64 s ≡ x
-  pub tone : toneBy (s % 64) ≡ t
-  pub code : codeBy (s % 64) ≡ c
+  pub follows : followingBy (s % 64) ≡ f
 
 -- the code of the consonant b before it
 abbrev pub codeBefore : ℕ → ℕ → ℕ
-codeBefore b s = consonantCode b (leb 64 s) (toneBy (s % 64)) (codeBy (s % 64))
+codeBefore b s = consonantCode b (leb 64 s) (followingBy (s % 64))
 
 -- what a consonant's code is read from
 pub record Heard (b s : ℕ) : Type 0 where
@@ -73,7 +58,7 @@ softRow asWritten = 22
 
 -- the number of a sound's row: where it begins, in fours, since a row has 28 codes
 unfoldable pub soundRow : ℕ → ℕ
-soundRow s = 7 * cond (leb 64 s) (softRow (toneBy (s % 64))) (rowIn alike s)
+soundRow s = 7 * cond (leb 64 s) (softRow (followingBy (s % 64) .tone)) (rowIn alike s)
 
 -- the codes of the letters а to ы before the sound s
 unfoldable pub codeRow : ℕ → List ℕ

@@ -2,9 +2,9 @@
 ghost use mathlib.Core.Path.{_≡_};
 ghost use mathlib.Core.Bool.{cond};
 ghost use Prim.Native.Nat.{_+_, _%_};
-ghost use Rattle.spec.specs.Codes.{isVoicing};
 ghost use Rattle.spec.specs.Letters.{small};
-ghost use Rattle.phones.specs.Sounds.{Heard, codeBefore, codeBy, soundTable};
+ghost use Rattle.phones.specs.Following.{voicesOver, followingBy};
+ghost use Rattle.phones.specs.Sounds.{Heard, codeBefore, soundTable};
 use crate::tables;
 use crate::tables::SoundTable;
 
@@ -28,7 +28,7 @@ pub fn consonant_code(b: u8, sound: usize, s: &SoundTable) -> u8
 // What stands right of a word's last letter, where a gap and a word that begins with this sound follow. No letter palatalizes across the gap.
 pub fn sound_over_gap(sound: usize, s: &SoundTable) -> usize
     requires { ⌜ now s ≡ soundTable ⌝ }
-    ensures { λ r. ⌜ r ≡ cond (isVoicing (codeBy (sound % 64))) 57 0 ⌝ }
+    ensures { λ r. ⌜ r ≡ cond (voicesOver (followingBy (sound % 64))) 57 0 ⌝ }
 {
     if s[tables::ROWS + sound % PALATALIZING] < tables::NOT_VOICING {
         return VOICED_END;

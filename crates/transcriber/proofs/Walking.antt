@@ -1,47 +1,48 @@
 -- The walk from the right, one byte at a time: what a break, a mark and a letter put on the tape, and what then stands right of their place.
 use Rattle.laws.proofs.Kit.{ℕ, suc, _+_, _%_, _<_, _≤_, arith, _≡_, refl, sym, ap, _∙_, Bool, true, false, cond, _&&_, not, true≢false, List, [], _∷_, _++_, map, eqb, length, getD, le-leb, lt-leb, ne-eqb}
 use Rattle.spec.specs.Letters.{small, firstByte, isBreak, isGap, isMark}
-use Rattle.spec.specs.Codes.{J, markOf, isSound, isVoicing}
-use Rattle.spec.specs.{Phones.softens, Voicing.Tone, Voicing.voiced, Voicing.voiceless, Refusals.vowelByte, Refusals.signByte, Refusals.consonantByte, declared.Level.Level}
+use Rattle.spec.specs.Codes.{J, markOf, isSound}
+use Rattle.spec.specs.{Phones.softens, Refusals.vowelByte, Refusals.signByte, Refusals.consonantByte, declared.Level.Level}
 use Rattle.message.specs.Classes.{classes, classOf, isBreakClass, isSignClass, isConsonantClass, isVowelClass, isSofteningClass, elidedAt}
 use Rattle.message.specs.Places.{Steady, letterOf, wordAt}
 use Rattle.message.proofs.Left.{mark-within, word-letter, word-mark, word-break, word-end}
 use Rattle.message.proofs.{Bytes.by-class, Computed.everything, StepTable.class-spoken, Silent.elided-at}
 use Rattle.laws.proofs.{Classes.cond-same, Codes.vowel-sound, MarkIndex.sound-range, Putting.put-none, Classes.below}
 use Rattle.laws.specs.Putting.{Put}
-use Rattle.phones.specs.Sounds.{toneBefore, consonantCode, toneBy, codeBy, Tells, codeBefore, Heard, soundTable}
+use Rattle.phones.specs.Following.{Following, followingEnd, stepped, putBefore, voicesOver, followingBy}
+use Rattle.phones.specs.Sounds.{consonantCode, Tells, codeBefore, Heard, soundTable}
 use Rattle.phones.specs.VowelSounds.{vowelCodes, VowelAt, Sung, sungCodes}
 use Rattle.transcriber.specs.{Fused.letterCodes, declared.Right.Right}
 use Rattle.stress.specs.{Places.leftAt, Places.syllableAt, declared.LevelRun.LevelRun}
-use Rattle.transcriber.specs.Places.{tapeAt, toneAt, soundAt, codesAt, toneAfter, soundAfter}
+use Rattle.transcriber.specs.Places.{tapeAt, followingAt, codesAt}
 use Rattle.transcriber.specs.Walk.{Stands, begunOf, pieceAt, Ready, ReadyFor, Stepped}
 use Rattle.stress.specs.Levels.{countedBy, numbered, endRun, stepOver, StepDue, LookDue, Looked}
 use Rattle.phones.specs.declared.Vowel.{Vowel}
 use Rattle.stress.proofs.Levelling.{levels-found, levels-due, levels-over, break-due, levels-break, levels-end, levels-turn}
 use Rattle.stress.proofs.{Raw.where-same, Left.left-last}
 use Rattle.phones.proofs.SoundTable.{code-read}
-use Rattle.transcriber.proofs.Tail.{tape-letter, tape-mark, tape-break, tone-letter, sound-letter, tone-mark, sound-mark, tone-break}
-use Rattle.transcriber.proofs.Tail.{sound-break, tone-end, sound-end}
+use Rattle.transcriber.proofs.Tail.{tape-letter, tape-mark, tape-break}
+use Rattle.transcriber.proofs.Tail.{following-letter, following-mark, following-break, following-end}
 
 -- 64 more can be told from less
-tells : (n : ℕ) (soft : Bool) → n < 64 → Tells (n + cond soft 64 0) soft (toneBy n) (codeBy n)
-tells n true h = let e : (n + 64) % 64 ≡ n = omega arith in record { low = omega arith; soft = le-leb 64 (n + 64) (omega arith); tone = rw e; code = rw e }
-tells n false h = let e : (n + 0) % 64 ≡ n = omega arith in record { low = omega arith; soft = lt-leb 64 (n + 0) (omega arith); tone = rw e; code = rw e }
+tells : (n : ℕ) (soft : Bool) → n < 64 → Tells (n + cond soft 64 0) soft (followingBy n)
+tells n true h = record { low = omega arith; soft = le-leb 64 (n + 64) (omega arith); follows = ap followingBy (omega arith) }
+tells n false h = record { low = omega arith; soft = lt-leb 64 (n + 0) (omega arith); follows = ap followingBy (omega arith) }
 
 -- what stands right of a letter, seen over it
-tells-over : {s : ℕ} {x : Bool} {t : Tone} {c : ℕ} (soft : Bool) → Tells s x t c → Tells (s % 64 + cond soft 64 0) soft t c
-tells-over {s} soft h = rw (h .tone, h .code) at (tells (s % 64) soft (omega arith))
+tells-over : {s : ℕ} {x : Bool} {f : Following} (soft : Bool) → Tells s x f → Tells (s % 64 + cond soft 64 0) soft f
+tells-over {s} soft h = rw (h .follows) at (tells (s % 64) soft (omega arith))
 
--- a sound's code
-tells-sound : (c : ℕ) (soft : Bool) → isSound c ≡ true → Tells (c + cond soft 64 0) soft (toneBefore c) c
-unfolding toneBy codeBy
-tells-sound c soft h =
+-- a sound's code, whatever comes after it
+tells-sound : (c : ℕ) (soft : Bool) (f : Following) → isSound c ≡ true → Tells (c + cond soft 64 0) soft (stepped c f)
+unfolding followingBy stepped
+tells-sound c soft f h =
     let r = sound-range c h in
     rw (ne-eqb c 57 (λ e. omega arith), ne-eqb c 0 (λ e. omega arith)) at (tells c soft (omega arith))
 
 -- the two ends of a word
-tells-end : (voices : Bool) → Tells (cond voices 57 0) false (cond voices voiced voiceless) 0
-unfolding toneBy codeBy
+tells-end : (voices : Bool) → Tells (cond voices 57 0) false (followingEnd voices)
+unfolding followingBy
 tells-end true = tells 57 false (omega arith)
 tells-end false = tells 0 false (omega arith)
 
@@ -107,7 +108,7 @@ module _ (m : List ℕ) (steady : Steady m) (i : ℕ) (h : i < length m) where
   codes-heard : {v x : Bool} → Spelt (getD m i 0) false v x → elidedAt m i ≡ false
       → codesAt m i
       ≡ cond v (vowelCodes (leftAt m i .hard) (leftAt m i .p) (small (getD m i 0)) (syllableAt m i))
-      (consonantCode (small (getD m i 0)) (softens (firstByte (wordAt m (suc i)))) (toneAt m (suc i)) (soundAt m (suc i)) ∷ [])
+      (consonantCode (small (getD m i 0)) (softens (firstByte (wordAt m (suc i)))) (followingAt m (suc i)) ∷ [])
   unfolding codesAt letterCodes letterOf signByte vowelByte
   codes-heard p e = rw (left-last m i, elided-at m steady i h (p .break) (p .mark), e, p .sounds, p .sings)
 
@@ -123,14 +124,17 @@ module _ {m out : List ℕ} {i : ℕ} {r : Right} (a : Ready m out i r) where
 
   -- a letter has put its codes, and left of it stands the same word with these sounds and this letter first
   letter-steps : {s v x : Bool} {out′ codes : List ℕ} {at sound : ℕ} {l : LevelRun} → Spelt (getD m i 0) s v x → codesAt m i ≡ codes
-      → Tells sound x (toneAfter codes (toneAt m (suc i))) (soundAfter codes (soundAt m (suc i))) → l ≡ stepOver (r .levels) (getD m i 0) → Put codes out out′ (r .at) at
+      → Tells sound x (putBefore codes (followingAt m (suc i))) → l ≡ stepOver (r .levels) (getD m i 0) → Put codes out out′ (r .at) at
       → Stepped m out out′ i r (record { at = at; sound = sound; levels = l })
   unfolding pieceAt firstByte letterOf
   letter-steps p e t l q =
       let y = a .steady in
       let h = a .within in
       record {
-        stands = record { sound = rw (tone-letter m y i h (p .break) (p .mark), sound-letter m y i h (p .break) (p .mark), e, word-letter m y i h (p .break) (p .mark), p .softening) t; levels = rw l (levels-over m y i h (a .stands .levels) (p .break)) };
+        stands = record {
+          sound = rw (following-letter m y i h (p .break) (p .mark), e, word-letter m y i h (p .break) (p .mark), p .softening) t;
+          levels = rw l (levels-over m y i h (a .stands .levels) (p .break));
+        };
         put = rw (p .break, p .mark, e) q;
       }
 
@@ -147,7 +151,10 @@ module _ {m out : List ℕ} {i : ℕ} {r : Right} (a : Ready m out i r) where
       let h = a .within in
       let b = mark-within (getD m i 0) k in
       record {
-        stands = record { sound = rw (tone-mark m y i h k, sound-mark m y i h k, word-mark m y i h k) (a .stands .sound); levels = rw l (levels-over m y i h (a .stands .levels) b) };
+        stands = record {
+          sound = rw (following-mark m y i h k, word-mark m y i h k) (a .stands .sound);
+          levels = rw l (levels-over m y i h (a .stands .levels) b);
+        };
         put = rw (b, k) (put-none out (r .at));
       }
 
@@ -176,7 +183,8 @@ module _ {m out : List ℕ} {i c : ℕ} {r : Right} (a : ReadyFor isBreakClass m
 
   -- it has put it, and left of it stands another word
   pub break-steps : {out′ : List ℕ} {at sound : ℕ} {l q : LevelRun} (pause : Bool) → eqb c 3 ≡ pause
-      → sound ≡ cond (not pause && isVoicing (codeBy (r .sound % 64))) 57 0 → l ≡ stepOver (r .levels) (getD m i 0) → Looked m i l q → Put (cond pause 63 0 ∷ []) out out′ (r .at) at
+      → sound ≡ cond (not pause && voicesOver (followingBy (r .sound % 64))) 57 0
+      → l ≡ stepOver (r .levels) (getD m i 0) → Looked m i l q → Put (cond pause 63 0 ∷ []) out out′ (r .at) at
       → Stepped m out out′ i r (record { at = at; sound = sound; levels = q })
   unfolding pieceAt
   break-steps pause k t l e q =
@@ -184,9 +192,11 @@ module _ {m out : List ℕ} {i c : ℕ} {r : Right} (a : ReadyFor isBreakClass m
       let h = a .ready .within in
       let b = breaks in
       let x = rw (a .class) at k in
+      let g = break-gap (getD m i 0) (y .bytes i) b in
       record {
         stands = record {
-          sound = rw (tone-break m y i h b, sound-break m y i h b, word-break m y i h b, none-softens, break-gap (getD m i 0) (y .bytes i) b, x, t, a .ready .stands .sound .code) (tells-end (not pause && isVoicing (soundAt m (suc i))));
+          sound = rw (following-break m y i h b, word-break m y i h b, none-softens, g, x, t, a .ready .stands .sound .follows)
+              (tells-end (not pause && voicesOver (followingAt m (suc i))));
           levels = levels-break m y i h (a .ready .stands .levels) b (rw l at e);
         };
         put = rw (b, break-code (getD m i 0) (y .bytes i) b, x) q;
@@ -214,7 +224,9 @@ module _ {m out : List ℕ} {i c : ℕ} {r : Right} (a : ReadyFor isConsonantCla
   module _ {code : ℕ} (heard : elidedAt m i ≡ false) (coded : code ≡ codeBefore (small (getD m i 0)) (r .sound)) where
     -- another puts its code
     codes : codesAt m i ≡ code ∷ []
-    codes = let s = a .ready .stands .sound in codes-heard m (a .ready .steady) i (a .ready .within) spelt heard ∙ rw (coded, s .soft, s .tone, s .code)
+    codes =
+        let s = a .ready .stands .sound in
+        codes-heard m (a .ready .steady) i (a .ready .within) spelt heard ∙ rw (coded, s .soft, s .follows)
 
     -- for which there is room
     pub consonant-room : 0 < r .at
@@ -226,7 +238,7 @@ module _ {m out : List ℕ} {i c : ℕ} {r : Right} (a : ReadyFor isConsonantCla
     consonant-steps l q =
         let x : isSound code ≡ true = rw coded (code-read soundTable (getD m i 0) (r .sound) refl (a .ready .steady .bytes i) consonant-before .sound) in
         let z : code + 0 ≡ code = omega arith in
-        letter-steps (a .ready) spelt codes (rw z at (tells-sound code false x)) l q
+        letter-steps (a .ready) spelt codes (rw z at (tells-sound code false (followingAt m (suc i)) x)) l q
 
 module _ {m out : List ℕ} {i c : ℕ} {r : Right} (a : ReadyFor isVowelClass m out i c r) where
   -- of the vowels the highest classes soften
@@ -255,22 +267,25 @@ module _ {m out : List ℕ} {i c : ℕ} {r : Right} (a : ReadyFor isVowelClass m
     vowel-room = letter-room (a .ready) vowel-spelt sung-codes
 
     -- their first is what stands right of the letter before
-    first-tells : (soft : Bool) (t : Tone) (k : ℕ) → Tells (cond (v .glide) J (v .sound) + cond soft 64 0) soft (toneAfter (sungCodes v) t) (soundAfter (sungCodes v) k)
+    first-tells : (soft : Bool) (f : Following) → Tells (cond (v .glide) J (v .sound) + cond soft 64 0) soft (putBefore (sungCodes v) f)
     unfolding vowelByte isSound
-    first-tells soft t k = by (v .glide)
+    first-tells soft f = by (v .glide)
       where
-        by : (g : Bool) → Tells (cond g J (v .sound) + cond soft 64 0) soft (toneAfter (cond g (J ∷ v .sound ∷ []) (v .sound ∷ [])) t) (soundAfter (cond g (J ∷ v .sound ∷ []) (v .sound ∷ [])) k)
-        by true = tells-sound J soft refl
-        by false = tells-sound (v .sound) soft (rw (s .sound) (vowel-sound _ _ _ (small (getD m i 0)) (vowel-spelt .sings)))
+        by : (g : Bool) → Tells (cond g J (v .sound) + cond soft 64 0) soft (putBefore (cond g (J ∷ v .sound ∷ []) (v .sound ∷ [])) f)
+        by true = tells-sound J soft _ refl
+        by false = tells-sound (v .sound) soft f (rw (s .sound) (vowel-sound _ _ _ (small (getD m i 0)) (vowel-spelt .sings)))
 
     pub vowel-steps : {out′ : List ℕ} {at first seen : ℕ} {l : LevelRun} → first ≡ cond (v .glide) J (v .sound) → seen ≡ first + cond (isSofteningClass c) 64 0
         → l ≡ stepOver (r .levels) (getD m i 0) → Put (sungCodes v) out out′ (r .at) at → Stepped m out out′ i r (record { at = at; sound = seen; levels = l })
-    vowel-steps f e l q = letter-steps (a .ready) vowel-spelt sung-codes (rw (e, f) (first-tells _ _ _)) l q
+    vowel-steps f e l q = letter-steps (a .ready) vowel-spelt sung-codes (rw (e, f) (first-tells _ _)) l q
 
 -- what stands right of the message's end
 pub stands-end : {m : List ℕ} → Steady m → {n : ℕ} {l : LevelRun} → Looked m (length m) (endRun 0 0 false) l
     → Stands m (length m) (record { at = n; sound = 0; levels = l })
-stands-end {m} steady e = record { sound = rw (tone-end m steady, sound-end m steady, word-end m steady, none-softens) (tells-end false); levels = levels-end steady e }
+stands-end {m} steady e = record {
+  sound = rw (following-end m steady, word-end m steady, none-softens) (tells-end false);
+  levels = levels-end steady e;
+}
 
 -- where a turn begins the same stands right of the place
 stands-begun : {m : List ℕ} {i : ℕ} {r : Right} → Stands m i r → Stands m i (begunOf r)

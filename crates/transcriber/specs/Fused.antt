@@ -9,22 +9,21 @@ use Rattle.spec.specs.Letters.{Letter, firstByte, isSign, isVowel}
 use Rattle.spec.specs.Elision.{elides}
 use Rattle.spec.specs.Syllables.{Facts, syllableOf}
 use Rattle.spec.specs.Phones.{softens}
-use Rattle.spec.specs.Voicing.{Tone, toneOf}
-use Rattle.spec.specs.Palatalization.{firstCode}
 use Rattle.phones.specs.VowelSounds.{vowelCodes}
+use Rattle.phones.specs.Following.{Following, following}
 use Rattle.phones.specs.Sounds.{consonantCode}
 
--- the codes of the letter l after p and before w
-unfoldable pub letterCodes : Bool → Facts → ℕ → Letter → List Letter → Tone → ℕ → List ℕ
-letterCodes hard facts p l w tone c =
+-- the codes of the letter l after p and before w, whose sounds are told by f
+unfoldable pub letterCodes : Bool → Facts → ℕ → Letter → List Letter → Following → List ℕ
+letterCodes hard facts p l w f =
     cond (elides p (l .byte) w) []
     (cond (isSign (l .byte)) []
     (cond (isVowel (l .byte)) (vowelCodes hard p (l .byte) (syllableOf facts p l w))
-    (consonantCode (l .byte) (softens (firstByte w)) tone c ∷ [])))
+    (consonantCode (l .byte) (softens (firstByte w)) f ∷ [])))
 
 -- the codes of w, the rest of a word after the letter p as written
 unfoldable pub fusedFrom : Bool → Facts → Bool → ℕ → List Letter → List ℕ
 fusedFrom hard facts next p [] = []
 fusedFrom hard facts next p (l ∷ w) =
     let t = fusedFrom false facts next (l .byte) w in
-    letterCodes hard facts p l w (toneOf next t) (firstCode t) ++ t
+    letterCodes hard facts p l w (following next t) ++ t

@@ -9,12 +9,11 @@ use Rattle.spec.specs.Letters.{Message, last, more, read, firstWord, isGap}
 use Rattle.spec.specs.Codes.{markOf}
 use Rattle.spec.specs.Syllables.{Facts}
 use Rattle.spec.specs.Vowels.{endsHardFrom}
-use Rattle.spec.specs.Voicing.{Tone, voices, toneOf}
-use Rattle.spec.specs.Palatalization.{firstCode}
+use Rattle.spec.specs.Voicing.{voices}
 use Rattle.spec.specs.Tape.{segment}
 use Rattle.message.specs.Places.{wordAt, letterOf}
 use Rattle.stress.specs.Places.{Left, leftAt, factsAt}
-use Rattle.phones.specs.Sounds.{toneBefore}
+use Rattle.phones.specs.Following.{Following, following}
 use Rattle.transcriber.specs.Fused.{letterCodes, fusedFrom}
 
 -- the codes of the rest of a word, w, and of what follows it, after the letters of the left context
@@ -33,31 +32,18 @@ tailNext l (more w x r) =
 unfoldable pub tailWord : Left → Facts → Message → List ℕ
 tailWord l facts r = fusedFrom (l .hard) facts (tailNext l r) (l .p) (firstWord r)
 
--- At a place: the tape from there on, and what a letter before it would see: the tone, and the
--- first sound of the rest of its word
+-- At a place: the tape from there on, and what follows a letter before it in its word
 unfoldable pub tapeAt : List ℕ → ℕ → List ℕ
 tapeAt m i = tailTape (leftAt m i) (factsAt m i) (read (drop i m))
 
-unfoldable pub toneAt : List ℕ → ℕ → Tone
-toneAt m i =
+unfoldable pub followingAt : List ℕ → ℕ → Following
+followingAt m i =
     let r = read (drop i m) in
-    toneOf (tailNext (leftAt m i) r) (tailWord (leftAt m i) (factsAt m i) r)
-
-unfoldable pub soundAt : List ℕ → ℕ → ℕ
-soundAt m i = firstCode (tailWord (leftAt m i) (factsAt m i) (read (drop i m)))
+    following (tailNext (leftAt m i) r) (tailWord (leftAt m i) (factsAt m i) r)
 
 -- the codes that the letter at place i puts before the rest's
 unfoldable pub codesAt : List ℕ → ℕ → List ℕ
 codesAt m i =
     let l = leftAt m i in
-    letterCodes (l .hard) (factsAt m i) (l .p) (letterOf m i) (wordAt m (suc i)) (toneAt m (suc i))
-    (soundAt m (suc i))
-
--- the tone and the first sound after codes have been put before a tape that had these
-abbrev pub toneAfter : List ℕ → Tone → Tone
-toneAfter [] t = t
-toneAfter (c ∷ cs) t = toneBefore c
-
-abbrev pub soundAfter : List ℕ → ℕ → ℕ
-soundAfter [] s = s
-soundAfter (c ∷ cs) s = c
+    letterCodes (l .hard) (factsAt m i) (l .p) (letterOf m i) (wordAt m (suc i))
+    (followingAt m (suc i))

@@ -12,7 +12,7 @@ use Rattle.spec.specs.Tape.{tape}
 use Rattle.message.specs.Places.{Steady, wordAt}
 use Rattle.message.specs.Filling.{MayStep, DidStep}
 use Rattle.message.specs.Classes.{classes, classOf, isBreakClass}
-use Rattle.transcriber.specs.Places.{toneAt, soundAt, codesAt}
+use Rattle.transcriber.specs.Places.{followingAt, codesAt}
 use Rattle.stress.specs.Levels.{stepOver, turnOf, LevelsAt}
 use Rattle.phones.specs.Sounds.{soundTable, Tells}
 use Rattle.stress.specs.declared.LevelRun.{LevelRun}
@@ -31,7 +31,7 @@ pub record ClassAt (m : List ℕ) (i c : ℕ) : Type 0 where
 
 -- r says what stands right of place i
 pub record Stands (m : List ℕ) (i : ℕ) (r : Right) : Type 0 where
-  pub sound : Tells (r .sound) (softens (firstByte (wordAt m i))) (toneAt m i) (soundAt m i)
+  pub sound : Tells (r .sound) (softens (firstByte (wordAt m i))) (followingAt m i)
   pub levels : LevelsAt m i (r .levels)
 
 -- the same where a turn of the walk begins
