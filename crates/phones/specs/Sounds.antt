@@ -5,7 +5,8 @@ use Prim.Native.Nat.{ℕ, suc, _+_, _*_, _%_, _<_}
 use mathlib.Core.Path.{_≡_}
 use mathlib.Core.Bool.{Bool, true, cond}
 use mathlib.Core.List.{List, [], _∷_, _++_}
-use lib.Dec.{eqb, leb}
+use lib.Dec.{leb}
+use lib.ListN.{length}
 use Rattle.spec.specs.Refusals.{consonantByte}
 use Rattle.spec.specs.Tables.{among}
 use Rattle.spec.specs.Codes.{А*, Б, Б', В', Г, Г', Х1, Х1', Д, Д', Ж, Ж', З, З', К, К', Л', М', Н'}
@@ -50,11 +51,12 @@ unfoldable pub rowIn : List (List ℕ) → ℕ → ℕ
 rowIn [] s = 0
 rowIn (x ∷ xs) s = cond (among x s) 0 (suc (rowIn xs s))
 
--- where the next letter palatalizes only the tone matters
+-- after their rows there is one for any other sound, and then one for each tone: where the next
+-- letter palatalizes only the tone matters
 unfoldable pub softRow : Tone → ℕ
-softRow voiced = 20
-softRow voiceless = 21
-softRow asWritten = 22
+softRow voiced = length alike + 1
+softRow voiceless = length alike + 2
+softRow asWritten = length alike + 3
 
 -- the number of a sound's row: where it begins, in fours, since a row has 28 codes
 unfoldable pub soundRow : ℕ → ℕ

@@ -2,16 +2,30 @@
 ghost use mathlib.Core.Path.{_≡_};
 ghost use Rattle.phones.specs.Sounds.{soundTable};
 
+// The rows of sounds that act alike: those of sounds that voice are the first of them.
+const VOICING_ROWS: usize = 6;
+
+const ALIKE_ROWS: usize = 19;
+
+// After these there is a row for any other sound, and three where the next letter palatalizes.
+const ALL_ROWS: usize = ALIKE_ROWS + 4;
+
+// A row has the codes of the letters а to ы.
+const ROW: usize = 28;
+
 // A row begins at so many times the number that its sounds have, which so fits a byte.
 pub const UNIT: usize = 4;
 
-// The rows before a sound that voices are the first; here begin the others.
-pub const NOT_VOICING: u8 = 42;
+// The number of the first row after those of the sounds that voice.
+pub const NOT_VOICING: u8 = (VOICING_ROWS * ROW / UNIT) as u8;
 
-// Where the sounds' rows begin, after the rows themselves.
-pub const ROWS: usize = 644;
+// Where the numbers of the sounds' rows begin, after the rows themselves.
+pub const ROWS: usize = ALL_ROWS * ROW;
 
-pub type SoundTable = [u8; 772];
+// There is one for each sound, twice: the next letter palatalizes or not.
+const SIZE: usize = ROWS + 128;
+
+pub type SoundTable = [u8; SIZE];
 
 // The codes of the letters а to ы before each kind of sound, a row each; then for each sound, which is 64 more where its letter palatalizes, the number of its row. A row ends
 // with ы: whoever makes a copy lays it out, and a run of zeros to я would cost more than the codes do.
