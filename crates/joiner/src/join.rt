@@ -86,7 +86,8 @@ fn last_outside(x: &[u8], i: usize, low: u8, high: u8) -> usize
     j
 }
 
-// Where the mark of the cut at place c stands on the tape, if index end is that of place e behind it: message and tape are walked back together, break by break and mark by mark.
+// Where the mark of the cut at place c stands on the tape, if index end is that of place e behind
+// it: message and tape are walked back together, break by break and mark by mark.
 fn mark_of(m: &[u8], t: &[u8], c: usize, e: usize, end: usize) -> usize
     requires { ⌜ Reach (now m) (now t) c e end ⌝ }
     ensures { λ r. ⌜ r ≡ markIndex (now (m .entry)) c ⌝ }
@@ -121,7 +122,8 @@ fn write_part<'a>(
     0
 }
 
-// Lays the part after the cut of index k. The cut is judged before that part is written, while the codes beside its mark are the whole message's.
+// Lays the part after the cut of index k. The cut is judged before that part is written, while the
+// codes beside its mark are the whole message's.
 fn lay_part<'a>(
     m: &[u8],
     cuts: &[usize],
@@ -187,7 +189,8 @@ fn write_joined<'a>(
     JoinCounts { live, steps }
 }
 
-// The joiner (paper 01, 'Joints'): writes the tape of the message's parts at the start of the lent output, or refuses and leaves every byte.
+// The joiner (paper 01, 'Joints'): writes the tape of the message's parts at the start of the lent
+// output, or refuses and leaves every byte.
 pub fn join(m: &[u8], cuts: &[usize], out: &mut [u8]) -> Answer
     ensures { λ r. ⌜ JoinPromise (now (m .entry)) (now (cuts .entry)) (now (out .entry)) (now (out .exit)) r ⌝ }
 {

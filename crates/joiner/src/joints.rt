@@ -1,4 +1,5 @@
-// What a cut changes, told by the codes on both sides of its mark on the whole message's tape (paper 01, 'Joints').
+// What a cut changes, told by the codes on both sides of its mark on the whole message's tape
+// (paper 01, 'Joints').
 ghost use mathlib.Core.Path.{_≡_};
 ghost use Rattle.laws.specs.Beside.{isVoiced, isHigh, isIOrE};
 ghost use Rattle.joiner.specs.Writing.{Beside, Changing};
@@ -30,8 +31,9 @@ fn is_i_or_e(b: u8) -> bool
     (b == alphabet::I) | (b == alphabet::E)
 }
 
-// (a) changes the code before the mark: at the end of a word an obstruent is voiced only from over a gap. (b) changes the code after it: и and э at the start of
-// a word sound Ы only behind a hard boundary. Index at is that of the mark of the break at place c.
+// (a) changes the code before the mark: at the end of a word an obstruent is voiced only from over
+// a gap. (b) changes the code after it: и and э at the start of a word sound Ы only behind a hard
+// boundary. Index at is that of the mark of the break at place c.
 pub fn changes_at(m: &[u8], t: &[u8], c: usize, at: usize) -> Changes
     requires { ⌜ Beside (now m) (now t) c at ⌝ }
     ensures { λ r. ⌜ Changing (now (m .entry)) c r ⌝ }

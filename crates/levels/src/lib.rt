@@ -105,7 +105,8 @@ fn measure(level: i32) -> usize
     write_level(level, &mut own)
 }
 
-// Speaks a level: writes its words at the start of the lent output, or refuses and leaves every byte. Only an output that is shorter than the longest words can be too short.
+// Speaks a level: writes its words at the start of the lent output, or refuses and leaves every
+// byte. Only an output that is shorter than the longest words can be too short.
 pub fn speak_level(level: i32, out: &mut [u8]) -> Answer
     ensures { λ r. ⌜ LevelPromise level (now (out .entry)) (now (out .exit)) r ⌝ }
 {

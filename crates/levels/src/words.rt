@@ -1,4 +1,5 @@
-// The words of numbers, put into a lent output one after the other: the table of paper 02, slip 5, row by row.
+// The words of numbers, put into a lent output one after the other: the table of paper 02, slip 5,
+// row by row.
 ghost use mathlib.Core.List.{[], _∷_};
 ghost use Prim.Native.Nat.{_<_, _≤_};
 ghost use lib.ListN.{length};

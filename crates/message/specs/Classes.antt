@@ -1,4 +1,5 @@
--- The class of each byte, by which the code judges it, and the letters beside a place. These are not the paper's words: `proofs/` shows that they agree with them.
+-- The class of each byte, by which the code judges it, and the letters beside a place. These are
+-- not the paper's words: `proofs/` shows that they agree with them.
 -- Assumes nothing: these are definitions.
 use Prim.Native.Nat.{ℕ, zero, suc, _+_, _%_}
 use mathlib.Core.Bool.{Bool, cond, _||_}
@@ -10,7 +11,9 @@ use Rattle.spec.specs.Tables.{among}
 use Rattle.spec.specs.Letters.{between, small, isMark, isHardOnly, isPaired, isSoftOnly, isVowel}
 use Rattle.spec.specs.{Elision.elidesAmong, Vowels.iotated}
 
--- The class of a small letter: 4 ъ, 5 ь, 6 hard only, 7 paired, 8 т and д, which may be elided, 9 soft only, 10 other vowels, 11 о, 12 е ё ю я, 13 и; 0 for no letter. The vowels that palatalize come last.
+-- The class of a small letter: 4 ъ, 5 ь, 6 hard only, 7 paired, 8 т and д, which may be elided, 9
+-- soft only, 10 other vowels, 11 о, 12 е ё ю я, 13 и; 0 for no letter. The vowels that palatalize
+-- come last.
 unfoldable pub letterClass : ℕ → ℕ
 letterClass s =
     cond (eqb s «ъ») 4

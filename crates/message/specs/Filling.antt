@@ -1,5 +1,5 @@
--- A walk over a message from its end, which writes a text from its end into the lent output: what is
--- known where it steps.
+-- A walk over a message from its end, which writes a text from its end into the lent output: what
+-- is known where it steps.
 -- Assumes nothing: these are definitions.
 use Prim.Native.Nat.{ℕ, suc, _<_, _≤_}
 use mathlib.Core.List.{List}
@@ -7,7 +7,8 @@ use lib.ListN.{length}
 use Rattle.laws.specs.Putting.{Put}
 use Rattle.message.specs.Places.{Steady}
 
--- A walk may step to place i: `Right` says what is known at the place after it, and there is room for what its byte puts
+-- A walk may step to place i: `Right` says what is known at the place after it, and there is room
+-- for what its byte puts
 pub record MayStep (Right : ℕ → Type 0) (piece m out : List ℕ) (i at : ℕ) : Type 0 where
   pub within : i < length m
   pub steady : Steady m

@@ -1,4 +1,5 @@
-// The message check: one walk from left to right. Nearly all bytes are passed by fours, since what a byte adds depends on its class and the class before it alone.
+// The message check: one walk from left to right. Nearly all bytes are passed by fours, since what
+// a byte adds depends on its class and the class before it alone.
 ghost use mathlib.Core.Path.{_≡_};
 ghost use mathlib.Core.Bool.{_&&_};
 ghost use Prim.Native.Nat.{_+_, _*_, _<_, _≤_};
@@ -85,7 +86,9 @@ fn silent_four(m: &[u8], i: usize) -> usize
     silent_at(m, i) + silent_at(m, i + 1) + silent_at(m, i + 2) + silent_at(m, i + 3)
 }
 
-// Passes bytes by fours while these begin before place to and need no more than to be added. This loop has nearly all bytes, so it does nothing else: the usual four have neither an ask nor a stop, which one comparison tells.
+// Passes bytes by fours while these begin before place to and need no more than to be added. This
+// loop has nearly all bytes, so it does nothing else: the usual four have neither an ask nor a
+// stop, which one comparison tells.
 fn pass_fours(m: &[u8], to: usize, seen: Seen, t: &ClassTable, s: &PairTable) -> Seen
     requires { ⌜ Goes (now m) (now t) (now s) seen to ⌝ }
     ensures { λ r. ⌜ Sees (now (m .entry)) r × (seen .at ≤ r .at) ⌝ }
@@ -122,7 +125,9 @@ fn pass_fours(m: &[u8], to: usize, seen: Seen, t: &ClassTable, s: &PairTable) ->
     }
 }
 
-// How many letters of its word stand before the place of what is seen: all bytes but the marks, back to a break or to the letters counted before. Marks are fewer than letters, so they are what is counted.
+// How many letters of its word stand before the place of what is seen: all bytes but the marks,
+// back to a break or to the letters counted before. Marks are fewer than letters, so they are what
+// is counted.
 fn letters_at(m: &[u8], seen: Seen, t: &ClassTable) -> usize
     requires { ⌜ (now t ≡ classes) × Sees (now m) seen ⌝ }
     ensures { λ r. ⌜ r ≡ lettersAt (now (m .entry)) (seen .at) ⌝ }
@@ -144,7 +149,8 @@ fn letters_at(m: &[u8], seen: Seen, t: &ClassTable) -> usize
     at + WORD_MAX - seen.limit - marks
 }
 
-// The same with the letters counted, where the limit is less than four bytes ahead. Each letter is counted once.
+// The same with the letters counted, where the limit is less than four bytes ahead. Each letter is
+// counted once.
 fn count_on(m: &[u8], seen: Seen, t: &ClassTable) -> Seen
     requires { ⌜ (now t ≡ classes) × Sees (now m) seen ⌝ }
     ensures { λ r. ⌜ Counted (now (m .entry)) (seen .at) r ⌝ }
@@ -244,7 +250,8 @@ fn tail_names(k: usize) -> usize
     0
 }
 
-// A message of n bytes, when all have been seen: a break last is a fault, a word's last syllable may be incomplete.
+// A message of n bytes, when all have been seen: a break last is a fault, a word's last syllable
+// may be incomplete.
 fn finish(n: usize, seen: Seen) -> Checked
     requires { ⌜ 0 < n ⌝ }
     ensures { λ r. ⌜ r ≡ finishOf n seen ⌝ }

@@ -1,6 +1,9 @@
-// The numbers that code and tables agree on: classes of bytes, sizes of tables, units of their entries.
+// The numbers that code and tables agree on: classes of bytes, sizes of tables, units of their
+// entries.
 
-// The class of each byte (specs/Classes.antt, classOf), 0 for one that no message may have. Signs, consonants and vowels are ranges, so a test of them is two comparisons; the vowels that palatalize come last.
+// The class of each byte (specs/Classes.antt, classOf), 0 for one that no message may have. Signs,
+// consonants and vowels are ranges, so a test of them is two comparisons; the vowels that
+// palatalize come last.
 pub const MARK: usize = 1;
 
 pub const GAP: usize = 2;
@@ -27,7 +30,8 @@ pub const IOTATED: usize = 12;
 
 pub const VOWEL_I: usize = 13;
 
-// The kind of what stands before a byte is the class of the byte before, or one of these where that is a sign after a vowel (specs/Steps.antt, nextKind).
+// The kind of what stands before a byte is the class of the byte before, or one of these where that
+// is a sign after a vowel (specs/Steps.antt, nextKind).
 pub const HARD_SIGN_AFTER_VOWEL: usize = 14;
 
 pub const SOFT_SIGN_AFTER_VOWEL: usize = 15;
@@ -52,7 +56,8 @@ pub const PAIRS_SIZE: usize = 256;
 
 pub type PairTable = [u32; PAIRS_SIZE];
 
-// An entry of it (specs/Steps.antt, packed): the codes, NAME for a name, ASK where the letter may be elided, and STOP where it is not enough to add, once more for each number of a fault.
+// An entry of it (specs/Steps.antt, packed): the codes, NAME for a name, ASK where the letter may
+// be elided, and STOP where it is not enough to add, once more for each number of a fault.
 pub const NAME: usize = 0x4000;
 
 pub const ASK: usize = 0x20000;

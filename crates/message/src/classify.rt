@@ -1,4 +1,5 @@
-// The class of a byte, by a table. specs/Classes.antt has its rule, and that these numbers keep it is shown here once; whoever walks a message makes a copy and lends it.
+// The class of a byte, by a table. specs/Classes.antt has its rule, and that these numbers keep it
+// is shown here once; whoever walks a message makes a copy and lends it.
 ghost use mathlib.Core.Path.{_≡_};
 ghost use Rattle.message.specs.Classes.{classes, classOf};
 use crate::classes::ClassTable;

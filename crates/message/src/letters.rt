@@ -42,7 +42,8 @@ pub fn letter_at(m: &[u8], i: usize) -> u8
     if i < m.len() { small_letter(m[i]) } else { 0 }
 }
 
-// Is the letter b silent between these letters, 0 for none? т after с before ск or н, and after н before ск; д after р before ч or ц, after з before н or ц, and after н before ц, с or шт.
+// Is the letter b silent between these letters, 0 for none? т after с before ск or н, and after н
+// before ск; д after р before ч or ц, after з before н or ц, and after н before ц, с or шт.
 fn elides(p: u8, b: u8, c: u8, d: u8) -> bool
     ensures { λ r. ⌜ r ≡ elidesAmong p b c d ⌝ }
 {
@@ -56,14 +57,16 @@ fn elides(p: u8, b: u8, c: u8, d: u8) -> bool
                 | (p == EN) & ((c == TSE) | ((c == ES) | (c == SHA) & (d == TE)))))
 }
 
-// May a silent letter stand before this one? Before most it may not, and then nothing else is asked.
+// May a silent letter stand before this one? Before most it may not, and then nothing else is
+// asked.
 fn follows_elided(c: u8) -> bool
     ensures { λ r. ⌜ r ≡ followsElided c ⌝ }
 {
     (c == ES) | ((c == EN) | ((c == CHE) | ((c == TSE) | (c == SHA))))
 }
 
-// The letter of a byte as the rules of silent letters need it: what is no letter from а to я, small or capital, is 0.
+// The letter of a byte as the rules of silent letters need it: what is no letter from а to я, small
+// or capital, is 0.
 fn fold_case(b: u8) -> u8
     ensures { λ r. ⌜ r ≡ foldOf b ⌝ }
 {
@@ -73,7 +76,8 @@ fn fold_case(b: u8) -> u8
     b % CASE_STEP + FIRST_SMALL
 }
 
-// Is the letter of byte b silent between these bytes, small letters or capitals, 0 for none? The letter after it is asked for first.
+// Is the letter of byte b silent between these bytes, small letters or capitals, 0 for none? The
+// letter after it is asked for first.
 fn elides_byte(p: u8, b: u8, c: u8, d: u8) -> bool
     ensures { λ r. ⌜ r ≡ elidesAmong (small p) (small b) (small c) (small d) ⌝ }
 {
@@ -91,8 +95,9 @@ pub fn is_t_or_d(b: u8) -> bool
     (b == TE) | ((b == CAPITAL_TE) | ((b == DE) | (b == CAPITAL_DE)))
 }
 
-// Is the letter at place i silent? A silent letter stands between two others. It asks of four bytes and lends no slice, so that a caller's loop keeps
-// the message in registers; and it asks at two places, so that the compiler does not copy the whole question into that loop.
+// Is the letter at place i silent? A silent letter stands between two others. It asks of four bytes
+// and lends no slice, so that a caller's loop keeps the message in registers; and it asks at two
+// places, so that the compiler does not copy the whole question into that loop.
 pub fn is_elided(m: &[u8], i: usize) -> bool
     requires { ⌜ i < length (now m) ⌝ }
     ensures { λ r. ⌜ r ≡ elidedAt (now (m .entry)) i ⌝ }

@@ -6,8 +6,9 @@ pub mod letters;
 pub mod output;
 pub mod pairs;
 
-// What the check has seen of a message when it stands at a place: the kind of what stands before it, a place from which the letters of the word are still to be counted, another before which
-// none of them is a 65th, and the codes and names so far.
+// What the check has seen of a message when it stands at a place: the kind of what stands before
+// it, a place from which the letters of the word are still to be counted, another before which none
+// of them is a 65th, and the codes and names so far.
 pub struct Seen {
     pub at: usize,
     pub kind: usize,

@@ -1,10 +1,13 @@
-// The table of pairs: what a byte comes to, by its class and the kind of what stands before it. specs/Steps.antt has its rule, and that these numbers keep it is shown here once; the check makes
+// The table of pairs: what a byte comes to, by its class and the kind of what stands before it.
+// specs/Steps.antt has its rule, and that these numbers keep it is shown here once; the check makes
 // a copy and lends it.
 ghost use mathlib.Core.Path.{_≡_};
 ghost use Rattle.message.specs.Steps.{pairs};
 use crate::classes::PairTable;
 
-// A row for each kind and a column for each class, in hexadecimal: the first two digits are 0, or one more than the fault's number; the next is 2 for a letter that may be elided; 4000 is a name, and the last digit the codes.
+// A row for each kind and a column for each class, in hexadecimal: the first two digits are 0, or
+// one more than the fault's number; the next is 2 for a letter that may be elided; 4000 is a name,
+// and the last digit the codes.
 const PAIRS: PairTable = [
     0x0400000, // unnamed after unnamed
     0x0600000, // mark after unnamed

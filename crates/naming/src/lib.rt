@@ -1,4 +1,5 @@
-// The naming operation: one walk over the message from its end, which writes the syllable names from their end.
+// The naming operation: one walk over the message from its end, which writes the syllable names
+// from their end.
 ghost use mathlib.Core.Path.{_≡_};
 ghost use mathlib.Core.List.{_++_};
 ghost use lib.ListN.{drop};
@@ -133,7 +134,8 @@ fn fill_names(m: &[u8], out: &mut [u8], n: usize) -> usize
     steps_taken(v.levels)
 }
 
-// The naming operation (paper 01, pass 2): writes the syllable names of the message at the start of the lent output, or refuses and leaves every byte.
+// The naming operation (paper 01, pass 2): writes the syllable names of the message at the start of
+// the lent output, or refuses and leaves every byte.
 pub fn name(m: &[u8], out: &mut [u8]) -> Answer
     ensures { λ r. ⌜ NamePromise (now (m .entry)) (now (out .entry)) (now (out .exit)) r ⌝ }
 {

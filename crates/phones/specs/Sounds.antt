@@ -39,7 +39,9 @@ pub record Heard (b s : ℕ) : Type 0 where
   pub letter : consonantByte b ≡ true
   pub sound : s < 128
 
--- The sounds that act alike on every letter before them, a row of the table for each list: the first six voice, those of the eighth to the fourteenth devoice, and any other leaves an obstruent as it is written.
+-- The sounds that act alike on every letter before them, a row of the table for each list: the
+-- first six voice, those of the eighth to the fourteenth devoice, and any other leaves an obstruent
+-- as it is written.
 unfoldable pub alike : List (List ℕ)
 alike =
     (Б ∷ Г ∷ Х1 ∷ Д ∷ Ж ∷ З ∷ Ц1 ∷ []) ∷ (Д' ∷ З' ∷ []) ∷ (Ч1 ∷ Ж' ∷ []) ∷ (Б' ∷ []) ∷ (Г' ∷ []) ∷ (Х1' ∷ [])

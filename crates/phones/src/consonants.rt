@@ -8,7 +8,8 @@ ghost use Rattle.phones.specs.Sounds.{Heard, codeBefore, soundTable};
 use crate::tables;
 use crate::tables::SoundTable;
 
-// What stands right of a letter is a number: the code of the next sound of the word, or one of two more where it has none, and then the next word decides how an obstruent sounds.
+// What stands right of a letter is a number: the code of the next sound of the word, or one of two
+// more where it has none, and then the next word decides how an obstruent sounds.
 pub const VOICELESS_END: usize = 0;
 
 pub const VOICED_END: usize = 57;
@@ -25,7 +26,8 @@ pub fn consonant_code(b: u8, sound: usize, s: &SoundTable) -> u8
     s[row * tables::UNIT + (b % 32) as usize]
 }
 
-// What stands right of a word's last letter, where a gap and a word that begins with this sound follow. No letter palatalizes across the gap.
+// What stands right of a word's last letter, where a gap and a word that begins with this sound
+// follow. No letter palatalizes across the gap.
 pub fn sound_over_gap(sound: usize, s: &SoundTable) -> usize
     requires { ⌜ now s ≡ soundTable ⌝ }
     ensures { λ r. ⌜ r ≡ cond (voicesOver (followingBy (sound % 64))) 57 0 ⌝ }

@@ -1,4 +1,5 @@
-// The table of the sounds. specs/Sounds.antt has its rule, and that these numbers keep it is shown here once; whoever walks a message makes a copy and lends it.
+// The table of the sounds. specs/Sounds.antt has its rule, and that these numbers keep it is shown
+// here once; whoever walks a message makes a copy and lends it.
 ghost use mathlib.Core.Path.{_≡_};
 ghost use Rattle.phones.specs.Sounds.{soundTable};
 
@@ -27,8 +28,9 @@ const SIZE: usize = ROWS + 128;
 
 pub type SoundTable = [u8; SIZE];
 
-// The codes of the letters а to ы before each kind of sound, a row each; then for each sound, which is 64 more where its letter palatalizes, the number of its row. A row ends
-// with ы: whoever makes a copy lays it out, and a run of zeros to я would cost more than the codes do.
+// The codes of the letters а to ы before each kind of sound, a row each; then for each sound, which
+// is 64 more where its letter palatalizes, the number of its row. A row ends with ы: whoever makes
+// a copy lays it out, and a run of zeros to я would cost more than the codes do.
 const SOUNDS: SoundTable = [
     0, // а before Б
     16, // б before Б

@@ -167,7 +167,9 @@ fn is_sign_class(k: usize) -> bool
     (classes::HARD_SIGN <= k) & (k <= classes::SOFT_SIGN)
 }
 
-// Has a vowel of class c a glide, after a byte of class k? Of those that do not palatalize о has one, after ь. The others have one after a sign, so in a covered syllable, and е ё ю я in every bare one.
+// Has a vowel of class c a glide, after a byte of class k? Of those that do not palatalize о has
+// one, after ь. The others have one after a sign, so in a covered syllable, and е ё ю я in every
+// bare one.
 fn has_glide(c: usize, s: Syllable, k: usize) -> bool
     requires { ⌜ (c < classCount) × (s .cover ≡ coverClass k) ⌝ }
     ensures { λ r. ⌜ r ≡ glideBy c (s .cover) k ⌝ }

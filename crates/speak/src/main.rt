@@ -1,4 +1,5 @@
-// The program for texts in UTF-8: all of standard input is the text, and what is answered for it is printed.
+// The program for texts in UTF-8: all of standard input is the text, and what is answered for it is
+// printed.
 mod text;
 
 use console::Input;

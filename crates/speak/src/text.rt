@@ -1,4 +1,5 @@
-// What is printed for a text in UTF-8: the reader's refusal, or what the transcriber answers for the edited bytes. The buffers that it takes are lent.
+// What is printed for a text in UTF-8: the reader's refusal, or what the transcriber answers for
+// the edited bytes. The buffers that it takes are lent.
 ghost use mathlib.Core.Path.{_≡_};
 ghost use Prim.Native.Nat.{_≤_};
 ghost use lib.ListN.{length, take};

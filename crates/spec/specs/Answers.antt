@@ -78,7 +78,9 @@ tapeAnswer m room = afterCheck (checkOf m) (within room (length (tape m)) 0)
 unfoldable pub joinAnswer : List ℕ → List ℕ → ℕ → Answer
 joinAnswer m cuts room =
     afterCheck (checkOf m)
-    (cond (eqb (badCut m cuts) (length cuts)) (within room (length (joined m cuts)) (liveCount m cuts)) (Refused (refusal misplacedCut (badCut m cuts))))
+    (cond (eqb (badCut m cuts) (length cuts))
+    (within room (length (joined m cuts)) (liveCount m cuts))
+    (Refused (refusal misplacedCut (badCut m cuts))))
 
 -- What an operation promises of its answer r and of what the lent output held, out, and holds
 -- afterwards, out′: the answer that is due, in number, place, length and live count, and the bytes

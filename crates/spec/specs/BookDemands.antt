@@ -9,7 +9,7 @@ use mathlib.Core.Bool.{true, false}
 use mathlib.Core.Logic.{_⊎_, _↔_}
 use mathlib.Core.List.{List, [], _∷_, _++_, map}
 use lib.ListN.{length, take}
-use Rattle.spec.specs.Numbers.{brokenRecord, numberNotAbove, notForListener}
+use Rattle.spec.specs.Numbers.{shortOutput, brokenRecord, numberNotAbove, notForListener}
 use Rattle.spec.specs.Refusals.{refusal, NoneFits, Given}
 use Rattle.spec.specs.Listeners.{mayHear, mayWrite}
 use Rattle.spec.specs.Book.{Phrase, recordOf, records, bookIn, search, startOf, heard, told}
@@ -34,7 +34,8 @@ pub record UpTo (book : List ℕ) (fs : List Phrase) (rest : List ℕ) : Type 0 
 -- 16 where one does whose number is not above the last.
 pub data BookDue (book : List ℕ) : ℕ → ℕ → Type 0 where
   noRecord : (fs : List Phrase) (b : ℕ) (rest : List ℕ) → UpTo book fs (b ∷ rest)
-      → ((f : Phrase) (after : List ℕ) → Fits f → b ∷ rest ≡ recordOf f ++ after → ⊥) → BookDue book brokenRecord (length (records fs))
+      → ((f : Phrase) (after : List ℕ) → Fits f → b ∷ rest ≡ recordOf f ++ after → ⊥)
+      → BookDue book brokenRecord (length (records fs))
   notAbove : (fs : List Phrase) (f : Phrase) (rest : List ℕ) → Fits f
       → UpTo book fs (recordOf f ++ rest) → f .number < leastAfter 0 fs
       → BookDue book numberNotAbove (length (records fs))
@@ -93,7 +94,7 @@ pub data AddDue (l : Listener) (book : List ℕ) (x : NewPhrase) (size room : �
         → AddDue l book x size room k p
     notAboveLast : (fs : List Phrase) → mayWrite l ≡ true → NoneFits (x .message) → Sound book fs
         → x .number < leastAfter 0 fs → AddDue l book x size room numberNotAbove (length book)
-    noRoomBehind : MayAdd l book x → room < size → AddDue l book x size room 11 size
+    noRoomBehind : MayAdd l book x → room < size → AddDue l book x size room shortOutput size
 
 -- What holds for any buffer of bytes and any used count.
 pub record BookDemands (buffer : List ℕ) (used : ℕ) : Type 0 where
@@ -106,7 +107,8 @@ pub record BookDemands (buffer : List ℕ) (used : ℕ) : Type 0 where
   -- and it does not depend on what stands after the used count
   pub rest : (buffer₂ : List ℕ) (used₂ : ℕ) → bookIn buffer₂ used₂ ≡ bookIn buffer used
       → (l : Listener) (n : ℕ) (old new new₂ : List ℕ) (r r₂ : Found)
-      → FindPromise l buffer used n old new r → FindPromise l buffer₂ used₂ n old new₂ r₂ → (r₂ ≡ r) × (new₂ ≡ new)
+      → FindPromise l buffer used n old new r → FindPromise l buffer₂ used₂ n old new₂ r₂
+      → (r₂ ≡ r) × (new₂ ≡ new)
   -- an addition is carried out, or refused with every byte left
   pub settled : (l : Listener) (x : NewPhrase) (buffer′ : List ℕ) (r : Answer)
       → AddPromise l buffer used x buffer′ r
@@ -154,7 +156,8 @@ addedBy (Refused r) f fs = fs
 -- Additions one after the other, from this buffer and used count on.
 abbrev pub OneByOne : List ℕ → ℕ → List Addition → Type 0
 OneByOne buffer used [] = Unit {0}
-OneByOne buffer used (a ∷ more) = AddedTo buffer used a × OneByOne (a .after) (usedAfter (a .answer) used) more
+OneByOne buffer used (a ∷ more) =
+    AddedTo buffer used a × OneByOne (a .after) (usedAfter (a .answer) used) more
 
 -- the buffer and the used count after the last, and the phrases of those that were accepted, in
 -- order
@@ -185,7 +188,9 @@ pub record HoldsJust (buffer : List ℕ) (used : ℕ) (fs : List Phrase) : Type 
 -- buffer, it holds just the tapes of those that were accepted, under their numbers and with their
 -- sets, in order.
 abbrev pub AdditionsKept : List ℕ → List Addition → Type 0
-AdditionsKept buffer additions = OneByOne buffer 0 additions → HoldsJust (lastBuffer buffer additions) (lastUsed 0 additions) (accepted additions)
+AdditionsKept buffer additions =
+    OneByOne buffer 0 additions
+    → HoldsJust (lastBuffer buffer additions) (lastUsed 0 additions) (accepted additions)
 
 -- One lookup: the number asked for and what the lent place referred to, what was answered, and what
 -- the place refers to afterwards.
@@ -198,7 +203,9 @@ pub record Lookup : Type 0 where
 -- Lookups by one listener in one book, each of which keeps its promise
 abbrev pub LookedUp : Listener → List ℕ → ℕ → List Lookup → Type 0
 LookedUp l buffer used [] = Unit {0}
-LookedUp l buffer used (x ∷ more) = FindPromise l buffer used (x .number) (x .before) (x .after) (x .answer) × LookedUp l buffer used more
+LookedUp l buffer used (x ∷ more) =
+    FindPromise l buffer used (x .number) (x .before) (x .after) (x .answer)
+    × LookedUp l buffer used more
 
 -- what they ask, and what they get
 abbrev pub asked : List Lookup → List (ℕ × List ℕ)
@@ -209,7 +216,9 @@ gotten xs = map (λ (x : Lookup). (x .answer, x .after)) xs
 
 -- two books answer a listener alike: every list of lookups gets equal answers
 abbrev pub AnswerAlike : Listener → List ℕ → ℕ → List ℕ → ℕ → Type 0
-AnswerAlike l buffer used buffer₂ used₂ = (xs ys : List Lookup) → LookedUp l buffer used xs → LookedUp l buffer₂ used₂ ys → asked xs ≡ asked ys → gotten xs ≡ gotten ys
+AnswerAlike l buffer used buffer₂ used₂ =
+    (xs ys : List Lookup) → LookedUp l buffer used xs → LookedUp l buffer₂ used₂ ys
+    → asked xs ≡ asked ys → gotten xs ≡ gotten ys
 
 -- Two sound books, and what they hold,
 pub record BothSound (book book₂ : List ℕ) : Type 0 where
@@ -223,7 +232,7 @@ pub record AgreeFor (l : Listener) (book book₂ : List ℕ) : Type 0 where
   pub both : BothSound book book₂
   pub same : (n : ℕ) (t : List ℕ) → IsFor l (both .phrases) n t ↔ IsFor l (both .phrases₂) n t
 
--- Slip 7, the law of silence, which the field calls noninterference. Two sound books that agree in
+-- Request 7, the law of silence, which the field calls noninterference. Two sound books that agree in
 -- what a listener may hear answer him alike, whatever else they hold, whatever else is in the sets,
 -- and wherever the records stand. It is one theorem for pump crews, road crews and dispatch. An
 -- answer is what is handed back: a refusal's number and place, or the tape's bytes. Where in the
@@ -232,7 +241,9 @@ pub record AgreeFor (l : Listener) (book book₂ : List ℕ) : Type 0 where
 -- a few instructions more for a phrase that is not for him than for one that is not there; and the
 -- start that a caller in C is told, who has the whole book at hand.
 abbrev pub Silence : Listener → List ℕ → ℕ → List ℕ → ℕ → Type 0
-Silence l buffer used buffer₂ used₂ = AgreeFor l (bookIn buffer used) (bookIn buffer₂ used₂) → AnswerAlike l buffer used buffer₂ used₂
+Silence l buffer used buffer₂ used₂ =
+    AgreeFor l (bookIn buffer used) (bookIn buffer₂ used₂)
+    → AnswerAlike l buffer used buffer₂ used₂
 
 -- So an addition, dispatch's own too, changes no answer of a listener who is not in its phrase's
 -- set; of any buffer of bytes, sound or not.

@@ -41,7 +41,8 @@ breaks m = breaksFrom 0 m
 -- mark of the cut that parts them
 unfoldable pub joinedFrom : (List ℕ → List ℕ) → List ℕ → ℕ → List ℕ → List ℕ
 joinedFrom reading m a [] = reading (drop a m)
-joinedFrom reading m a (c ∷ cuts) = reading (take (c - a) (drop a m)) ++ (markOf (getD m c 0) ∷ joinedFrom reading m (suc c) cuts)
+joinedFrom reading m a (c ∷ cuts) =
+    reading (take (c - a) (drop a m)) ++ (markOf (getD m c 0) ∷ joinedFrom reading m (suc c) cuts)
 
 -- the second tape: the parts' tapes
 unfoldable pub joined : List ℕ → List ℕ → List ℕ

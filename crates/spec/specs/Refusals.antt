@@ -101,8 +101,9 @@ pub data Row : Type 0 where
 -- numbers 3 to 10, in the order in which they are given at one place
 unfoldable pub rows : List Row
 rows =
-    (unknownByte when row3) ∷ (misplacedBreak when row4) ∷ (misplacedMark when row5) ∷ (signFirst when row6)
-    ∷ (signAfterSign when row7) ∷ (consonantAfterHardSign when row8) ∷ (vowelSignVowel when row9) ∷ (longWord when row10) ∷ []
+    (unknownByte when row3) ∷ (misplacedBreak when row4) ∷ (misplacedMark when row5)
+    ∷ (signFirst when row6) ∷ (signAfterSign when row7) ∷ (consonantAfterHardSign when row8)
+    ∷ (vowelSignVowel when row9) ∷ (longWord when row10) ∷ []
 
 -- the number of the first row that fits at a byte; 0 where none does
 unfoldable pub firstFit : List Row → List ℕ → ℕ → List ℕ → ℕ

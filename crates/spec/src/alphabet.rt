@@ -1,4 +1,5 @@
-// The bytes of a message (paper 01), in Windows-1251. Letters have their names of the Unicode standard.
+// The bytes of a message (paper 01), in Windows-1251. Letters have their names of the Unicode
+// standard.
 pub const GAP: u8 = 0x20;
 
 pub const PAUSE: u8 = 0x23;

@@ -1,4 +1,5 @@
-// The codes of sounds and marks that the code names (paper 01, 'Codes'). A1 and A2 are a vowel's sounds of levels 1 and 2.
+// The codes of sounds and marks that the code names (paper 01, 'Codes'). A1 and A2 are a vowel's
+// sounds of levels 1 and 2.
 pub const A_STRESSED: u8 = 1; // А*
 
 pub const O_STRESSED: u8 = 2; // О*

@@ -1,10 +1,12 @@
-// The types and the named numbers that the papers' definitions and the operations share. This crate has no function: specs/ is what people must believe.
+// The types and the named numbers that the papers' definitions and the operations share. This crate
+// has no function: specs/ is what people must believe.
 
 pub mod alphabet;
 pub mod codes;
 pub mod numbers;
 
-// The syllable that a vowel closes (paper 01, pass 2): whether anything stands before the vowel in it, and how near the stress is.
+// The syllable that a vowel closes (paper 01, pass 2): whether anything stands before the vowel in
+// it, and how near the stress is.
 pub enum Cover {
     Bare,
     Covered,

@@ -1,5 +1,5 @@
-// The numbers that the papers name: of refusals (paper 01, 'Turned-away messages'; 13 to 17: paper 02),
-// and limits. Definitions have them under the same names, in specs/Numbers.antt.
+// The numbers that the papers name: of refusals (paper 01, 'Turned-away messages'; 13 to 17: paper
+// 02), and limits. Definitions have them under the same names, in specs/Numbers.antt.
 pub const EMPTY_MESSAGE: u8 = 1; // no bytes
 
 pub const LONG_MESSAGE: u8 = 2; // over 4,096 bytes

@@ -1,4 +1,5 @@
--- The levels of a word's vowels, found by a running step from the right. These are not the paper's words: `proofs/` shows that they agree with them.
+-- The levels of a word's vowels, found by a running step from the right. These are not the paper's
+-- words: `proofs/` shows that they agree with them.
 -- Assumes nothing: these are definitions.
 use Prim.Native.Nat.{ℕ, zero, suc, _+_, _*_, _<_, _≤_}
 use mathlib.Core.Path.{_≡_}
@@ -21,7 +22,8 @@ use Rattle.stress.specs.declared.LevelRun.{LevelRun}
 abbrev pub levelAt : List ℕ → ℕ → Level
 levelAt m i = levelOf (factsAt m i) (letterOf m i) (wordAt m (suc i))
 
--- how many syllables from the mark count, in a word that has a mark or not, and the level of that number
+-- how many syllables from the mark count, in a word that has a mark or not, and the level of that
+-- number
 abbrev pub countedBy : ℕ → Bool → ℕ
 countedBy zero marked = 0
 countedBy (suc zero) marked = 1
@@ -36,7 +38,8 @@ numbered (suc (suc n)) = Second
 abbrev pub Least : ℕ → ℕ → ℕ → Type 0
 Least a b n = ((a < b) × (n ≡ a)) ⊎ ((b ≤ a) × (n ≡ b))
 
--- the count as far as it makes a difference, and what it is where a mark stands right at a place or after the next vowel
+-- the count as far as it makes a difference, and what it is where a mark stands right at a place or
+-- after the next vowel
 abbrev pub nearly : ℕ → ℕ
 nearly zero = 0
 nearly (suc zero) = 1
@@ -50,7 +53,8 @@ abbrev pub endRun : ℕ → ℕ → Bool → LevelRun
 endRun before steps marked =
     record { before = before; steps = steps; since = 2; marked = marked; edge = true }
 
--- one step, over byte b: a vowel is a syllable more, a mark is where to count from, at a break another word ends
+-- one step, over byte b: a vowel is a syllable more, a mark is where to count from, at a break
+-- another word ends
 abbrev pub overVowel : LevelRun → LevelRun
 overVowel s =
     record {

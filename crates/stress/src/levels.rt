@@ -118,8 +118,9 @@ fn least(a: usize, b: usize) -> usize
     if a < b { a } else { b }
 }
 
-// The level of the next vowel to the left: the syllables from it to the mark, but no more than 2, or 1 in a word with no mark. With three numbers told apart the compiler takes the number
-// for the level as it is.
+// The level of the next vowel to the left: the syllables from it to the mark, but no more than 2,
+// or 1 in a word with no mark. With three numbers told apart the compiler takes the number for the
+// level as it is.
 pub fn level_of(s: LevelRun) -> Level
     ensures { λ r. ⌜ r ≡ numbered (countedBy (s .since) (s .marked)) ⌝ }
 {

@@ -13,7 +13,8 @@ pub fn is_consonant_or_sign(k: usize) -> bool
     (classes::HARD_SIGN <= k) & (k <= classes::SOFT_ONLY)
 }
 
-// The syllable of a vowel of this level after a byte of class k: it is covered where a consonant or a sign stands before the vowel.
+// The syllable of a vowel of this level after a byte of class k: it is covered where a consonant or
+// a sign stands before the vowel.
 pub fn syllable_by(k: usize, level: Level) -> Syllable
     ensures { λ r. ⌜ r ≡ syllableBy k level ⌝ }
 {

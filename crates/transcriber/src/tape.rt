@@ -45,7 +45,8 @@ use stress::levels::level_of;
 use stress::levels::look_back;
 use stress::levels::steps_taken;
 
-// A break puts its mark, and left of it stands another word. c is its class, and passed the run of the levels over it.
+// A break puts its mark, and left of it stands another word. c is its class, and passed the run of
+// the levels over it.
 fn put_break(
     m: &[u8],
     i: usize,
@@ -85,7 +86,8 @@ fn pass_over(r: Right, sound: usize, levels: LevelRun) -> Right
     Right { at, sound, levels }
 }
 
-// Is the letter at place i, of class c, silent? Only т and д are, and only after с н р з, so another class before them spares the question.
+// Is the letter at place i, of class c, silent? Only т and д are, and only after с н р з, so
+// another class before them spares the question.
 fn is_silent(m: &[u8], i: usize, c: usize, t: &ClassTable) -> bool
     requires { ⌜ (now t ≡ classes) × ClassAt (now m) i c ⌝ }
     ensures { λ r. ⌜ r ≡ elidedAt (now (m .entry)) i ⌝ }
@@ -151,8 +153,9 @@ fn put_vowel(m: &[u8], i: usize, c: usize, r: Right, out: &mut [u8], t: &ClassTa
     Right { at, sound, levels }
 }
 
-// The byte at place i. The levels' step is taken by vowels and consonants for themselves and once for all else, in each case before anything is written: so the compiler asks for the byte and
-// its class once.
+// The byte at place i. The levels' step is taken by vowels and consonants for themselves and once
+// for all else, in each case before anything is written: so the compiler asks for the byte and its
+// class once.
 fn step(m: &[u8], i: usize, r: Right, out: &mut [u8], t: &ClassTable, s: &SoundTable) -> Right
     requires { ⌜ Lent (now t) (now s) × Ready (now m) (now out) i r ⌝ }
     ensures { λ q. ⌜ Stepped (now (m .entry)) (now (out .entry)) (now (out .exit)) i r q ⌝ }
@@ -186,8 +189,9 @@ fn begun(r: Right) -> Right
     Right { at, sound, levels }
 }
 
-// Puts the tape of an accepted message right before place end of the output, and tells what stands right of the message's start: where the tape begins, and in how many steps the levels
-// were found. It is the one caller of the step, so that the state stays in registers.
+// Puts the tape of an accepted message right before place end of the output, and tells what stands
+// right of the message's start: where the tape begins, and in how many steps the levels were found.
+// It is the one caller of the step, so that the state stays in registers.
 fn walk(m: &[u8], out: &mut [u8], end: usize, t: &ClassTable, s: &SoundTable) -> Right
     requires { ⌜ MayWrite (now t) (now s) (now m) (now out) end ⌝ }
     ensures { λ r.
@@ -225,7 +229,8 @@ pub fn write_tape<'a>(
     steps_taken(r.levels)
 }
 
-// The transcriber (paper 01): writes the tape of the message at the start of the lent output, or refuses and leaves every byte.
+// The transcriber (paper 01): writes the tape of the message at the start of the lent output, or
+// refuses and leaves every byte.
 pub fn transcribe(m: &[u8], out: &mut [u8]) -> Answer
     ensures { λ r. ⌜ TranscribePromise (now (m .entry)) (now (out .entry)) (now (out .exit)) r ⌝ }
 {
