@@ -84,15 +84,16 @@ vowel-fine b c v h = simp (vowel-single b v, vowel-quiet b v, and-true) h
 -- pass 3: a vowel has a sound, whatever stands around it
 vowel-plain : (hard : Bool) (p : ℕ) (s : Syllable) (b : ℕ) → isVowel b ≡ true → plain (vowelSound hard p s b) ≡ true
 unfolding everything isSound
-vowel-plain hard p s b h = alike (s .level) ∙ among-same (λ x. plain (vowelSound false 0 marked x)) (λ _. true) (plainVowels ++ softeningVowels) b refl h
+vowel-plain hard p s b h =
+    alike (s .level) refl ∙ among-same (λ x. plain (vowelSound false 0 marked x)) (λ _. true) (plainVowels ++ softeningVowels) b refl h
   where
     marked : Syllable
     marked = record { cover = Bare; level = Stressed }
 
-    alike : (level : Level) → plain (vowelSound hard p (record { cover = s .cover; level = level }) b) ≡ plain (vowelSound false 0 marked b)
-    alike Stressed = simp (cond-app plain, cond-same)
-    alike First = simp (cond-app plain, cond-same)
-    alike Second = simp (cond-app plain, cond-same)
+    alike : (level : Level) → s .level ≡ level → plain (vowelSound hard p s b) ≡ plain (vowelSound false 0 marked b)
+    alike Stressed e = rw e (simp (cond-app plain, cond-same))
+    alike First e = rw e (simp (cond-app plain, cond-same))
+    alike Second e = rw e (simp (cond-app plain, cond-same))
 
 -- so it is a sound
 pub vowel-sound : (hard : Bool) (p : ℕ) (s : Syllable) (b : ℕ) → isVowel b ≡ true → isSound (vowelSound hard p s b) ≡ true

@@ -4,13 +4,11 @@ use Rattle.laws.proofs.Kit.{ℕ, suc, _≡_, refl, sym, ap, subst, _∙
 use Rattle.spec.specs.Alphabet.{«и», «н», «с», «ц», «ч», «ш», «э»}
 use Rattle.spec.specs.Letters.{Letter, firstByte, signs, isSign, isVowel, isObstruent}
 use Rattle.spec.specs.Elision.{elidesT, elidesD, elides, elideFrom, elide, elidesAmong}
-use Rattle.spec.specs.Syllables.{Facts, factsOf, coverAfter, hasMark, nextStressed, levelOf, syllableOf}
+use Rattle.spec.specs.Syllables.{Facts, factsOf, nextStressed, levelOf, syllableOf}
 use Rattle.spec.specs.Vowels.{byStress, byLevel, glides, vowelSound}
 use Rattle.spec.specs.Phones.{Phone, softens, writtenCode, vowelPhones, phonesOf, phonesFrom}
 use Rattle.spec.specs.{Tables.among, Tables.entry, Codes.J, Voicing.toneOf, Voicing.voiceOne, Voicing.voice, Palatalization.firstCode}
 use Rattle.spec.specs.{Palatalization.palatalize, Tape.wordTape, Joints.endsInObstruent, Joints.endsInObstruentFrom, Joints.beginsWithIOrE}
-use Rattle.spec.specs.{declared.Cover.Cover, declared.Level.the-variants.Stressed, declared.Level.the-variants.First}
-use Rattle.spec.specs.declared.Level.the-variants.{Second}
 use Rattle.spec.proofs.Computed.{everything}
 use Rattle.laws.proofs.Classes.{cond-app, cond-both, either, or-false, among-same}
 use Rattle.laws.specs.Beside.{isHigh, isIOrE}
@@ -98,31 +96,38 @@ unfolding elides elidesAmong elidesT elidesD
 first-kept b w = simp and-false
 
 -- pass 3: at the start of a word a hard boundary changes no vowel but и and unmarked э
-vowel-firm : (h h′ s t : Bool) (c : Cover) (b : ℕ) → (eqb b «и» || (eqb b «э» && not s)) ≡ false → vowelSound h 0 (record { cover = c; level = cond s Stressed (cond t First Second) }) b ≡ vowelSound h′ 0 (record { cover = c; level = cond s Stressed (cond t First Second) }) b
-unfolding vowelSound byStress byLevel entry
-vowel-firm h h′ true t c b q = rw (or-false (eqb b «и») _ q .0)
-vowel-firm h h′ false t c b q = let e = or-false (eqb b «и») _ q in rw (e .0, rw and-true at (e .1))
+vowel-firm : (h h′ : Bool) (facts : Facts) (l : Letter) (w : List Letter)
+    → (eqb (l .byte) «и» || (eqb (l .byte) «э» && not (l .stressed))) ≡ false
+    → vowelSound h 0 (syllableOf facts 0 l w) (l .byte) ≡ vowelSound h′ 0 (syllableOf facts 0 l w) (l .byte)
+unfolding syllableOf levelOf vowelSound byStress byLevel entry
+vowel-firm h h′ facts l w q =
+    let e = or-false (eqb (l .byte) «и») _ q in
+    either (l .stressed) (λ s. rw (s, e .0)) (λ s. rw (e .0, rw (s, and-true) at (e .1)))
 
 -- at the start of a word и, and э where it is not stressed, sound Ы just behind a hard boundary
-high-told : (h s t : Bool) (c : Cover) → let high : ℕ → Bool = λ b. isHigh (vowelSound h 0 (record { cover = c; level = cond s Stressed (cond t First Second) }) b) && true in
-    (high «и» ≡ (h && true)) × (high «э» ≡ (h && not s))
+high-told : (h : Bool) (facts : Facts) (l : Letter) (w : List Letter)
+    → let high : ℕ → Bool = λ b. isHigh (vowelSound h 0 (syllableOf facts 0 l w) b) && true in
+    (high «и» ≡ (h && true)) × (high «э» ≡ (h && not (l .stressed)))
 unfolding everything
-high-told true true t c = (refl, refl)
-high-told true false true c = (refl, refl)
-high-told true false false c = (refl, refl)
-high-told false true t c = (refl, refl)
-high-told false false true c = (refl, refl)
-high-told false false false c = (refl, refl)
+high-told true facts l w =
+    either (l .stressed) (λ s. rw s (refl, refl))
+    (λ s. either (nextStressed w || not (facts .marked)) (λ t. rw (s, t) (refl, refl)) (λ t. rw (s, t) (refl, refl)))
+high-told false facts l w =
+    either (l .stressed) (λ s. rw s (refl, refl))
+    (λ s. either (nextStressed w || not (facts .marked)) (λ t. rw (s, t) (refl, refl)) (λ t. rw (s, t) (refl, refl)))
 
 -- At the start of a word that begins with one of them Ы tells the hard boundary.
 pub word-starts : (h n : Bool) (w : List Letter) (u : List ℕ) → (isHigh (firstCode (wordTape h n w ++ u)) && isIOrE (firstByte w)) ≡ (h && beginsWithIOrE w)
 unfolding everything
 word-starts h n [] u = simp and-false
 word-starts h n (l ∷ w) u =
-    let told : ℕ → Type 0 = λ b. let v : List Letter = record { byte = b; stressed = l .stressed } ∷ w in (isHigh (firstCode (wordTape h n v ++ u)) && isIOrE b) ≡ (h && beginsWithIOrE v) in
-    let level : ℕ → Bool = λ b. nextStressed (elideFrom b w) || not (hasMark (l ∷ w)) in
-    either (eqb (l .byte) «и») (λ q. subst told (sym (eqb-true (l .byte) «и» q)) (high-told h (l .stressed) (level «и») (coverAfter 0) .0)) (λ q.
-    either (eqb (l .byte) «э») (λ r. subst told (sym (eqb-true (l .byte) «э» r)) (high-told h (l .stressed) (level «э») (coverAfter 0) .1)) (λ r. rw (q, r) (simp and-false)))
+    let v : ℕ → Letter = λ b. record { byte = b; stressed = l .stressed } in
+    let told : ℕ → Type 0 = λ b. (isHigh (firstCode (wordTape h n (v b ∷ w) ++ u)) && isIOrE b) ≡ (h && beginsWithIOrE (v b ∷ w)) in
+    either (eqb (l .byte) «и»)
+    (λ q. subst told (sym (eqb-true (l .byte) «и» q)) (high-told h (factsOf (v «и» ∷ w)) (v «и») (elideFrom «и» w) .0))
+    (λ q. either (eqb (l .byte) «э»)
+    (λ r. subst told (sym (eqb-true (l .byte) «э» r)) (high-told h (factsOf (v «э» ∷ w)) (v «э») (elideFrom «э» w) .1))
+    (λ r. rw (q, r) (simp and-false)))
 
 -- the length depends on neither bit
 pub word-length : (h h′ n n′ : Bool) (w : List Letter) → length (wordTape h n w) ≡ length (wordTape h′ n′ w)
@@ -136,11 +141,10 @@ word-quiet h n n′ w e = ap palatalize (voice-quiet n n′ _ (word-toned h w �
 
 -- a hard boundary before the word changes nothing unless it begins with и or unmarked э
 pub word-firm : (h h′ n : Bool) (w : List Letter) → beginsWithIOrE w ≡ false → wordTape h n w ≡ wordTape h′ n w
-unfolding wordTape beginsWithIOrE elide elideFrom phonesFrom phonesOf vowelPhones syllableOf levelOf
+unfolding wordTape beginsWithIOrE elide elideFrom phonesFrom phonesOf vowelPhones
 word-firm h h′ n [] e = refl
 word-firm h h′ n (l ∷ w) e =
-    let v = vowel-firm h h′ (l .stressed) (nextStressed (elideFrom (l .byte) w) || not (hasMark (l ∷ w))) (coverAfter 0) (l .byte) e in
-    rw (first-kept (l .byte) w, v)
+    rw (first-kept (l .byte) w, vowel-firm h h′ (factsOf (l ∷ w)) l (elideFrom (l .byte) w) e)
 
 -- and else the first code differs, whatever follows
 pub word-starts-differ : (n n′ : Bool) (w : List Letter) → beginsWithIOrE w ≡ true → firstCode (wordTape true n w) ≡ firstCode (wordTape false n′ w) → ⊥
