@@ -1,7 +1,8 @@
 -- The tape of a stretch of a message: a break splits it in two, since nothing but the two bits crosses a break; and what the bits change, by its first and last word.
 use Rattle.laws.proofs.Kit.{ℕ, _≡_, refl, ap, Bool, true, false, _&&_, List, [], _∷_, _++_, append-assoc, arith, length, length-append}
 use Rattle.spec.specs.Letters.{Letter, Message, last, more, read, putLetter, beginsWithMark, firstWord, lastWord, isGap, isBreak}
-use Rattle.spec.specs.{Tables.among, Codes.markOf, Codes.isVoicing, Vowels.endsHard, Palatalization.firstCode, Voicing.voices, Tape.segment, Joints.endsInObstruent, Joints.beginsWithIOrE}
+use Rattle.spec.specs.{Tables.among, Codes.markOf, Codes.isVoicing, Vowels.endsHard, Voicing.voices, Tape.segment}
+use Rattle.spec.specs.Joints.{endsInObstruent, beginsWithIOrE}
 use Rattle.laws.proofs.{Classes.mark-both, Classes.cond-app, Classes.break-mark, Word.lastCodeFrom, Word.word-length, Word.word-quiet, Word.word-firm}
 
 -- the message a, the break x, and the message b, read as one
@@ -44,12 +45,6 @@ pub voices-over : (t u : List ℕ) (x : ℕ) → voices (t ++ (markOf x ∷ u)) 
 unfolding voices isVoicing among
 voices-over [] u x = mark-both (λ c. isVoicing c ≡ false) x refl refl
 voices-over (c ∷ t) u x = refl
-
--- sounds voice what their first one does; 0, for none, voices nothing
-pub voices-first : (t : List ℕ) → voices t ≡ isVoicing (firstCode t)
-unfolding voices firstCode isVoicing among
-voices-first [] = refl
-voices-first (c ∷ t) = refl
 
 -- The tape of two stretches with a break between them: each with the bits that come from the other, and the mark of the break.
 pub segment-join : (h n : Bool) (a : Message) (x : ℕ) (b : Message)
