@@ -6,6 +6,7 @@ use Rattle.spec.specs.Letters.{small, isMark, isBreak, isConsonant}
 use Rattle.spec.specs.Refusals.{vowelByte, signByte, hardSignByte, consonantByte, letterByte}
 use Rattle.spec.specs.{Tables.among, Vowels.iotated}
 use Rattle.message.specs.Classes.{classOf, classCount, isBreakClass, isSignClass, isConsonantClass, isVowelClass, isLetterClass, isTOrD}
+use Rattle.message.specs.Classes.{markClass, hardSignClass, softSignClass, tOrDClass, vowelOClass, iotatedClass, vowelIClass}
 use Rattle.message.proofs.Computed.{everything}
 
 -- the tests of a byte
@@ -14,7 +15,7 @@ tests b = isMark b ∷ isBreak b ∷ vowelByte b ∷ signByte b ∷ hardSignByte
 
 -- what its class says of them
 abbrev classTests : ℕ → List Bool
-classTests c = eqb c 1 ∷ isBreakClass c ∷ isVowelClass c ∷ isSignClass c ∷ eqb c 4 ∷ eqb c 5 ∷ isConsonantClass c ∷ isLetterClass c ∷ eqb c 8 ∷ eqb c 8 ∷ eqb c 11 ∷ eqb c 12 ∷ eqb c 13 ∷ leb (suc c) classCount ∷ []
+classTests c = eqb c markClass ∷ isBreakClass c ∷ isVowelClass c ∷ isSignClass c ∷ eqb c hardSignClass ∷ eqb c softSignClass ∷ isConsonantClass c ∷ isLetterClass c ∷ eqb c tOrDClass ∷ eqb c tOrDClass ∷ eqb c vowelOClass ∷ eqb c iotatedClass ∷ eqb c vowelIClass ∷ leb (suc c) classCount ∷ []
 
 -- the two agree
 tests-same : (b : ℕ) → b < 256 → tests b ≡ classTests (classOf b)
@@ -23,19 +24,19 @@ tests-same b h = below-same tests (λ x. classTests (classOf x)) 256 b refl h
 
 -- a byte is told by its class
 pub record ByClass (b : ℕ) : Type 0 where
-  pub mark : isMark b ≡ eqb (classOf b) 1
+  pub mark : isMark b ≡ eqb (classOf b) markClass
   pub break : isBreak b ≡ isBreakClass (classOf b)
   pub vowel : vowelByte b ≡ isVowelClass (classOf b)
   pub sign : signByte b ≡ isSignClass (classOf b)
-  pub hardSign : hardSignByte b ≡ eqb (classOf b) 4
-  pub softSign : eqb (small b) «ь» ≡ eqb (classOf b) 5
+  pub hardSign : hardSignByte b ≡ eqb (classOf b) hardSignClass
+  pub softSign : eqb (small b) «ь» ≡ eqb (classOf b) softSignClass
   pub consonant : consonantByte b ≡ isConsonantClass (classOf b)
   pub letter : letterByte b ≡ isLetterClass (classOf b)
-  pub silent : among («т» ∷ «д» ∷ []) (small b) ≡ eqb (classOf b) 8
-  pub tOrD : isTOrD b ≡ eqb (classOf b) 8
-  pub vowelO : eqb (small b) «о» ≡ eqb (classOf b) 11
-  pub iotatedVowel : among iotated (small b) ≡ eqb (classOf b) 12
-  pub vowelI : eqb (small b) «и» ≡ eqb (classOf b) 13
+  pub silent : among («т» ∷ «д» ∷ []) (small b) ≡ eqb (classOf b) tOrDClass
+  pub tOrD : isTOrD b ≡ eqb (classOf b) tOrDClass
+  pub vowelO : eqb (small b) «о» ≡ eqb (classOf b) vowelOClass
+  pub iotatedVowel : among iotated (small b) ≡ eqb (classOf b) iotatedClass
+  pub vowelI : eqb (small b) «и» ≡ eqb (classOf b) vowelIClass
   pub class : classOf b < classCount
 
 -- every byte is

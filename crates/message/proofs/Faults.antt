@@ -3,6 +3,7 @@ use Rattle.laws.proofs.Kit.{ℕ, zero, suc, _*_, _<_, _≤_, _≡_, refl, sym, 
 use Rattle.spec.specs.Refusals.{vowelByte, signByte, hardSignByte, first, none, adjacent, vowelSign, lettersBefore, row3, row4, row5, row6, row7, row8, row9, row10, rows, firstFit, faultAt, beforeAt, refusal, checkOf}
 use Rattle.spec.specs.{Letters.isMark, Letters.isBreak, declared.Checked.the-variants.Accepted, declared.Checked.the-variants.Refused}
 use Rattle.message.specs.Classes.{classOf, classCount, isBreakClass, isSignClass, isConsonantClass, isVowelClass, isLetterClass, classAt}
+use Rattle.message.specs.Classes.{markClass}
 use Rattle.message.specs.Steps.{isVowelKind, isHardSignKind, isVowelSignKind, isSignKind, nextKind, faultIn, kindAt, codesTo, namesTo, lettersAt, faultHere}
 use Rattle.laws.proofs.Accepted.{countsOf, ClearAt, fault-clear, first-refused, passes-accepted}
 use Rattle.laws.proofs.Classes.{refuted, below-or, pairs-same}
@@ -43,7 +44,7 @@ told-more before k b h c t f = by (isMark b) refl (rw (← c .mark) at (next-ans
   where
     by : (u : Bool) → isMark b ≡ u → after u k (classOf b) ≡ answers (nextKind k (classOf b)) → asked (b ∷ before) ≡ answers (nextKind k (classOf b))
     by true d n =
-        let e : classOf b ≡ 1 = eqb-true (classOf b) 1 (sym (c .mark) ∙ d) in
+        let e : classOf b ≡ markClass = eqb-true (classOf b) markClass (sym (c .mark) ∙ d) in
         let w : isVowelKind (nextKind k (classOf b)) ≡ true = rw e in
         let v : first vowelByte before ≡ true = cc in
         let a = rw (vowel-adjacent before v) at t in

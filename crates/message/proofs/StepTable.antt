@@ -3,6 +3,7 @@ use Rattle.laws.proofs.Kit.{ℕ, zero, suc, _+_, _-_, _*_, _/_, _%_, _<_, _≤_
 use Rattle.spec.specs.Alphabet.{«з», «н», «р», «с»}
 use Rattle.spec.specs.{Tables.among, Letters.small, Elision.elidesT, Elision.elidesD, Elision.elidesAmong}
 use Rattle.message.specs.Classes.{classOf, classCount, classAt, isBreakClass, isConsonantClass, isSignClass, tabulate, classes, letterAt, letterBefore, elidedAt, silentAt}
+use Rattle.message.specs.Classes.{pairedClass}
 use Rattle.message.specs.Steps.{isSoftSignKind, isSignKind, nextKind, faultIn, widthIn, namesIn, askIn, stopIn, packed, pairs, kindAt, widthAt, nameUnit, askUnit, stopUnit}
 use Rattle.message.proofs.{Bytes.by-class, Bytes.not-both, Computed.everything}
 use Rattle.laws.proofs.Classes.{among-none, either, below, pairs-same}
@@ -31,9 +32,9 @@ after-spoken p b c d e = simp (no «с» refl, no «н» refl, no «р» refl, n
     no x i = among-none beforeSilent p x e i
 
 -- all of them are of class 7
-class-before : (b : ℕ) → b < 256 → not (eqb (classOf b) 7) ≡ true → among beforeSilent (small b) ≡ false
+class-before : (b : ℕ) → b < 256 → not (eqb (classOf b) pairedClass) ≡ true → among beforeSilent (small b) ≡ false
 unfolding everything
-class-before b = not-both (λ x. not (eqb (classOf x) 7)) (λ x. among beforeSilent (small x)) b refl
+class-before b = not-both (λ x. not (eqb (classOf x) pairedClass)) (λ x. among beforeSilent (small x)) b refl
 
 -- so a byte after another class than 7, or first, is not elided
 pub before-spoken : (m : List ℕ) (i : ℕ) → ((j : ℕ) → getD m j 0 < 256) → ((j : ℕ) → i ≡ suc j → classOf (getD m j 0) ≡ 7 → ⊥) → elidedAt m i ≡ false

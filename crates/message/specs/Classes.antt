@@ -11,70 +11,104 @@ use Rattle.spec.specs.Tables.{among}
 use Rattle.spec.specs.Letters.{between, small, isMark, isHardOnly, isPaired, isSoftOnly, isVowel}
 use Rattle.spec.specs.{Elision.elidesAmong, Vowels.iotated}
 
--- The class of a small letter: 4 ъ, 5 ь, 6 hard only, 7 paired, 8 т and д, which may be elided, 9
--- soft only, 10 other vowels, 11 о, 12 е ё ю я, 13 и; 0 for no letter. The vowels that palatalize
--- come last.
+-- The classes, as numbers; 0 is that of a byte which no message may have. Signs, consonants and
+-- vowels are ranges, and the vowels that palatalize come last. A stress mark
+abbrev pub markClass : ℕ
+markClass = 1
+
+-- a gap
+abbrev pub gapClass : ℕ
+gapClass = 2
+
+-- a pause
+abbrev pub pauseClass : ℕ
+pauseClass = 3
+
+-- ъ
+abbrev pub hardSignClass : ℕ
+hardSignClass = 4
+
+-- ь
+abbrev pub softSignClass : ℕ
+softSignClass = 5
+
+-- the hard-only consonants
+abbrev pub hardOnlyClass : ℕ
+hardOnlyClass = 6
+
+-- the paired ones, but for т and д
+abbrev pub pairedClass : ℕ
+pairedClass = 7
+
+-- т and д, which may be elided
+abbrev pub tOrDClass : ℕ
+tOrDClass = 8
+
+-- the soft-only consonants
+abbrev pub softOnlyClass : ℕ
+softOnlyClass = 9
+
+-- the other vowels, а у ы э
+abbrev pub plainVowelClass : ℕ
+plainVowelClass = 10
+
+-- о
+abbrev pub vowelOClass : ℕ
+vowelOClass = 11
+
+-- е ё ю я
+abbrev pub iotatedClass : ℕ
+iotatedClass = 12
+
+-- и
+abbrev pub vowelIClass : ℕ
+vowelIClass = 13
+
+-- the class of a small letter; 0 for no letter
 unfoldable pub letterClass : ℕ → ℕ
 letterClass s =
-    cond (eqb s «ъ») 4
-    (cond (eqb s «ь») 5
-    (cond (isHardOnly s) 6
-    (cond (eqb s «т» || eqb s «д») 8
-    (cond (isPaired s) 7
-    (cond (isSoftOnly s) 9
-    (cond (eqb s «о») 11
-    (cond (among iotated s) 12
-    (cond (eqb s «и») 13
-    (cond (isVowel s) 10 0)))))))))
+    cond (eqb s «ъ») hardSignClass
+    (cond (eqb s «ь») softSignClass
+    (cond (isHardOnly s) hardOnlyClass
+    (cond (eqb s «т» || eqb s «д») tOrDClass
+    (cond (isPaired s) pairedClass
+    (cond (isSoftOnly s) softOnlyClass
+    (cond (eqb s «о») vowelOClass
+    (cond (among iotated s) iotatedClass
+    (cond (eqb s «и») vowelIClass
+    (cond (isVowel s) plainVowelClass 0)))))))))
 
 -- how many classes there are
 abbrev pub classCount : ℕ
 classCount = 14
 
--- The class of a byte: 1 mark, 2 gap, 3 pause, else its letter's
+-- the class of a byte
 unfoldable pub classOf : ℕ → ℕ
-classOf b = cond (isMark b) 1 (cond (eqb b gap) 2 (cond (eqb b pause) 3 (letterClass (small b))))
-
--- those that are asked for by themselves
-abbrev pub gapClass : ℕ
-gapClass = 2
-
-abbrev pub pauseClass : ℕ
-pauseClass = 3
-
-abbrev pub softSignClass : ℕ
-softSignClass = 5
-
-abbrev pub vowelOClass : ℕ
-vowelOClass = 11
-
-abbrev pub iotatedClass : ℕ
-iotatedClass = 12
-
-abbrev pub vowelIClass : ℕ
-vowelIClass = 13
+classOf b =
+    cond (isMark b) markClass
+    (cond (eqb b gap) gapClass (cond (eqb b pause) pauseClass (letterClass (small b))))
 
 abbrev pub isBreakClass : ℕ → Bool
-isBreakClass c = between 2 3 c
+isBreakClass c = between gapClass pauseClass c
 
 abbrev pub isSignClass : ℕ → Bool
-isSignClass c = between 4 5 c
+isSignClass c = between hardSignClass softSignClass c
 
 abbrev pub isConsonantClass : ℕ → Bool
-isConsonantClass c = between 6 9 c
+isConsonantClass c = between hardOnlyClass softOnlyClass c
 
 -- a consonant's or a sign's, which covers a syllable
 abbrev pub isCoveringClass : ℕ → Bool
-isCoveringClass c = between 4 9 c
+isCoveringClass c = between hardSignClass softOnlyClass c
 
 abbrev pub isVowelClass : ℕ → Bool
-isVowelClass c = between 10 13 c
+isVowelClass c = between plainVowelClass vowelIClass c
 
 abbrev pub isSofteningClass : ℕ → Bool
-isSofteningClass c = leb 12 c
+isSofteningClass c = leb iotatedClass c
 
 abbrev pub isLetterClass : ℕ → Bool
-isLetterClass c = leb 4 c
+isLetterClass c = leb hardSignClass c
 
 abbrev pub classAt : List ℕ → ℕ → ℕ
 classAt m i = classOf (getD m i 0)

@@ -6,7 +6,8 @@ use mathlib.Core.Bool.{Bool, cond, _&&_, _||_}
 use mathlib.Core.List.{List}
 use lib.Dec.{eqb}
 use lib.ListN.{length, getD}
-use Rattle.spec.specs.Numbers.{messageMax}
+use Rattle.spec.specs.Numbers.{unknownByte, misplacedBreak, misplacedMark, signFirst, signAfterSign}
+use Rattle.spec.specs.Numbers.{consonantAfterHardSign, vowelSignVowel, messageMax}
 use Rattle.spec.specs.Letters.{between}
 use Rattle.spec.specs.Refusals.{refusal}
 use Rattle.spec.specs.declared.Checked.{Checked}
@@ -15,19 +16,27 @@ use Rattle.message.specs.declared.Seen.{Seen}
 use Rattle.message.specs.declared.Step.{Step}
 use Rattle.message.specs.declared.Step.the-variants.{Fault, Next}
 use Rattle.message.specs.Classes.{classOf, isBreakClass, isSignClass, isConsonantClass, isVowelClass, isLetterClass, classAt, tabulate, classes, elidedAt, silentAt}
+use Rattle.message.specs.Classes.{markClass, hardSignClass, softSignClass, pairedClass, tOrDClass, plainVowelClass, vowelOClass, iotatedClass, vowelIClass}
 
--- The kind of what stands before a byte: the class of the byte before (2, a gap, where there is none), or 14 and 15 for ъ and ь after a vowel.
+-- The kind of what stands before a byte: the class of the byte before (a gap's where there is none),
+-- or one of two more for ъ and for ь after a vowel.
+abbrev pub hardSignAfterVowel : ℕ
+hardSignAfterVowel = 14
+
+abbrev pub softSignAfterVowel : ℕ
+softSignAfterVowel = 15
+
 abbrev pub isVowelKind : ℕ → Bool
-isVowelKind k = eqb k 1 || isVowelClass k
+isVowelKind k = eqb k markClass || isVowelClass k
 
 abbrev pub isHardSignKind : ℕ → Bool
-isHardSignKind k = eqb k 4 || eqb k 14
+isHardSignKind k = eqb k hardSignClass || eqb k hardSignAfterVowel
 
 abbrev pub isSoftSignKind : ℕ → Bool
-isSoftSignKind k = eqb k 5 || eqb k 15
+isSoftSignKind k = eqb k softSignClass || eqb k softSignAfterVowel
 
 abbrev pub isVowelSignKind : ℕ → Bool
-isVowelSignKind k = between 14 15 k
+isVowelSignKind k = between hardSignAfterVowel softSignAfterVowel k
 
 abbrev pub isSignKind : ℕ → Bool
 isSignKind k = isSignClass k || isVowelSignKind k
@@ -38,20 +47,20 @@ nextKind k c = cond (isSignClass c && isVowelKind k) (c + 10) c
 -- numbers 3 to 9 at a byte of class c after kind k
 unfoldable pub faultIn : ℕ → ℕ → ℕ
 faultIn k c =
-    cond (isBreakClass c) (cond (isBreakClass k) 4 0)
-    (cond (eqb c 1) (cond (isVowelClass k) 0 5)
-    (cond (isSignClass c) (cond (isBreakClass k) 6 (cond (isSignKind k) 7 0))
-    (cond (isConsonantClass c) (cond (isHardSignKind k) 8 0)
-    (cond (isVowelClass c) (cond (isVowelSignKind k) 9 0) 3))))
+    cond (isBreakClass c) (cond (isBreakClass k) misplacedBreak 0)
+    (cond (eqb c markClass) (cond (isVowelClass k) 0 misplacedMark)
+    (cond (isSignClass c) (cond (isBreakClass k) signFirst (cond (isSignKind k) signAfterSign 0))
+    (cond (isConsonantClass c) (cond (isHardSignKind k) consonantAfterHardSign 0)
+    (cond (isVowelClass c) (cond (isVowelSignKind k) vowelSignVowel 0) unknownByte))))
 
 -- how many codes the byte makes, elision apart: a break its mark, a vowel one more with the glide
 unfoldable pub widthIn : ℕ → ℕ → ℕ
 widthIn k c =
     cond (isBreakClass c || isConsonantClass c) 1
-    (cond (eqb c 10) 1
-    (cond (eqb c 11) (cond (isSoftSignKind k) 2 1)
-    (cond (eqb c 12) (cond (isConsonantClass k) 1 2)
-    (cond (eqb c 13) (cond (isSignKind k) 2 1) 0))))
+    (cond (eqb c plainVowelClass) 1
+    (cond (eqb c vowelOClass) (cond (isSoftSignKind k) 2 1)
+    (cond (eqb c iotatedClass) (cond (isConsonantClass k) 1 2)
+    (cond (eqb c vowelIClass) (cond (isSignKind k) 2 1) 0))))
 
 -- a syllable is incomplete at the end of a word whose last letter is a consonant or a sign
 unfoldable pub tailNames : ℕ → ℕ
@@ -63,7 +72,7 @@ namesIn k c = cond (isVowelClass c) 1 (cond (isBreakClass c) (tailNames k) 0)
 
 -- 1 for т or д after a paired consonant, which may be elided
 unfoldable pub askIn : ℕ → ℕ → ℕ
-askIn k c = cond (eqb k 7 && eqb c 8) 1 0
+askIn k c = cond (eqb k pairedClass && eqb c tOrDClass) 1 0
 
 -- 0 where it is enough to add and to go on with the class as the next kind; else 1 and the fault
 unfoldable pub stopIn : ℕ → ℕ → ℕ

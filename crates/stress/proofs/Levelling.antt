@@ -2,11 +2,11 @@
 -- of level 2, or 1 where the word has no mark. The steps are those that the definition counts.
 use Rattle.laws.proofs.Kit.{ℕ, zero, suc, _+_, _<_, _≡_, refl, sym, ap, _∙_, Bool, true, false, true≢false, cond, _||_, not, arith, List}
 use Rattle.laws.proofs.Kit.{[], _∷_, length, getD, drop, drop-length, add-one}
-use Rattle.spec.specs.Letters.{between, isBreak, isMark, beginsWithMark}
+use Rattle.spec.specs.Letters.{isBreak, isMark, beginsWithMark}
 use Rattle.spec.specs.{Refusals.vowelByte, Syllables.nextStressed, Syllables.levelOf, LevelSteps.backAt, LevelSteps.backTo}
 use Rattle.spec.specs.LevelSteps.{levelSteps}
 use Rattle.spec.specs.declared.Level.the-variants.{Stressed, First, Second}
-use Rattle.message.specs.{Classes.classes, Classes.classOf, Places.Steady, Places.letterOf, Places.wordAt}
+use Rattle.message.specs.{Classes.classes, Classes.classOf, Classes.isCoveringClass, Places.Steady, Places.letterOf, Places.wordAt}
 use Rattle.message.proofs.Left.{mark-within, begins-at, unmarked-after, word-letter, word-break, word-end}
 use Rattle.message.proofs.{Bytes.vowel-break, Bytes.vowel-mark, Bytes.not-both, Computed.everything}
 use Rattle.laws.proofs.{Classes.break-mark, Classes.break-vowel, Classes.either, LevelSteps.steps-suffice}
@@ -17,10 +17,10 @@ use Rattle.stress.proofs.Raw.{where-same}
 use Rattle.stress.proofs.Marked.{marked-within, marked-break, marked-end, facts-marked}
 
 -- a letter of these classes is no vowel, no break and no mark
-pub plain-letter : (b : ℕ) → b < 256 → between 4 9 (classOf b) ≡ true → (isBreak b ≡ false) × (isMark b ≡ false) × (vowelByte b ≡ false)
+pub plain-letter : (b : ℕ) → b < 256 → isCoveringClass (classOf b) ≡ true → (isBreak b ≡ false) × (isMark b ≡ false) × (vowelByte b ≡ false)
 unfolding everything
 plain-letter b h c =
-    let e = where-same (λ x. between 4 9 (classOf x)) (λ x. isBreak x ∷ isMark x ∷ vowelByte x ∷ []) (λ _. false ∷ false ∷ false ∷ []) [] b refl h c in
+    let e = where-same (λ x. isCoveringClass (classOf x)) (λ x. isBreak x ∷ isMark x ∷ vowelByte x ∷ []) (λ _. false ∷ false ∷ false ∷ []) [] b refl h c in
     (cc, cc, cc)
 
 -- nor is a mark a vowel

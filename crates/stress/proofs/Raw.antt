@@ -5,6 +5,7 @@ use Rattle.spec.specs.Letters.{between, small, plainVowels, softeningVowels, is
 use Rattle.spec.specs.Syllables.{coverAfter, incomplete, syllableOf}
 use Rattle.spec.specs.Vowels.{initial}
 use Rattle.message.specs.Classes.{classOf, pauseClass, isBreakClass, isSignClass, isCoveringClass, isVowelClass, isLetterClass}
+use Rattle.message.specs.Classes.{markClass, gapClass, hardSignClass, plainVowelClass, vowelIClass}
 use Rattle.message.specs.Places.{Steady}
 use Rattle.message.proofs.Bytes.{by-class, letter-class}
 use Rattle.message.proofs.{Before.vowel-before, Computed.everything}
@@ -21,18 +22,18 @@ between-true lo hi c h l = rw (le-leb lo c h, le-leb c hi l)
 -- what is told by the class c of a byte
 module _ {b c : ℕ} (h : b < 256) (e : c ≡ classOf b) where
   -- the highest classes are the vowels'
-  pub vowel-class : 10 ≤ c → isVowelClass c ≡ true
-  vowel-class l = between-true 10 13 c l (omega (arith, by-class b h .class))
+  pub vowel-class : plainVowelClass ≤ c → isVowelClass c ≡ true
+  vowel-class l = between-true plainVowelClass vowelIClass c l (omega (arith, by-class b h .class))
 
   -- and the lowest that a byte of an accepted message has, but for the mark's, are the breaks'
-  pub break-class : (classOf b ≡ 0 → ⊥) → c < 4 → isMark b ≡ false → isBreakClass c ≡ true
+  pub break-class : (classOf b ≡ 0 → ⊥) → c < hardSignClass → isMark b ≡ false → isBreakClass c ≡ true
   break-class n l k =
       let z : c ≡ 0 → ⊥ = λ z. n (sym e ∙ z) in
-      let o : c ≡ 1 → ⊥ = λ o. true≢false (sym (by-class b h .mark ∙ eq-eqb (classOf b) 1 (sym e ∙ o)) ∙ k) in
-      between-true 2 3 c (omega arith) (omega arith)
+      let o : c ≡ markClass → ⊥ = λ o. true≢false (sym (by-class b h .mark ∙ eq-eqb (classOf b) markClass (sym e ∙ o)) ∙ k) in
+      between-true gapClass pauseClass c (omega arith) (omega arith)
 
   -- so such a byte is a break
-  pub break-byte : (classOf b ≡ 0 → ⊥) → c < 4 → isMark b ≡ false → isBreak b ≡ true
+  pub break-byte : (classOf b ≡ 0 → ⊥) → c < hardSignClass → isMark b ≡ false → isBreak b ≡ true
   break-byte n l k = by-class b h .break ∙ (rw e at (break-class n l k))
 
 -- two functions that agree on the bytes that pass a test agree at each of them

@@ -4,6 +4,7 @@ use Rattle.spec.specs.Letters.{small, firstByte, isBreak, isGap, isMark}
 use Rattle.spec.specs.Codes.{J, markOf, isSound}
 use Rattle.spec.specs.{Phones.softens, Refusals.vowelByte, Refusals.signByte, Refusals.consonantByte, declared.Level.Level}
 use Rattle.message.specs.Classes.{classes, classOf, isBreakClass, isSignClass, isConsonantClass, isVowelClass, isSofteningClass, elidedAt}
+use Rattle.message.specs.Classes.{pauseClass}
 use Rattle.message.specs.Places.{Steady, letterOf, wordAt}
 use Rattle.message.proofs.Left.{mark-within, word-letter, word-mark, word-break, word-end}
 use Rattle.message.proofs.{Bytes.by-class, Computed.everything, StepTable.class-spoken, Silent.elided-at}
@@ -52,14 +53,14 @@ unfolding everything
 none-softens = refl
 
 -- a break's mark is told by its class
-break-code : (b : ℕ) → b < 256 → isBreak b ≡ true → markOf b ≡ cond (eqb (classOf b) 3) 63 0
+break-code : (b : ℕ) → b < 256 → isBreak b ≡ true → markOf b ≡ cond (eqb (classOf b) pauseClass) 63 0
 unfolding everything
-break-code b = where-same isBreak markOf (λ x. cond (eqb (classOf x) 3) 63 0) 0 b refl
+break-code b = where-same isBreak markOf (λ x. cond (eqb (classOf x) pauseClass) 63 0) 0 b refl
 
 -- and whether it is a gap
-break-gap : (b : ℕ) → b < 256 → isBreak b ≡ true → isGap b ≡ not (eqb (classOf b) 3)
+break-gap : (b : ℕ) → b < 256 → isBreak b ≡ true → isGap b ≡ not (eqb (classOf b) pauseClass)
 unfolding everything
-break-gap b = where-same isBreak isGap (λ x. not (eqb (classOf x) 3)) true b refl
+break-gap b = where-same isBreak isGap (λ x. not (eqb (classOf x) pauseClass)) true b refl
 
 -- What is known of the byte of a letter: it is no break and no mark, but a sign or not, a vowel or not, and softens the letter before it or not
 pub record Spelt (b : ℕ) (sign vowel soft : Bool) : Type 0 where

@@ -1,7 +1,7 @@
 -- The vowels that palatalize have a glide after a sign, which covers the syllable, and е ё ю я in a bare one; of the others о has one, after ь.
 use Rattle.laws.proofs.Kit.{ℕ, _<_, _≤_, _≡_, ap, _&&_, _||_, false, true≢false, and-false, and-true, or-comm, or-false, eqb, leb, eqb-true, eqb-false, ne-eqb, leb-false, lt-leb, arith, needs}
 use Rattle.laws.proofs.Classes.{either}
-use Rattle.message.specs.Classes.{classCount, isSignClass}
+use Rattle.message.specs.Classes.{hardSignClass, softSignClass, softOnlyClass, vowelOClass, iotatedClass, vowelIClass, classCount, isSignClass}
 use Rattle.spec.specs.{Vowels.bare, declared.Cover.Cover, declared.Cover.the-variants.Bare}
 use Rattle.stress.specs.Before.{coverClass}
 use Rattle.phones.specs.VowelSounds.{glideBy}
@@ -9,20 +9,20 @@ use Rattle.phones.proofs.vowels.has_glide.Statement.{statement}
 use Rattle.phones.proofs.vowels.has_glide.Tie as tie
 
 -- a vowel that does not palatalize
-plain : (c : ℕ) (cover : Cover) (k : ℕ) → c < 12 → glideBy c cover k ≡ (eqb c 11 && eqb k 5)
-plain c cover k h = rw (ne-eqb c 12 (λ e. omega (arith, h, e)), ne-eqb c 13 (λ e. omega (arith, h, e)))
+plain : (c : ℕ) (cover : Cover) (k : ℕ) → c < iotatedClass → glideBy c cover k ≡ (eqb c vowelOClass && eqb k softSignClass)
+plain c cover k h = rw (ne-eqb c iotatedClass (λ e. omega (arith, h, e)), ne-eqb c vowelIClass (λ e. omega (arith, h, e)))
 
 -- one that does
-palatal : (c : ℕ) (cover : Cover) (k : ℕ) → 12 ≤ c → c < classCount → glideBy c cover k ≡ (isSignClass k || (eqb c 12 && bare cover))
-palatal c cover k h l = either (eqb c 12)
-    (λ e. rw (eqb-true c 12 e, or-false (bare cover || isSignClass k)) (or-comm (bare cover) (isSignClass k)))
-    (λ e. let d : c ≡ 13 = omega (arith, eqb-false c 12 e) in rw d)
+palatal : (c : ℕ) (cover : Cover) (k : ℕ) → iotatedClass ≤ c → c < classCount → glideBy c cover k ≡ (isSignClass k || (eqb c iotatedClass && bare cover))
+palatal c cover k h l = either (eqb c iotatedClass)
+    (λ e. rw (eqb-true c iotatedClass e, or-false (bare cover || isSignClass k)) (or-comm (bare cover) (isSignClass k)))
+    (λ e. let d : c ≡ vowelIClass = omega (arith, eqb-false c iotatedClass e) in rw d)
 
 -- before a bare syllable stands no sign
 unsigned : (k : ℕ) → Bare ≡ coverClass k → isSignClass k ≡ false
 unfolding bare
-unsigned k e = either (leb 4 k)
-    (λ h. either (leb k 9) (λ l. absurd (true≢false (ap bare (rw (h, l) at e)))) (λ l. rw h (lt-leb k 5 (omega (arith, leb-false k 9 l)))))
+unsigned k e = either (leb hardSignClass k)
+    (λ h. either (leb k softOnlyClass) (λ l. absurd (true≢false (ap bare (rw (h, l) at e)))) (λ l. rw h (lt-leb k softSignClass (omega (arith, leb-false k softOnlyClass l)))))
     (λ h. rw h)
 
 pub has-glide-spec : {M : Type 1} → statement M
