@@ -1,5 +1,6 @@
--- The numbers that the papers name: of refusals, and limits. Code has them as constants of the same
--- names, in src/numbers.rt; whatever contract an operation has ties the two.
+-- The numbers that the papers name: of refusals, and limits. Those that code names are constants of
+-- the same names in src/numbers.rt. Contracts tie the two: an operation that gives another number
+-- than its contract says is not proved.
 -- Assumes nothing: these are definitions.
 use Prim.Native.Nat.{ℕ}
 use mathlib.Core.List.{List, [], _∷_}

@@ -25,9 +25,10 @@ pub record Phone : Type 0 where
 unfoldable pub writtenCode : ℕ → ℕ
 writtenCode b =
     entry
-    ((«б» gives Б) ∷ («в» gives В) ∷ («г» gives Г) ∷ («д» gives Д) ∷ («ж» gives Ж) ∷ («з» gives З) ∷ («й» gives J)
-    ∷ («к» gives К) ∷ («л» gives Л) ∷ («м» gives М) ∷ («н» gives Н) ∷ («п» gives П) ∷ («р» gives Р) ∷ («с» gives С)
-    ∷ («т» gives Т) ∷ («ф» gives Ф) ∷ («х» gives Х) ∷ («ц» gives Ц) ∷ («ч» gives Ч) ∷ («ш» gives Ш) ∷ («щ» gives Щ) ∷ [])
+    ((«б» gives Б) ∷ («в» gives В) ∷ («г» gives Г) ∷ («д» gives Д) ∷ («ж» gives Ж) ∷ («з» gives З)
+    ∷ («й» gives J) ∷ («к» gives К) ∷ («л» gives Л) ∷ («м» gives М) ∷ («н» gives Н) ∷ («п» gives П)
+    ∷ («р» gives Р) ∷ («с» gives С) ∷ («т» gives Т) ∷ («ф» gives Ф) ∷ («х» gives Х) ∷ («ц» gives Ц)
+    ∷ («ч» gives Ч) ∷ («ш» gives Ш) ∷ («щ» gives Щ) ∷ [])
     b
 
 -- pass 5, its first sentence: the next letter is ь or a softening vowel
@@ -37,14 +38,19 @@ softens b = eqb b «ь» || isSofteningVowel b
 unfoldable pub vowelPhones : Bool → ℕ → ℕ → Syllable → List Phone
 vowelPhones hard p b s =
     let v : Phone = record { letter = b; softened = false; code = vowelSound hard p s b } in
-    cond (glides p (s .cover) b) (record { letter = b; softened = false; code = J } ∷ v ∷ []) (v ∷ [])
+    cond (glides p (s .cover) b) (record { letter = b; softened = false; code = J } ∷ v ∷ [])
+    (v ∷ [])
 
 -- pass 4, its first sentence: a sign makes no sound, each other letter one, with J two
 unfoldable pub phonesOf : Bool → Facts → ℕ → Letter → List Letter → List Phone
 phonesOf hard facts p l w =
     cond (isSign (l .byte)) []
     (cond (isVowel (l .byte)) (vowelPhones hard p (l .byte) (syllableOf facts p l w))
-    (record { letter = l .byte; softened = softens (firstByte w); code = writtenCode (l .byte) } ∷ []))
+    (record {
+      letter = l .byte;
+      softened = softens (firstByte w);
+      code = writtenCode (l .byte);
+    } ∷ []))
 
 -- Pass 3, over w, the rest of a word whose letter before is p. Only a word's first letter can have
 -- a hard boundary before it.

@@ -6,8 +6,6 @@ pub const PAUSE: u8 = 0x23;
 
 pub const MARK: u8 = 0x2A;
 
-pub const FIRST: u8 = 0x80; // letters are from here on, the other named bytes below
-
 pub const A: u8 = 0xE0; // а
 
 pub const BE: u8 = 0xE1; // б

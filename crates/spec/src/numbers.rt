@@ -1,22 +1,11 @@
-// The numbers that the papers name: of refusals (paper 01, 'Turned-away messages'; 13 to 17: paper
-// 02), and limits. Definitions have them under the same names, in specs/Numbers.antt.
+// The numbers that the papers name, as far as code names them: of refusals (paper 01, 'Turned-away
+// messages'; 13 to 17: paper 02), and limits. Definitions have all of them, under the same names,
+// in specs/Numbers.antt. Numbers 3 and 5 to 9 come out of the check's table of pairs, by its rule.
 pub const EMPTY_MESSAGE: u8 = 1; // no bytes
 
 pub const LONG_MESSAGE: u8 = 2; // over 4,096 bytes
 
-pub const UNKNOWN_BYTE: u8 = 3; // a byte that is no letter, mark or break
-
 pub const MISPLACED_BREAK: u8 = 4; // a break first, last or after a break
-
-pub const MISPLACED_MARK: u8 = 5; // a stress mark not directly after a vowel
-
-pub const SIGN_FIRST: u8 = 6; // a sign first in a word
-
-pub const SIGN_AFTER_SIGN: u8 = 7; // a sign adjacent after a sign
-
-pub const CONSONANT_AFTER_HARD_SIGN: u8 = 8; // a consonant adjacent after ъ
-
-pub const VOWEL_SIGN_VOWEL: u8 = 9; // vowel, sign, vowel, all adjacent
 
 pub const LONG_WORD: u8 = 10; // a word's 65th letter
 
