@@ -5,10 +5,14 @@ use Rattle.spec.specs.Refusals.{vowelByte, signByte, hardSignByte, consonantByt
 use Rattle.spec.specs.{Tables.among, Alphabet.gap, Alphabet.pause, Codes.markOf}
 use Rattle.spec.proofs.Computed.{everything}
 
--- what holds of both choices holds of what a test chooses
+-- what holds of each choice by the test's outcome holds of what a test chooses
+pub cond-by : {A : Type 0} (P : A → Type 0) (t : Bool) {x y : A} → (t ≡ true → P x) → (t ≡ false → P y) → P (cond t x y)
+cond-by P true a b = a refl
+cond-by P false a b = b refl
+
+-- so does what holds of both
 pub cond-both : {A : Type 0} (P : A → Type 0) (t : Bool) {x y : A} → P x → P y → P (cond t x y)
-cond-both P true a b = a
-cond-both P false a b = b
+cond-both P t a b = cond-by P t (λ _. a) (λ _. b)
 
 -- and what holds of both marks holds of a break's
 pub mark-both : (P : ℕ → Type 0) (x : ℕ) → P 0 → P 63 → P (markOf x)
@@ -63,6 +67,11 @@ below-same f g (suc n) b e h = by (eqb b n) refl (below-same f g n b (cc))
     by : (t : Bool) → eqb b n ≡ t → (b < n → f b ≡ g b) → f b ≡ g b
     by true d r = rw (eqb-true b n d) (cc)
     by false d r = r (omega (arith, eqb-false b n d))
+
+-- two that agree on the bytes that pass a test agree at each of them
+pub where-same : {A : Type 0} (t : ℕ → Bool) (f g : ℕ → A) (d : A) (b : ℕ)
+    → map (λ x. cond (t x) (f x) d) (below 256) ≡ map (λ x. cond (t x) (g x) d) (below 256) → b < 256 → t b ≡ true → f b ≡ g b
+where-same t f g d b e h k = rw k at (below-same (λ x. cond (t x) (f x) d) (λ x. cond (t x) (g x) d) 256 b e h)
 
 -- so do two functions of two numbers
 pub pairs-same : {A : Type 0} (f g : ℕ → ℕ → A) (n p k c : ℕ) → map (λ x. map (f x) (below p)) (below n) ≡ map (λ x. map (g x) (below p)) (below n)

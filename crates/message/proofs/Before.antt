@@ -1,47 +1,71 @@
--- What stands before a place is told in three ways: by the last letter of the word, by the byte before, and by the kind. They agree in all that elision and the syllables ask: which consonant it is, if any, and
--- whether it is a sign, and which. Only a break and a mark are no letters, and a mark stands right after a vowel.
-use Rattle.laws.proofs.Kit.{ℕ, zero, suc, _<_, _≤_, _≡_, refl, sym, _∙_, true, false, false≢true, List, [], _∷_, _++_, eqb, length, getD, eqb-true}
+-- What the byte before a place tells of the last letter of the word before it. Only a break and a mark are no letters, and a mark stands right
+-- after a vowel; so of a consonant and a sign the byte tells which it is, and that there is none. The kind tells the same.
+use Rattle.laws.proofs.Kit.{ℕ, zero, suc, _<_, _≤_, _≡_, refl, sym, _∙_, true, false, false≢true, List, [], _∷_, _++_, map, eqb, length, getD, eqb-true}
 use Rattle.spec.specs.Letters.{small, hardOnly, paired, softOnly, signs, plainVowels, softeningVowels, isMark, isBreak, isVowel, isSign, isConsonant}
-use Rattle.spec.specs.{Alphabet.mark, Alphabet.«ь», Tables.among, Refusals.vowelByte}
-use Rattle.message.specs.{Classes.isConsonantClass, Steps.isSignKind, Steps.isSoftSignKind, Steps.kindAt, Places.lastAt, Places.Steady}
-use Rattle.message.proofs.{Bytes.by-class, Bytes.vowel-break, Bytes.vowel-mark, Faults.entry-at, Left.last-letter, Left.last-mark, Left.last-break, Computed.everything}
-use Rattle.laws.proofs.Classes.{either, among-same, among-none, break-sign, break-consonant}
+use Rattle.spec.specs.Letters.{isHardOnly, isPaired, isSoftOnly}
+use Rattle.spec.specs.{Alphabet.mark, Alphabet.pause, Alphabet.«ь», Tables.among, Refusals.vowelByte, Vowels.initial}
+use Rattle.message.specs.{Classes.classOf, Classes.isLetterClass, Classes.isConsonantClass, Classes.byteBefore}
+use Rattle.message.specs.{Steps.isSignKind, Steps.isSoftSignKind, Steps.kindAt}
+use Rattle.message.specs.Places.{lastAt, Steady, consonantsAndSigns, Alike, ByteTells}
+use Rattle.message.proofs.Bytes.{by-class, not-both, vowel-break, vowel-mark, letter-class}
+use Rattle.message.proofs.{Faults.entry-at, Left.last-letter, Left.last-mark, Left.last-break, Computed.everything}
+use Rattle.laws.proofs.Classes.{either, among-same, among-none, break-both}
 
--- no test of consonants tells two letters apart, 0 for none
-abbrev pub Same : ℕ → ℕ → Type 0
-Same p q = (x : ℕ) → isConsonant x ≡ true → eqb p x ≡ eqb q x
-
--- two letters are alike
-pub record Alike (p q : ℕ) : Type 0 where
-  pub each : Same p q
-  pub consonant : isConsonant p ≡ isConsonant q
-  pub sign : isSign p ≡ isSign q
-  pub softSign : eqb p «ь» ≡ eqb q «ь»
-
--- so one is with itself
+-- a letter is alike with itself
 pub alike-same : (p : ℕ) → Alike p p
-alike-same p = record { each = λ x c. refl; consonant = refl; sign = refl; softSign = refl }
+alike-same p = record { each = λ x h. refl }
 
--- neither a consonant nor a sign
-abbrev pub Other : ℕ → Type 0
-Other p = (isConsonant p ∷ isSign p ∷ []) ≡ (false ∷ false ∷ [])
-
--- two of these are alike
-pub alike-other : (p q : ℕ) → Other p → Other q → Alike p q
-unfolding isConsonant isSign among
-alike-other p q n o =
-    let l = hardOnly ++ paired ++ softOnly in
-    record {
-      each = λ x c. among-none l p x (cc) c ∙ sym (among-none l q x (cc) c);
-      consonant = cc;
-      sign = cc;
-      softSign = among-none signs p «ь» (cc) refl ∙ sym (among-none signs q «ь» (cc) refl);
-    }
+-- two that are neither consonants nor signs are alike
+pub alike-none : (p q : ℕ) → among consonantsAndSigns p ≡ false → among consonantsAndSigns q ≡ false → Alike p q
+alike-none p q n o = record { each = λ x h. among-none consonantsAndSigns p x n h ∙ sym (among-none consonantsAndSigns q x o h) }
 
 -- so are no letter and the byte of a break
 pub alike-break : (b : ℕ) → isBreak b ≡ true → Alike 0 (small b)
 unfolding everything
-alike-break b s = let n = break-consonant b s in let o = break-sign b s in alike-other 0 (small b) refl (rw (n, o))
+alike-break b s = alike-none 0 (small b) refl (break-both (λ x. among consonantsAndSigns (small x) ≡ false) refl refl b s)
+
+-- no class of consonants and signs tells alike letters apart
+alike-among : {p q : ℕ} → Alike p q → (l : List ℕ) → map (among consonantsAndSigns) l ≡ map (λ _. true) l → among l p ≡ among l q
+unfolding among
+alike-among a [] e = refl
+alike-among a (x ∷ l) e = rw (a .each x (cc), alike-among a l (cc))
+
+-- none of these does
+pub record ClassesAlike (p q : ℕ) : Type 0 where
+  pub hardOnly : isHardOnly p ≡ isHardOnly q
+  pub paired : isPaired p ≡ isPaired q
+  pub softOnly : isSoftOnly p ≡ isSoftOnly q
+  pub consonant : isConsonant p ≡ isConsonant q
+  pub sign : isSign p ≡ isSign q
+  pub softSign : eqb p «ь» ≡ eqb q «ь»
+
+-- of letters that are alike
+pub classes-alike : {p q : ℕ} → Alike p q → ClassesAlike p q
+unfolding everything
+classes-alike a = record {
+  hardOnly = alike-among a hardOnly refl;
+  paired = alike-among a paired refl;
+  softOnly = alike-among a softOnly refl;
+  consonant = alike-among a (hardOnly ++ paired ++ softOnly) refl;
+  sign = alike-among a signs refl;
+  softSign = a .each «ь» refl;
+}
+
+-- a letter's byte is no 0
+letter-there : (b : ℕ) → b < 256 → isLetterClass (classOf b) ≡ true → initial (small b) ≡ false
+unfolding everything
+letter-there b = not-both (λ x. isLetterClass (classOf x)) (λ x. initial (small x)) b refl
+
+-- a mark tells of a vowel that a letter is there, and no more
+mark-tells : (b q : ℕ) → isMark b ≡ true → isVowel q ≡ true → ByteTells b q
+unfolding everything
+mark-tells b q k v =
+    let vowels = plainVowels ++ softeningVowels in
+    rw (eqb-true b mark k)
+    (record {
+      first = among-same initial (λ _. false) vowels q refl v;
+      letter = alike-none q mark (among-same (among consonantsAndSigns) (λ _. false) vowels q refl v) refl;
+    })
 
 module _ (m : List ℕ) (steady : Steady m) where
   -- the letter before a mark is a vowel
@@ -53,15 +77,19 @@ module _ (m : List ℕ) (steady : Steady m) where
       let t = steady .bytes i in
       rw (last-letter m i (vowel-break _ t v) (vowel-mark _ t v)) v
 
-  -- the last letter of the word after a byte, and the byte
-  pub alike-before : (i : ℕ) → i < length m → Alike (lastAt m (suc i)) (small (getD m i 0))
-  unfolding everything
-  alike-before i h = either (isBreak (getD m i 0)) (λ s. rw (last-break m i s) (alike-break (getD m i 0) s))
-      (λ s. either (isMark (getD m i 0)) (λ k. rw (last-mark m i k, eqb-true (getD m i 0) mark k)
-      (alike-other (lastAt m i) mark (among-same (λ x. isConsonant x ∷ isSign x ∷ []) (λ _. false ∷ false ∷ []) (plainVowels ++ softeningVowels) (lastAt m i) refl (vowel-before i h k)) refl))
-      (λ k. rw (last-letter m i s k) (alike-same (small (getD m i 0)))))
+  -- the byte before a place tells of the last letter of the word before it
+  pub byte-tells : (i : ℕ) → i ≤ length m → ByteTells (byteBefore m i) (lastAt m i)
+  unfolding lastAt byteBefore initial isBreak
+  byte-tells zero h = record { first = refl; letter = alike-break pause refl }
+  byte-tells (suc i) h =
+      let b = getD m i 0 in
+      let t = steady .bytes i in
+      either (isBreak b) (λ s. rw (last-break m i s) (record { first = sym s; letter = alike-break b s }))
+      (λ s. either (isMark b) (λ k. rw (last-mark m i k) (mark-tells b (lastAt m i) k (vowel-before i h k)))
+      (λ k. rw (last-letter m i s k)
+      (record { first = letter-there b t (letter-class b t s k (steady .named i h)) ∙ sym s; letter = alike-same (small b) })))
 
-  -- The kind tells the same.
+  -- the kind tells the same
   pub record Kind (i : ℕ) : Type 0 where
     pub consonant : isConsonant (lastAt m i) ≡ isConsonantClass (kindAt m i)
     pub sign : isSign (lastAt m i) ≡ isSignKind (kindAt m i)
@@ -73,6 +101,10 @@ module _ (m : List ℕ) (steady : Steady m) where
   kind-at zero h = record { consonant = refl; sign = refl; softSign = refl }
   kind-at (suc i) h =
       let b = by-class (getD m i 0) (steady .bytes i) in
-      let a = alike-before i h in
+      let a = classes-alike (byte-tells (suc i) h .letter) in
       let e = entry-at m (steady .bytes) i in
-      record { consonant = a .consonant ∙ b .consonant ∙ sym (e .consonant); sign = a .sign ∙ b .sign ∙ sym (e .sign); softSign = a .softSign ∙ b .softSign ∙ sym (e .softSign) }
+      record {
+        consonant = a .consonant ∙ b .consonant ∙ sym (e .consonant);
+        sign = a .sign ∙ b .sign ∙ sym (e .sign);
+        softSign = a .softSign ∙ b .softSign ∙ sym (e .softSign);
+      }

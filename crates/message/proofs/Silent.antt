@@ -4,8 +4,8 @@ use Rattle.spec.specs.Alphabet.{«д», «з», «к», «н», «р», «с»,
 use Rattle.spec.specs.Letters.{read, firstWord, firstByte, small, hardOnly, paired, softOnly, isMark, isBreak, isConsonant}
 use Rattle.spec.specs.Elision.{secondByte, elides, elidesT, elidesD, elidesAmong}
 use Rattle.spec.specs.Tables.{among}
-use Rattle.message.specs.{Classes.letterAt, Classes.letterBefore, Classes.elidedAt, Places.lastAt, Places.wordAt, Places.letterOf, Places.Steady}
-use Rattle.message.proofs.Before.{Same, Alike, alike-same, alike-break, alike-before}
+use Rattle.message.specs.{Classes.letterAt, Classes.byteBefore, Classes.elidedAt, Places.lastAt, Places.wordAt, Places.letterOf, Places.Steady, Places.consonantsAndSigns, Places.Alike}
+use Rattle.message.proofs.Before.{alike-same, alike-break, byte-tells}
 use Rattle.message.proofs.{Bytes.consonant-vowel, Left.unmarked-after, Left.word-letter, Left.word-break, Computed.everything}
 use Rattle.laws.proofs.Classes.{either, below-or, among-none}
 
@@ -15,28 +15,22 @@ unfolding elidesAmong isConsonant among
 plain-stays p b c d n = let l = hardOnly ++ paired ++ softOnly in rw (among-none l b «т» n refl, among-none l b «д» n refl)
 
 -- a letter is as silent beside alike bytes; the second after it counts only where a consonant stands between
-pub alike-elides : (p q b c c′ d d′ : ℕ) → Same p q → Same c c′ → (isConsonant c ≡ true → Same d d′) → elidesAmong p b c d ≡ elidesAmong q b c′ d′
+pub alike-elides : (p q b c c′ d d′ : ℕ) → Alike p q → Alike c c′ → (isConsonant c ≡ true → Alike d d′) → elidesAmong p b c d ≡ elidesAmong q b c′ d′
 unfolding elidesAmong elidesT elidesD everything
 alike-elides p q b c c′ d d′ f g h =
-    rw (two «с» «к» refl refl, two «ш» «т» refl refl, f «с» refl, f «н» refl, f «р» refl, f «з» refl, g «с» refl, g «н» refl, g «ч» refl, g «ц» refl)
+    rw (two «с» «к» refl refl refl, two «ш» «т» refl refl refl, f .each «с» refl, f .each «н» refl, f .each «р» refl, f .each «з» refl, g .each «с» refl, g .each «н» refl, g .each «ч» refl, g .each «ц» refl)
   where
-    two : (x y : ℕ) → isConsonant x ≡ true → isConsonant y ≡ true → (eqb c x && eqb d y) ≡ (eqb c′ x && eqb d′ y)
-    two x y i j = by (eqb c x) refl
+    two : (x y : ℕ) → isConsonant x ≡ true → among consonantsAndSigns x ≡ true → among consonantsAndSigns y ≡ true → (eqb c x && eqb d y) ≡ (eqb c′ x && eqb d′ y)
+    two x y k i j = by (eqb c x) refl
       where
         by : (t : Bool) → eqb c x ≡ t → (t && eqb d y) ≡ (eqb c′ x && eqb d′ y)
-        by true e = rw (← g x i, e) (h (ap isConsonant (eqb-true c x e) ∙ i) y j)
-        by false e = rw (← g x i, e)
+        by true e = rw (← g .each x i, e) (h (ap isConsonant (eqb-true c x e) ∙ k) .each y j)
+        by false e = rw (← g .each x i, e)
 
 module _ (m : List ℕ) (steady : Steady m) where
   -- no mark stands after a consonant
   unmarked : (i : ℕ) → isConsonant (small (getD m i 0)) ≡ true → isMark (getD m (suc i) 0) ≡ false
   unmarked i c = unmarked-after m steady i (consonant-vowel (getD m i 0) (steady .bytes i) c)
-
-  -- the letter before a letter, and the byte before it
-  alike-left : (i : ℕ) → i ≤ length m → Alike (lastAt m i) (letterBefore m i)
-  unfolding lastAt letterBefore letterAt
-  alike-left zero h = alike-same 0
-  alike-left (suc i) h = alike-before m steady i h
 
   -- past the end there is no letter, and the byte is taken for 0
   past : (j : ℕ) → length m ≤ j → (wordAt m j ≡ []) × (letterAt m j ≡ 0)
@@ -63,6 +57,6 @@ module _ (m : List ℕ) (steady : Steady m) where
   unfolding elides elidedAt letterAt
   elided-at i h b k = either (isConsonant (small (getD m i 0))) (λ c.
       let two : i + 2 ≡ suc (suc i) = omega arith in
-      let a = alike-left i (omega arith) in
-      rw (add-one i, two) (alike-elides _ _ (small (getD m i 0)) _ _ _ _ (a .each) (alike-at (suc i) (unmarked i c) .each) (λ q. alike-second (suc i) (unmarked i c) q .each)))
-      (λ c. plain-stays (lastAt m i) (small (getD m i 0)) _ _ c ∙ sym (plain-stays (letterBefore m i) (small (getD m i 0)) (letterAt m (i + 1)) (letterAt m (i + 2)) c))
+      let a = byte-tells m steady i (omega arith) .letter in
+      rw (add-one i, two) (alike-elides _ _ (small (getD m i 0)) _ _ _ _ a (alike-at (suc i) (unmarked i c)) (λ q. alike-second (suc i) (unmarked i c) q)))
+      (λ c. plain-stays (lastAt m i) (small (getD m i 0)) _ _ c ∙ sym (plain-stays (small (byteBefore m i)) (small (getD m i 0)) (letterAt m (i + 1)) (letterAt m (i + 2)) c))

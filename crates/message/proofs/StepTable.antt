@@ -1,18 +1,18 @@
 -- The check's tables by their rules: each entry is what specs/Steps.antt says, by one computation over all of them.
 use Rattle.laws.proofs.Kit.{ℕ, zero, suc, _+_, _-_, _*_, _/_, _%_, _<_, _≤_, _≡_, refl, ap, _∙_, true, false, cond, not, and-false, List, [], _∷_, map, arith, eqb, leb, getD, eqb-true, eqb-false, leb-true, ne-eqb}
-use Rattle.spec.specs.Alphabet.{«з», «н», «р», «с»}
+use Rattle.spec.specs.Alphabet.{pause, «з», «н», «р», «с»}
 use Rattle.spec.specs.{Tables.among, Letters.small, Elision.elidesT, Elision.elidesD, Elision.elidesAmong}
-use Rattle.message.specs.Classes.{classOf, classCount, classAt, isBreakClass, isConsonantClass, isSignClass, tabulate, classes, letterAt, letterBefore, elidedAt, silentAt}
+use Rattle.message.specs.Classes.{classOf, classCount, classAt, isBreakClass, isConsonantClass, isSignClass, tabulate, classes, letterAt, byteBefore, elidedAt, silentAt}
 use Rattle.message.specs.Classes.{pairedClass}
 use Rattle.message.specs.Steps.{isSoftSignKind, isSignKind, nextKind, faultIn, widthIn, namesIn, askIn, stopIn, packed, pairs, kindAt, widthAt, nameUnit, askUnit, stopUnit}
 use Rattle.message.proofs.{Bytes.by-class, Bytes.not-both, Computed.everything}
 use Rattle.laws.proofs.Classes.{among-none, either, below, pairs-same}
 use Rattle.laws.proofs.Elided.{other-stays, only-where}
 
--- past the start, the letter before place i is the one at i - 1
-pub before-at : (m : List ℕ) (i : ℕ) → (i ≡ 0 → ⊥) → letterAt m (i - 1) ≡ letterBefore m i
-unfolding letterBefore
-before-at m i h = let e : suc (i - 1) ≡ i = omega arith in ap (letterBefore m) e
+-- past the start, the byte before place i is the one at i - 1
+pub before-at : (m : List ℕ) (i : ℕ) → (i ≡ 0 → ⊥) → getD m (i - 1) 0 ≡ byteBefore m i
+unfolding byteBefore
+before-at m i h = let e : suc (i - 1) ≡ i = omega arith in ap (byteBefore m) e
 
 -- a byte of another class than т and д is not elided
 pub class-spoken : (m : List ℕ) (i : ℕ) → getD m i 0 < 256 → (classOf (getD m i 0) ≡ 8 → ⊥) → elidedAt m i ≡ false
@@ -38,8 +38,8 @@ class-before b = not-both (λ x. not (eqb (classOf x) pairedClass)) (λ x. among
 
 -- so a byte after another class than 7, or first, is not elided
 pub before-spoken : (m : List ℕ) (i : ℕ) → ((j : ℕ) → getD m j 0 < 256) → ((j : ℕ) → i ≡ suc j → classOf (getD m j 0) ≡ 7 → ⊥) → elidedAt m i ≡ false
-unfolding among elidedAt letterBefore letterAt
-before-spoken m zero h n = after-spoken 0 _ _ _ refl
+unfolding among elidedAt byteBefore letterAt small
+before-spoken m zero h n = after-spoken (small pause) _ _ _ refl
 before-spoken m (suc i) h n = after-spoken (small (getD m i 0)) _ _ _ (class-before (getD m i 0) (h i) (rw (ne-eqb (classOf (getD m i 0)) 7 (n i refl))))
 
 -- a table has at each place what it says

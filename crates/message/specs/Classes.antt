@@ -126,14 +126,14 @@ classes = tabulate classOf 0 256
 unfoldable pub letterAt : List ℕ → ℕ → ℕ
 letterAt m i = small (getD m i 0)
 
--- the same of the byte before place i; 0 at the start
-unfoldable pub letterBefore : List ℕ → ℕ → ℕ
-letterBefore m zero = 0
-letterBefore m (suc i) = letterAt m i
+-- the byte before place i; a pause at the start of the message
+unfoldable pub byteBefore : List ℕ → ℕ → ℕ
+byteBefore m zero = pause
+byteBefore m (suc i) = getD m i 0
 
 -- is the letter at place i silent, judged by the bytes beside it?
 unfoldable pub elidedAt : List ℕ → ℕ → Bool
-elidedAt m i = elidesAmong (letterBefore m i) (letterAt m i) (letterAt m (i + 1)) (letterAt m (i + 2))
+elidedAt m i = elidesAmong (small (byteBefore m i)) (letterAt m i) (letterAt m (i + 1)) (letterAt m (i + 2))
 
 -- the letters before which one may be elided
 abbrev pub followsElided : ℕ → Bool

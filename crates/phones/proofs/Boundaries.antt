@@ -4,15 +4,15 @@ use Rattle.laws.proofs.Kit.{ℕ, zero, suc, _-_, _<_, _≤_, _≡_, refl, sym, 
 use Rattle.spec.specs.Alphabet.{«ь»}
 use Rattle.spec.specs.Letters.{small, isBreak, isGap, isMark}
 use Rattle.spec.specs.{Vowels.initial, Vowels.hardEnd}
-use Rattle.message.specs.Classes.{classOf, gapClass, pauseClass, softSignClass, isBreakClass}
-use Rattle.message.specs.Places.{Steady}
+use Rattle.message.specs.Classes.{classOf, gapClass, pauseClass, softSignClass, isBreakClass, byteBefore}
+use Rattle.message.specs.Places.{Steady, ByteTells}
 use Rattle.message.proofs.Bytes.{by-class, not-both, vowel-break, vowel-mark}
-use Rattle.message.proofs.Computed.{everything}
-use Rattle.laws.proofs.Classes.{either, below-same}
-use Rattle.stress.specs.Before.{byteBefore, classBefore, ByteTells}
+use Rattle.message.proofs.{Before.ClassesAlike, Before.classes-alike, Computed.everything}
+use Rattle.laws.proofs.Classes.{cond-by, either, below-same}
+use Rattle.stress.specs.Before.{classBefore}
 use Rattle.stress.specs.Places.{Left, stepLeft, leftAt}
 use Rattle.stress.proofs.Left.{left-letter}
-use Rattle.stress.proofs.Raw.{cond-by, start-class, byte-tells, class-tells}
+use Rattle.stress.proofs.Raw.{start-class, left-told, before-class}
 use Rattle.phones.specs.VowelSounds.{Told, letterBefore, hardBefore}
 use Rattle.phones.specs.declared.LetterBefore.{LetterBefore}
 use Rattle.phones.specs.declared.LetterBefore.the-variants.{None, Byte}
@@ -32,8 +32,8 @@ pub told-none : {b : LetterBefore} {q : ℕ} → b ≡ None → Told b q → q �
 told-none e t = rw e at t
 
 -- and where a letter does
-pub told-byte : {b : LetterBefore} {p q : ℕ} → b ≡ Byte p → Told b q → (initial q ≡ false) × ByteTells p q
-told-byte e t = let u = rw e at t in (u .1 .first ∙ u .0, u .1)
+pub told-byte : {b : LetterBefore} {p q : ℕ} → b ≡ Byte p → Told b q → (initial q ≡ false) × ClassesAlike q (small p)
+told-byte e t = let u = rw e at t in (u .1 .first ∙ u .0, classes-alike (u .1 .letter))
 
 -- only at the start is the byte before a place a pause that is not there
 pub past-start : (m : List ℕ) (i : ℕ) {k : ℕ} → k ≡ classBefore m i → (k ≡ pauseClass → ⊥) → 0 < i
@@ -45,11 +45,11 @@ module _ (m : List ℕ) (steady : Steady m) where
   pub told-at : (i : ℕ) → i ≤ length m → Told (letterBefore m i) (leftAt m i .p)
   unfolding letterBefore initial
   told-at i h =
-      let b = byte-tells m steady i h in
-      let c = class-tells m steady i h in
+      let b = left-told m steady i h in
+      let c = before-class m steady i .break in
       cond-by (λ x. Told x (leftAt m i .p)) (isBreakClass (classBefore m i))
-      (λ e. eqb-true (leftAt m i .p) 0 (c .first ∙ e))
-      (λ e. (sym (b .first) ∙ c .first ∙ e, b))
+      (λ e. eqb-true (leftAt m i .p) 0 (b .first ∙ c ∙ e))
+      (λ e. (c ∙ e, b))
 
   -- the two bytes before a place tell whether the word before it ends hard
   end-raw : (i : ℕ) → i ≤ length m
@@ -58,13 +58,13 @@ module _ (m : List ℕ) (steady : Steady m) where
   end-raw zero h = refl
   end-raw (suc i) h =
       let b = getD m i 0 in
-      let t = byte-tells m steady (suc i) h in
+      let t = classes-alike (left-told m steady (suc i) h .letter) in
       let c = by-class b (steady .bytes i) in
       let e : suc i - 1 ≡ i = omega arith in
       rw (t .hardOnly, t .paired, t .softSign, e)
       (either (eqb (small b) «ь»)
       (λ d. let f = eqb-true (classOf b) softSignClass (sym (c .softSign) ∙ d) in
-      rw (left-letter m i h (rw f at (c .break)) (rw f at (c .mark)), byte-tells m steady i (omega arith) .hardOnly))
+      rw (left-letter m i h (rw f at (c .break)) (rw f at (c .mark)), classes-alike (left-told m steady i (omega arith) .letter) .hardOnly))
       (λ d. rw d))
 
   -- before a mark stands a vowel, and no boundary

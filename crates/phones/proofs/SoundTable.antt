@@ -1,13 +1,12 @@
 -- The code's table by its rule: what it gives for a letter and a sound is the letter's code before that sound, by one computation over all of them.
 use Rattle.laws.proofs.Kit.{ℕ, _+_, _*_, _%_, _<_, _≤_, _≡_, refl, true, cond, not, List, [], _∷_}
 use Rattle.laws.proofs.Kit.{arith, eqb, leb, getD, eqb-true, leb-true}
-use Rattle.laws.proofs.Classes.{below-same, pairs-same}
+use Rattle.laws.proofs.Classes.{below-same, where-same, pairs-same}
 use Rattle.spec.specs.{Letters.small, Letters.isConsonant, Refusals.consonantByte, Codes.isSound}
 use Rattle.message.proofs.Computed.{everything}
 use Rattle.phones.specs.Following.{followingEnd, stepped, isVoiced, voicesOver, followingBy}
 use Rattle.phones.specs.Sounds.{consonantCode, codeBefore, Heard, alike, rowIn, softRow, soundRow}
 use Rattle.phones.specs.Sounds.{codeRow, firstRows, soundTable}
-use Rattle.stress.proofs.Raw.{where-same}
 
 -- every definition of the table
 unfoldable pub table : Unit {0}

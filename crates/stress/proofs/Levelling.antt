@@ -9,11 +9,10 @@ use Rattle.spec.specs.declared.Level.the-variants.{Stressed, First, Second}
 use Rattle.message.specs.{Classes.classes, Classes.classOf, Classes.isCoveringClass, Places.Steady, Places.letterOf, Places.wordAt}
 use Rattle.message.proofs.Left.{mark-within, begins-at, unmarked-after, word-letter, word-break, word-end}
 use Rattle.message.proofs.{Bytes.vowel-break, Bytes.vowel-mark, Bytes.not-both, Computed.everything}
-use Rattle.laws.proofs.{Classes.break-mark, Classes.break-vowel, Classes.either, LevelSteps.steps-suffice}
+use Rattle.laws.proofs.{Classes.break-mark, Classes.break-vowel, Classes.either, Classes.where-same, LevelSteps.steps-suffice}
 use Rattle.stress.specs.{declared.LevelRun.LevelRun, Places.markBefore, Places.markedAt}
 use Rattle.stress.specs.Levels.{levelAt, countedBy, numbered, nearly, sinceBy, endRun, overVowel, overMark}
 use Rattle.stress.specs.Levels.{overBreak, overLetter, stepsOf, turnOf, stepOver, StepDue, LookDue, Looked, LevelsAt}
-use Rattle.stress.proofs.Raw.{where-same}
 use Rattle.stress.proofs.Marked.{marked-within, marked-break, marked-end, facts-marked}
 
 -- a letter of these classes is no vowel, no break and no mark

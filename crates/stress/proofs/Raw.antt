@@ -1,18 +1,19 @@
--- What the code reads off the bytes beside a place is what the left context of the place says: in a steady message the byte before and its class tell of the last letter of the word what is asked.
-use Rattle.laws.proofs.Kit.{ℕ, zero, suc, _<_, _≤_, _≡_, refl, sym, _∙_, Bool, true, false, true≢false, cond, _||_, List, [], _∷_, _++_, map, arith, eqb, length, getD, eq-eqb, eqb-true, le-leb}
-use Rattle.spec.specs.Alphabet.{pause, mark, «ь»}
-use Rattle.spec.specs.Letters.{between, small, plainVowels, softeningVowels, isBreak, isHardOnly, isPaired, isSoftOnly, isConsonant, isSign, isVowel, isMark}
+-- What the code reads off the byte before a place is what the left context of the place says: in a steady message the byte and its class tell
+-- of the last letter of the word what is asked.
+use Rattle.laws.proofs.Kit.{ℕ, zero, suc, _<_, _≤_, _≡_, refl, sym, _∙_, true, false, true≢false, cond, _||_, List, [], _∷_}
+use Rattle.laws.proofs.Kit.{arith, eqb, length, getD, eq-eqb, le-leb}
+use Rattle.spec.specs.Alphabet.{pause, «ь»}
+use Rattle.spec.specs.{Letters.between, Letters.isBreak, Letters.isConsonant, Letters.isSign, Letters.isMark}
 use Rattle.spec.specs.Syllables.{coverAfter, incomplete, syllableOf}
-use Rattle.spec.specs.Vowels.{initial}
-use Rattle.message.specs.Classes.{classOf, pauseClass, isBreakClass, isSignClass, isCoveringClass, isVowelClass, isLetterClass}
-use Rattle.message.specs.Classes.{markClass, gapClass, hardSignClass, plainVowelClass, vowelIClass}
-use Rattle.message.specs.Places.{Steady}
-use Rattle.message.proofs.Bytes.{by-class, letter-class}
-use Rattle.message.proofs.{Before.vowel-before, Computed.everything}
-use Rattle.laws.proofs.Classes.{among-same, below, below-same}
-use Rattle.stress.specs.Before.{byteBefore, classBefore, ByteTells, ClassTells, syllableBy}
+use Rattle.spec.specs.Refusals.{signByte, consonantByte}
+use Rattle.message.specs.Classes.{classOf, pauseClass, isBreakClass, isSignClass, isCoveringClass, isVowelClass}
+use Rattle.message.specs.Classes.{markClass, gapClass, hardSignClass, softSignClass, plainVowelClass, vowelIClass, byteBefore}
+use Rattle.message.specs.Places.{Steady, ByteTells}
+use Rattle.message.proofs.Bytes.{ByClass, by-class}
+use Rattle.message.proofs.{Before.classes-alike, Before.byte-tells, Computed.everything}
+use Rattle.stress.specs.Before.{classBefore, syllableBy}
 use Rattle.stress.specs.Levels.{levelAt}
-use Rattle.stress.specs.Places.{Left, stepLeft, leftAt, syllableAt}
+use Rattle.stress.specs.Places.{leftAt, syllableAt}
 use Rattle.stress.proofs.Left.{left-last}
 
 -- a number between two others
@@ -36,74 +37,34 @@ module _ {b c : ℕ} (h : b < 256) (e : c ≡ classOf b) where
   pub break-byte : (classOf b ≡ 0 → ⊥) → c < hardSignClass → isMark b ≡ false → isBreak b ≡ true
   break-byte n l k = by-class b h .break ∙ (rw e at (break-class n l k))
 
--- two functions that agree on the bytes that pass a test agree at each of them
-pub where-same : {A : Type 0} (t : ℕ → Bool) (f g : ℕ → A) (d : A) (b : ℕ) → map (λ x. cond (t x) (f x) d) (below 256) ≡ map (λ x. cond (t x) (g x) d) (below 256)
-    → b < 256 → t b ≡ true → f b ≡ g b
-where-same t f g d b e h k = rw k at (below-same (λ x. cond (t x) (f x) d) (λ x. cond (t x) (g x) d) 256 b e h)
-
--- what holds of each choice by the test's outcome holds of what a test chooses
-pub cond-by : {A : Type 0} (P : A → Type 0) (t : Bool) {x y : A} → (t ≡ true → P x) → (t ≡ false → P y) → P (cond t x y)
-cond-by P true a b = a refl
-cond-by P false a b = b refl
-
--- what is asked of the last letter, 0 for none
-abbrev asked : ℕ → List Bool
-asked q = initial q ∷ isHardOnly q ∷ isPaired q ∷ isSoftOnly q ∷ eqb q «ь» ∷ (isConsonant q || isSign q) ∷ isSign q ∷ []
-
--- what a byte and its class answer
-abbrev answers : ℕ → List Bool
-answers b = isBreak b ∷ isHardOnly (small b) ∷ isPaired (small b) ∷ isSoftOnly (small b) ∷ eqb (small b) «ь» ∷ isCoveringClass (classOf b) ∷ isSignClass (classOf b) ∷ []
-
--- so they tell the letter
-abbrev Tell : ℕ → ℕ → Type 0
-Tell b q = ByteTells b q × ClassTells (classOf b) q
-
-told-asked : (b : ℕ) → b < 256 → {q : ℕ} → asked q ≡ answers b → Tell b q
-told-asked b h e =
-    let k = by-class b h .break in
-    let s = by-class b h .softSign in (
-      record { first = cc; hardOnly = cc; paired = cc; softOnly = cc; softSign = cc },
-      record { first = cc; covers = cc; sign = cc; softSign = cc },
-    )
-
--- a letter is told by its byte
-told-letter : (b : ℕ) → b < 256 → isLetterClass (classOf b) ≡ true → Tell b (small b)
-unfolding everything
-told-letter b h e = told-asked b h (where-same (λ x. isLetterClass (classOf x)) (λ x. asked (small x)) answers [] b refl h e)
-
--- a break tells that there is none
-told-break : (b : ℕ) → b < 256 → isBreak b ≡ true → Tell b 0
-unfolding everything
-told-break b h e = told-asked b h (where-same isBreak (λ _. asked 0) answers [] b refl h e)
-
--- a mark, before which a vowel stands, tells of a vowel
-told-mark : (b : ℕ) → isMark b ≡ true → (q : ℕ) → isVowel q ≡ true → Tell b q
-unfolding everything
-told-mark b k q e = rw (eqb-true b mark k) (told-asked mark (omega arith) (among-same asked (λ _. answers mark) (plainVowels ++ softeningVowels) q refl e))
-
 -- a message begins as after a pause
 pub start-class : (m : List ℕ) → classBefore m 0 ≡ pauseClass
 unfolding everything byteBefore
 start-class m = refl
 
 module _ (m : List ℕ) (steady : Steady m) where
-  -- the byte before a place and its class tell the last letter of the word
-  tell-at : (i : ℕ) → i ≤ length m → Tell (byteBefore m i) (leftAt m i .p)
-  unfolding leftAt stepLeft byteBefore isBreak
-  tell-at zero h = told-break pause (omega arith) refl
-  tell-at (suc i) h =
-      let b = getD m i 0 in
-      let t = steady .bytes i in
-      let P : Left → Type 0 = λ l. Tell b (l .p) in
-      cond-by P (isBreak b) (told-break b t) (λ s. cond-by P (isMark b) (λ k. told-mark b k _ (rw (left-last m i) (vowel-before m steady i h k))) (λ k. told-letter b t (letter-class b t s k (steady .named i h))))
+  -- the byte before a place, and the last letter of the word there, which it tells
+  pub left-told : (i : ℕ) → i ≤ length m → ByteTells (byteBefore m i) (leftAt m i .p)
+  left-told i h = rw (left-last m i) (byte-tells m steady i h)
 
-  -- what the byte tells
-  pub byte-tells : (i : ℕ) → i ≤ length m → ByteTells (byteBefore m i) (leftAt m i .p)
-  byte-tells i h = tell-at i h .0
+  -- that byte by its class
+  pub before-class : (i : ℕ) → ByClass (byteBefore m i)
+  unfolding byteBefore
+  before-class zero = by-class pause (omega arith)
+  before-class (suc i) = by-class (getD m i 0) (steady .bytes i)
 
-  -- what its class tells
-  pub class-tells : (i : ℕ) → i ≤ length m → ClassTells (classBefore m i) (leftAt m i .p)
-  class-tells i h = tell-at i h .1
+  -- what the class tells of that letter
+  pub record ClassTells (i : ℕ) : Type 0 where
+    pub covers : (isConsonant (leftAt m i .p) || isSign (leftAt m i .p)) ≡ isCoveringClass (classBefore m i)
+    pub sign : isSign (leftAt m i .p) ≡ isSignClass (classBefore m i)
+    pub softSign : eqb (leftAt m i .p) «ь» ≡ eqb (classBefore m i) softSignClass
+
+  pub class-tells : (i : ℕ) → i ≤ length m → ClassTells i
+  unfolding signByte consonantByte
+  class-tells i h =
+      let a = classes-alike (left-told i h .letter) in
+      let c = before-class i in
+      record { covers = rw (a .consonant, a .sign) (c .covers); sign = a .sign ∙ c .sign; softSign = a .softSign ∙ c .softSign }
 
   -- whether a syllable is left incomplete after it
   pub incomplete-raw : (i : ℕ) → i ≤ length m → incomplete (leftAt m i .p) ≡ cond (isCoveringClass (classBefore m i)) (7 ∷ []) []

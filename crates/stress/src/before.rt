@@ -2,8 +2,8 @@
 ghost use mathlib.Core.Path.{_≡_};
 ghost use Prim.Native.Nat.{_≤_};
 ghost use lib.ListN.{length};
-ghost use Rattle.message.specs.Classes.{classes};
-ghost use Rattle.stress.specs.Before.{byteBefore, classBefore};
+ghost use Rattle.message.specs.Classes.{classes, byteBefore};
+ghost use Rattle.stress.specs.Before.{classBefore};
 use message::classes;
 use message::classes::ClassTable;
 use message::classify::class_of;

@@ -8,7 +8,7 @@ use Rattle.message.specs.Classes.{pauseClass}
 use Rattle.message.specs.Places.{Steady, letterOf, wordAt}
 use Rattle.message.proofs.Left.{mark-within, word-letter, word-mark, word-break, word-end}
 use Rattle.message.proofs.{Bytes.by-class, Computed.everything, StepTable.class-spoken, Silent.elided-at}
-use Rattle.laws.proofs.{Classes.cond-same, Codes.vowel-sound, MarkIndex.sound-range, Putting.put-none, Classes.below}
+use Rattle.laws.proofs.{Classes.cond-same, Classes.where-same, Codes.vowel-sound, MarkIndex.sound-range, Putting.put-none, Classes.below}
 use Rattle.laws.specs.Putting.{Put}
 use Rattle.phones.specs.Following.{Following, followingEnd, stepped, putBefore, voicesOver, followingBy}
 use Rattle.phones.specs.Sounds.{consonantCode, Tells, codeBefore, Heard, soundTable}
@@ -20,7 +20,7 @@ use Rattle.transcriber.specs.Walk.{Stands, begunOf, pieceAt, Ready, Read
 use Rattle.stress.specs.Levels.{countedBy, numbered, endRun, stepOver, StepDue, LookDue, Looked}
 use Rattle.phones.specs.declared.Vowel.{Vowel}
 use Rattle.stress.proofs.Levelling.{levels-found, levels-due, levels-over, break-due, levels-break, levels-end, levels-turn}
-use Rattle.stress.proofs.{Raw.where-same, Left.left-last}
+use Rattle.stress.proofs.Left.{left-last}
 use Rattle.phones.proofs.SoundTable.{code-read}
 use Rattle.transcriber.proofs.Tail.{tape-letter, tape-mark, tape-break}
 use Rattle.transcriber.proofs.Tail.{following-letter, following-mark, following-break, following-end}

@@ -1,7 +1,7 @@
 -- `message::letters::is_elided` meets its contract: the bytes are those beside the place, and nothing is silent at the start or end of a message.
 use Rattle.laws.proofs.Kit.{ℕ, _+_, _≤_, and-false, arith, length, List·getD-eq-default, needs}
 use Rattle.spec.specs.{Letters.small, Elision.elidesT, Elision.elidesD, Elision.elidesAmong}
-use Rattle.message.specs.Classes.{letterAt, letterBefore, elidedAt}
+use Rattle.message.specs.Classes.{letterAt, byteBefore, elidedAt}
 use Rattle.message.proofs.StepTable.{before-at}
 use Rattle.message.proofs.letters.is_elided.Statement.{statement}
 use Rattle.message.proofs.letters.is_elided.Tie as tie
@@ -15,7 +15,7 @@ returns-3 c =
     rw (← before-at _ _ (t .before .before .if1 .left), List·getD-eq-default {A = ℕ} _ 0 e) (c .elides-byte .ensures)
 
 pub is-elided-spec : {M : Type 1} → statement M
-unfolding elidedAt elidesAmong elidesT elidesD letterBefore letterAt small
+unfolding elidedAt elidesAmong elidesT elidesD byteBefore letterAt small
 is-elided-spec =
     tie.close
     (tie.spec

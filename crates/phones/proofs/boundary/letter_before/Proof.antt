@@ -1,17 +1,11 @@
 -- The class tells a break; where it is none, the place is not the first and the byte before it is a byte of the message.
-use Rattle.laws.proofs.Kit.{ℕ, zero, suc, _-_, _<_, _≡_, sym, ap, _∙_, true, false, true≢false, List, getD, arith, needs}
+use Rattle.laws.proofs.Kit.{_<_, _≡_, sym, ap, _∙_, true, false, true≢false, arith, needs}
 use Rattle.message.specs.Classes.{isBreakClass}
-use Rattle.stress.specs.Before.{byteBefore}
+use Rattle.message.proofs.StepTable.{before-at}
 use Rattle.phones.specs.{VowelSounds.letterBefore, declared.LetterBefore.the-variants.Byte}
 use Rattle.phones.proofs.Boundaries.{past-start}
 use Rattle.phones.proofs.boundary.letter_before.Statement.{statement}
 use Rattle.phones.proofs.boundary.letter_before.Tie as tie
-
--- past the start the byte before is one of the message
-byte-at : (m : List ℕ) (i : ℕ) → 0 < i → getD m (i - 1) 0 ≡ byteBefore m i
-unfolding byteBefore
-byte-at m zero h = absurd (omega arith)
-byte-at m (suc i) h = let e : suc i - 1 ≡ i = omega arith in rw e
 
 -- where no break stands before
 past : (c : tie.Else1) → 0 < c .before .before .before .args .i
@@ -32,4 +26,4 @@ letter-before-spec =
     (λ c. let s = c .before .before .before .before in omega (arith, past (c .before), s .pre .within))
     (λ c. let k = c .before .before in let s = k .before .before in
     rw (← s .pre .class, ← k .is-break-class .ensures, c .before .if1 .left)
-    (ap Byte (byte-at (s .args .m .now) (s .args .i) (past (c .before))))))
+    (ap Byte (before-at (s .args .m .now) (s .args .i) (λ z. omega (arith, past (c .before), z))))))
