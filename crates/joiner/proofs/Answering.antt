@@ -3,7 +3,7 @@ use Rattle.laws.proofs.Kit.{ℕ, _<_, _≤_, _≡_, refl, sym, _∙_, List, _++
 use Rattle.spec.specs.Joints.{Rising, joined, liveCount, badCut}
 use Rattle.spec.specs.Answers.{afterCheck, outputAfter, joinAnswer, JoinPromise}
 use Rattle.spec.specs.{Refusals.refusal, Refusals.checkOf, declared.Counts.Counts, declared.Checked.the-variants.Accepted, declared.Answer.the-variants.Written, declared.Answer.the-variants.Refused}
-use Rattle.message.proofs.Steadiness.{accepted-steady}
+use Rattle.letters.proofs.Steadiness.{accepted-steady}
 use Rattle.laws.proofs.{Accepted.accepted-counts, Cuts.rising-of, Cutting.equal-lengths, Promises.promised, Promises.promised-short, Promises.promised-written}
 use Rattle.joiner.specs.Writing.{JoinDue, JoinWritten}
 use Rattle.joiner.specs.declared.JoinCounts.{JoinCounts}

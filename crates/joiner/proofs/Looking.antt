@@ -1,8 +1,8 @@
 -- The looks back: from an index down to the first element that passes a test, and from the mark of a place, break by break and mark by mark, to that of a cut.
 use Rattle.laws.proofs.Kit.{ℕ, suc, _-_, _<_, _≤_, _≡_, refl, sym, _∙_, Bool, true, false, cond, true≢false, inl, ⊎-elim, List, arith, eqb, length, getD, ne-eqb}
 use Rattle.spec.specs.{Letters.isBreak, Tape.tape, Joints.markIndex}
-use Rattle.message.specs.{Classes.classOf, Places.Steady}
-use Rattle.message.proofs.Computed.{everything}
+use Rattle.letters.specs.{Classes.classOf, Places.Steady}
+use Rattle.letters.proofs.Computed.{everything}
 use Rattle.laws.proofs.{Classes.below-or, MarkIndex.isNoSound, MarkIndex.last-above, MarkIndex.last-once, MarkIndex.last-mark}
 use Rattle.laws.proofs.Classes.{below-same}
 use Rattle.laws.specs.Beside.{Last}

@@ -2,8 +2,8 @@
 use Rattle.laws.proofs.Kit.{ℕ, zero, suc, _+_, _-_, _≡_, refl, sym, ap, _∙_, true, false, _&&_, List, [], _∷_, arith, add-one, eqb, getD, drop, eqb-true}
 use Rattle.spec.specs.Letters.{read, firstByte, firstWord, small, isMark, isBreak}
 use Rattle.spec.specs.{Alphabet.gap, Alphabet.pause, Tape.tape, Joints.markIndex, Joints.wordAfter}
-use Rattle.message.specs.Classes.{letterAt}
-use Rattle.message.proofs.Left.{word-put, unmarked-after}
+use Rattle.letters.specs.Classes.{letterAt}
+use Rattle.letters.proofs.Left.{word-put, unmarked-after}
 use Rattle.laws.proofs.{Classes.either, Classes.break-vowel, MarkIndex.before-told, MarkIndex.after-told}
 use Rattle.laws.specs.{Parts.changedAfter, Parts.changedBefore, Beside.isVoiced, Beside.isHigh, Beside.isIOrE}
 use Rattle.joiner.specs.Writing.{Beside}

@@ -8,7 +8,7 @@ use lib.ListN.{length, take, drop, getD}
 use Rattle.spec.specs.Letters.{between, isBreak}
 use Rattle.spec.specs.Codes.{markOf}
 use Rattle.spec.specs.Tape.{sounds, tape}
-use Rattle.message.specs.Places.{Steady}
+use Rattle.letters.specs.Places.{Steady}
 use Rattle.spec.specs.Refusals.{checkOf}
 use Rattle.spec.specs.Joints.{Rising, joinedFrom, joined, markIndex, liveCount}
 use Rattle.spec.specs.{LevelSteps.levelSteps, Layers.TapeDue}

@@ -4,7 +4,7 @@ ghost use mathlib.Core.Path.{_≡_};
 ghost use Rattle.laws.specs.Beside.{isVoiced, isHigh, isIOrE};
 ghost use Rattle.joiner.specs.Writing.{Beside, Changing};
 use crate::Changes;
-use message::letters::letter_at;
+use letters::elision::letter_at;
 use spec::alphabet;
 use spec::codes;
 

@@ -2,12 +2,13 @@
 use Rattle.laws.proofs.Kit.{ℕ, zero, suc, _*_, _<_, _≤_, _≡_, refl, sym, _∙_, ⊎-elim, Bool, true, false, cond, _&&_, _||_, not, and-false, or-assoc, or-comm, false≢true, List, [], _∷_, arith, eqb, length, getD, drop, drop-cons, drop-length, eqb-true, ne-eqb}
 use Rattle.spec.specs.Refusals.{vowelByte, signByte, hardSignByte, first, none, adjacent, vowelSign, lettersBefore, row3, row4, row5, row6, row7, row8, row9, row10, rows, firstFit, faultAt, beforeAt, refusal, checkOf}
 use Rattle.spec.specs.{Letters.isMark, Letters.isBreak, declared.Checked.the-variants.Accepted, declared.Checked.the-variants.Refused}
-use Rattle.message.specs.Classes.{classOf, classCount, isBreakClass, isSignClass, isConsonantClass, isVowelClass, isLetterClass, classAt}
-use Rattle.message.specs.Classes.{markClass}
+use Rattle.letters.specs.Classes.{classOf, classCount, isBreakClass, isSignClass, isConsonantClass, isVowelClass, isLetterClass, classAt}
+use Rattle.letters.specs.Classes.{markClass}
 use Rattle.message.specs.Steps.{isVowelKind, isHardSignKind, isVowelSignKind, isSignKind, nextKind, faultIn, kindAt, codesTo, namesTo, lettersAt, faultHere}
 use Rattle.laws.proofs.Accepted.{countsOf, ClearAt, fault-clear, first-refused, passes-accepted}
 use Rattle.laws.proofs.Classes.{refuted, below-or, pairs-same}
-use Rattle.message.proofs.{Bytes.ByClass, Bytes.by-class, StepTable.Entry, StepTable.entry-holds, StepTable.silent-asks, Computed.everything}
+use Rattle.letters.proofs.Bytes.{ByClass, by-class}
+use Rattle.message.proofs.{StepTable.Entry, StepTable.entry-holds, StepTable.silent-asks, Computed.everything}
 
 -- what the rows ask of the bytes before
 abbrev asked : List ℕ → List Bool

@@ -2,17 +2,19 @@
 -- comes after it, told by its class and the kind before it.
 use Rattle.laws.proofs.Kit.{ℕ, zero, suc, _+_, _<_, _≤_, _≡_, refl, sym, _∙_, Bool, true, false, cond, _&&_, _||_, true≢false, List, []}
 use Rattle.laws.proofs.Kit.{_∷_, arith, eqb, length, getD, drop, eqb-true}
-use Rattle.spec.specs.Letters.{Letter, Message, last, more, putLetter, read, firstWord, small, isMark, isBreak, isVowel}
+use Rattle.spec.specs.Letters.{Letter, Message, last, more, putLetter, read, firstWord, small, isMark, isBreak, isVowel, isConsonant, isSign}
 use Rattle.spec.specs.Syllables.{coverAfter, incomplete}
 use Rattle.spec.specs.Counting.{soundCount, codesLeft, namesLeft, codeCountFrom, nameCountFrom, codeCount, nameCount}
 use Rattle.spec.specs.Refusals.{vowelByte, signByte}
-use Rattle.spec.specs.{Elision.elides, Vowels.bare, Vowels.glides, declared.Cover.the-variants.Bare, declared.Cover.the-variants.Covered}
-use Rattle.message.specs.Classes.{classOf, classCount, isBreakClass, isSignClass, isConsonantClass, isLetterClass}
+use Rattle.spec.specs.{Alphabet.«ь», Elision.elides, Vowels.bare, Vowels.glides, declared.Cover.the-variants.Bare, declared.Cover.the-variants.Covered}
+use Rattle.letters.specs.Classes.{classOf, classCount, isBreakClass, isSignClass, isConsonantClass, isLetterClass}
 use Rattle.message.specs.Steps.{isSignKind, isSoftSignKind, kindAt, widthIn, widthAt, codesTo, namesIn, namesTo, tailNames}
-use Rattle.message.specs.Places.{lastAt, wordAt, letterOf, Steady}
-use Rattle.message.proofs.Left.{read-letter, read-mark, read-break, read-end, last-letter, last-mark, last-break}
-use Rattle.message.proofs.Bytes.{by-class, letter-class, vowel-mark}
-use Rattle.message.proofs.{Before.kind-at, Silent.elided-at, StepTable.class-spoken, Faults.kind-small, Computed.everything}
+use Rattle.letters.specs.Places.{lastAt, wordAt, letterOf, Steady}
+use Rattle.letters.proofs.Left.{read-letter, read-mark, read-break, read-end, last-letter, last-mark, last-break}
+use Rattle.letters.proofs.Bytes.{by-class, letter-class, vowel-mark}
+use Rattle.letters.proofs.Silent.{elided-at, class-spoken}
+use Rattle.letters.proofs.Before.{classes-alike, byte-tells}
+use Rattle.message.proofs.{Faults.kind-small, Faults.entry-at, Computed.everything}
 use Rattle.laws.proofs.Classes.{cond-app, either, refuted, pairs-same, break-vowel}
 
 -- how many sounds a letter makes: k, g and y say that a consonant, a sign or ь stands before it, s, e, i and o that it is a sign, one of
@@ -53,6 +55,26 @@ abbrev namesFrom : List ℕ → ℕ → ℕ
 namesFrom m i = nameCountFrom (lastAt m i) (read (drop i m))
 
 module _ (m : List ℕ) (steady : Steady m) where
+  -- the kind tells of the last letter what is asked
+  record Kind (i : ℕ) : Type 0 where
+    pub consonant : isConsonant (lastAt m i) ≡ isConsonantClass (kindAt m i)
+    pub sign : isSign (lastAt m i) ≡ isSignKind (kindAt m i)
+    pub softSign : eqb (lastAt m i) «ь» ≡ isSoftSignKind (kindAt m i)
+
+  -- it does
+  kind-at : (i : ℕ) → i ≤ length m → Kind i
+  unfolding everything lastAt
+  kind-at zero h = record { consonant = refl; sign = refl; softSign = refl }
+  kind-at (suc i) h =
+      let b = by-class (getD m i 0) (steady .bytes i) in
+      let a = classes-alike (byte-tells m steady (suc i) h .letter) in
+      let e = entry-at m (steady .bytes) i in
+      record {
+        consonant = a .consonant ∙ b .consonant ∙ sym (e .consonant);
+        sign = a .sign ∙ b .sign ∙ sym (e .sign);
+        softSign = a .softSign ∙ b .softSign ∙ sym (e .softSign);
+      }
+
   -- a break is counted one code
   width-break : (i k : ℕ) → isBreak (getD m i 0) ≡ true → widthAt m i k ≡ 1
   unfolding widthAt widthIn
@@ -77,7 +99,7 @@ module _ (m : List ℕ) (steady : Steady m) where
       let c = by-class (getD m i 0) t in
       let l = letter-class (getD m i 0) t b k (steady .named i h) in
       let n = heard-counted (kindAt m i) (classOf (getD m i 0)) (kind-small m (steady .bytes) i) (c .class) l in
-      let a = kind-at m steady i (omega arith) in
+      let a = kind-at i (omega arith) in
       rw (elided-at m steady i h b k, a .consonant, a .sign, a .softSign, c .sign, c .iotatedVowel, c .vowelI, c .vowelO, n)
 
   -- each byte is counted as many codes as it adds
@@ -105,7 +127,7 @@ module _ (m : List ℕ) (steady : Steady m) where
   names-tail : (i : ℕ) → i ≤ length m → length (incomplete (lastAt m i)) ≡ tailNames (kindAt m i)
   unfolding incomplete tailNames
   names-tail i h =
-      rw (kind-at m steady i h .consonant, kind-at m steady i h .sign)
+      rw (kind-at i h .consonant, kind-at i h .sign)
       (cond-app length (isConsonantClass (kindAt m i) || isSignKind (kindAt m i)) (7 ∷ []) [])
 
   -- each byte is counted as many names as it adds

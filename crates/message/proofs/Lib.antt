@@ -1,12 +1,6 @@
 pub mod Answering
-pub mod Before
-pub mod Bytes
 pub mod Checking
 pub mod Computed
 pub mod Faults
-pub mod Filling
-pub mod Left
 pub mod Lengths
 pub mod StepTable
-pub mod Silent
-pub mod Steadiness

@@ -1,62 +1,11 @@
 -- The check's tables by their rules: each entry is what specs/Steps.antt says, by one computation over all of them.
-use Rattle.laws.proofs.Kit.{ℕ, zero, suc, _+_, _-_, _*_, _/_, _%_, _<_, _≤_, _≡_, refl, ap, _∙_, true, false, cond, not, and-false, List, [], _∷_, map, arith, eqb, leb, getD, eqb-true, eqb-false, leb-true, ne-eqb}
-use Rattle.spec.specs.Alphabet.{pause, «з», «н», «р», «с»}
-use Rattle.spec.specs.{Tables.among, Letters.small, Elision.elidesT, Elision.elidesD, Elision.elidesAmong}
-use Rattle.message.specs.Classes.{classOf, classCount, classAt, isBreakClass, isConsonantClass, isSignClass, tabulate, classes, letterAt, byteBefore, elidedAt, silentAt}
-use Rattle.message.specs.Classes.{pairedClass}
+use Rattle.laws.proofs.Kit.{ℕ, zero, suc, _+_, _-_, _*_, _/_, _%_, _<_, _≤_, _≡_, refl, _∙_, true, false, cond, List, map, arith, eqb, leb, getD}
+use Rattle.laws.proofs.Kit.{eqb-true, eqb-false, leb-true}
+use Rattle.letters.specs.Classes.{classOf, classCount, classAt, isBreakClass, isConsonantClass, isSignClass, elidedAt, silentAt}
 use Rattle.message.specs.Steps.{isSoftSignKind, isSignKind, nextKind, faultIn, widthIn, namesIn, askIn, stopIn, packed, pairs, kindAt, widthAt, nameUnit, askUnit, stopUnit}
-use Rattle.message.proofs.{Bytes.by-class, Bytes.not-both, Computed.everything}
-use Rattle.laws.proofs.Classes.{among-none, either, below, pairs-same}
-use Rattle.laws.proofs.Elided.{other-stays, only-where}
-
--- past the start, the byte before place i is the one at i - 1
-pub before-at : (m : List ℕ) (i : ℕ) → (i ≡ 0 → ⊥) → getD m (i - 1) 0 ≡ byteBefore m i
-unfolding byteBefore
-before-at m i h = let e : suc (i - 1) ≡ i = omega arith in ap (byteBefore m) e
-
--- a byte of another class than т and д is not elided
-pub class-spoken : (m : List ℕ) (i : ℕ) → getD m i 0 < 256 → (classOf (getD m i 0) ≡ 8 → ⊥) → elidedAt m i ≡ false
-unfolding elidedAt letterAt
-class-spoken m i h n = other-stays _ (small (getD m i 0)) _ _ (by-class (getD m i 0) h .silent ∙ ne-eqb (classOf (getD m i 0)) 8 n)
-
--- the letters after which т and д are elided
-abbrev beforeSilent : List ℕ
-beforeSilent = «с» ∷ «н» ∷ «р» ∷ «з» ∷ []
-
--- after another letter none is
-after-spoken : (p b c d : ℕ) → among beforeSilent p ≡ false → elidesAmong p b c d ≡ false
-unfolding among elidesAmong elidesT elidesD
-after-spoken p b c d e = simp (no «с» refl, no «н» refl, no «р» refl, no «з» refl, and-false)
-  where
-    no : (x : ℕ) → among beforeSilent x ≡ true → eqb p x ≡ false
-    no x i = among-none beforeSilent p x e i
-
--- all of them are of class 7
-class-before : (b : ℕ) → b < 256 → not (eqb (classOf b) pairedClass) ≡ true → among beforeSilent (small b) ≡ false
-unfolding everything
-class-before b = not-both (λ x. not (eqb (classOf x) pairedClass)) (λ x. among beforeSilent (small x)) b refl
-
--- so a byte after another class than 7, or first, is not elided
-pub before-spoken : (m : List ℕ) (i : ℕ) → ((j : ℕ) → getD m j 0 < 256) → ((j : ℕ) → i ≡ suc j → classOf (getD m j 0) ≡ 7 → ⊥) → elidedAt m i ≡ false
-unfolding among elidedAt byteBefore letterAt small
-before-spoken m zero h n = after-spoken (small pause) _ _ _ refl
-before-spoken m (suc i) h n = after-spoken (small (getD m i 0)) _ _ _ (class-before (getD m i 0) (h i) (rw (ne-eqb (classOf (getD m i 0)) 7 (n i refl))))
-
--- a table has at each place what it says
-tabulate-at : (f : ℕ → ℕ) (i n j : ℕ) → j < n → getD (tabulate f i n) j 0 ≡ f (i + j)
-unfolding tabulate
-tabulate-at f i zero j h = absurd (omega arith)
-tabulate-at f i (suc n) zero h = let e : i ≡ i + 0 = omega arith in ap f e
-tabulate-at f i (suc n) (suc j) h = let e : suc i + j ≡ i + suc j = omega arith in tabulate-at f (suc i) n j (omega arith) ∙ ap f e
-
--- a table that is made so is read so
-pub tabulate-read : (f : ℕ → ℕ) (n : ℕ) {t : List ℕ} {j : ℕ} → t ≡ tabulate f 0 n → j < n → getD t j 0 ≡ f j
-tabulate-read f n {t} {j} e h = let z : 0 + j ≡ j = omega arith in rw (e, tabulate-at f 0 n j h, z)
-
--- the table of classes has the class of each byte
-pub class-read : (t : List ℕ) (b : ℕ) → t ≡ classes → b < 256 → getD t b 0 ≡ classOf b
-unfolding classes
-class-read t b e h = tabulate-read classOf 256 e h
+use Rattle.letters.proofs.{Silent.class-spoken, Silent.before-spoken, Tabulated.tabulate-at}
+use Rattle.message.proofs.Computed.{everything}
+use Rattle.laws.proofs.{Classes.either, Classes.below, Classes.pairs-same, Elided.only-where}
 
 -- How large the parts of an entry are. A stop is 1 and the fault, and where there is none the class is the next kind.
 pub record Entry (k c : ℕ) : Type 0 where

@@ -15,8 +15,8 @@ use Rattle.spec.specs.declared.Checked.the-variants.{Accepted, Refused}
 use Rattle.message.specs.declared.Seen.{Seen}
 use Rattle.message.specs.declared.Step.{Step}
 use Rattle.message.specs.declared.Step.the-variants.{Fault, Next}
-use Rattle.message.specs.Classes.{classOf, isBreakClass, isSignClass, isConsonantClass, isVowelClass, isLetterClass, classAt, tabulate, classes, elidedAt, silentAt}
-use Rattle.message.specs.Classes.{markClass, hardSignClass, softSignClass, pairedClass, tOrDClass, plainVowelClass, vowelOClass, iotatedClass, vowelIClass}
+use Rattle.letters.specs.Classes.{classOf, isBreakClass, isSignClass, isConsonantClass, isVowelClass, isLetterClass, classAt, tabulate, classes, elidedAt, silentAt}
+use Rattle.letters.specs.Classes.{markClass, hardSignClass, softSignClass, pairedClass, tOrDClass, plainVowelClass, vowelOClass, iotatedClass, vowelIClass}
 
 -- The kind of what stands before a byte: the class of the byte before (a gap's where there is none),
 -- or one of two more for ъ and for ь after a vowel.

@@ -1,10 +1,7 @@
 pub mod answers;
 pub mod check;
-pub mod classes;
-pub mod classify;
-pub mod letters;
-pub mod output;
-pub mod pairs;
+mod kinds;
+mod pairs;
 
 // What the check has seen of a message when it stands at a place: the kind of what stands before
 // it, a place from which the letters of the word are still to be counted, another before which none

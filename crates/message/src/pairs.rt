@@ -3,7 +3,7 @@
 // a copy and lends it.
 ghost use mathlib.Core.Path.{_≡_};
 ghost use Rattle.message.specs.Steps.{pairs};
-use crate::classes::PairTable;
+use crate::kinds::PairTable;
 
 // A row for each kind and a column for each class, in hexadecimal: the first two digits are 0, or
 // one more than the fault's number; the next is 2 for a letter that may be elided; 4000 is a name,

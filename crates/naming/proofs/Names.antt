@@ -5,9 +5,9 @@ use Rattle.spec.specs.Letters.{Letter, Message, last, more, putLetter, read, fi
 use Rattle.spec.specs.Syllables.{Facts, factsOf, namesFrom, incomplete, nameOf, syllableOf}
 use Rattle.spec.specs.Tape.{namesOf, names, wordNames}
 use Rattle.spec.specs.{Elision.elide, Refusals.vowelByte}
-use Rattle.message.specs.Places.{wordAt, letterOf, Steady}
-use Rattle.message.proofs.Left.{read-letter, read-mark, read-break, read-end}
-use Rattle.message.proofs.Bytes.{vowel-break, vowel-mark}
+use Rattle.letters.specs.Places.{wordAt, letterOf, Steady}
+use Rattle.letters.proofs.Left.{read-letter, read-mark, read-break, read-end}
+use Rattle.letters.proofs.Bytes.{vowel-break, vowel-mark}
 use Rattle.laws.proofs.{Classes.cond-app, Classes.either, Elided.names-elide}
 use Rattle.stress.specs.Places.{Left, leftAt, factsAt, syllableAt}
 use Rattle.naming.specs.Names.{tailNamesOf, namesAt}

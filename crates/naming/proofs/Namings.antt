@@ -1,8 +1,8 @@
 -- The naming's walk from the right: each byte settles the names that the definition gives it, and what stands right of it is told by what stood right of the next one.
 use Rattle.laws.proofs.Kit.{ℕ, suc, _<_, _≡_, refl, ap, _∙_, Bool, true, false, List, [], _∷_, _++_, arith, length, getD}
 use Rattle.spec.specs.{Letters.isBreak, Refusals.vowelByte, Syllables.incomplete, Syllables.nameOf, declared.Level.Level}
-use Rattle.message.specs.{Classes.classOf, Classes.isVowelClass, Places.Steady}
-use Rattle.message.proofs.Bytes.{by-class, vowel-break}
+use Rattle.letters.specs.{Classes.classOf, Classes.isVowelClass, Places.Steady}
+use Rattle.letters.proofs.Bytes.{by-class, vowel-break}
 use Rattle.laws.proofs.Putting.{put-none, put-length, put-again}
 use Rattle.laws.specs.Putting.{Put}
 use Rattle.stress.specs.{Places.leftAt, declared.LevelRun.LevelRun, Before.classBefore, Before.syllableBy}
@@ -11,7 +11,7 @@ use Rattle.naming.specs.declared.NameState.{NameState}
 use Rattle.stress.specs.Levels.{countedBy, numbered, endRun, stepOver, Looked, LevelsAt}
 use Rattle.stress.proofs.Levelling.{levels-found, levels-over, levels-break, levels-end}
 use Rattle.naming.proofs.Names.{names-start, names-end, names-vowel, names-other, names-break}
-use Rattle.message.proofs.Filling.{Pieces, pieces-part, Writing}
+use Rattle.letters.proofs.Filling.{Pieces, pieces-part, Writing}
 use Rattle.stress.proofs.Raw.{syllable-raw}
 
 -- the names from a place on are those that its byte settles and the rest's

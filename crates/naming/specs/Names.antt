@@ -11,11 +11,11 @@ use Rattle.stress.specs.Places.{Left, leftAt, factsAt, syllableAt}
 use mathlib.Core.Path.{_≡_}
 use mathlib.Core.Bool.{true, cond}
 use Rattle.spec.specs.Refusals.{vowelByte}
-use Rattle.message.specs.Places.{Steady}
-use Rattle.message.specs.Classes.{classOf, isVowelClass}
+use Rattle.letters.specs.Places.{Steady}
+use Rattle.letters.specs.Classes.{classOf, isVowelClass}
 use Rattle.stress.specs.Levels.{LevelsAt}
 use Rattle.naming.specs.declared.NameState.{NameState}
-use Rattle.message.specs.Filling.{MayStep, DidStep}
+use Rattle.letters.specs.Filling.{MayStep, DidStep}
 
 -- the names of the rest of a word and of what follows it
 unfoldable pub tailNamesOf : Left → Facts → Message → List ℕ

@@ -4,10 +4,10 @@ use Rattle.laws.proofs.Kit.{ℕ, zero, suc, _-_, _<_, _≤_, _≡_, refl, sym, 
 use Rattle.spec.specs.Alphabet.{«ь»}
 use Rattle.spec.specs.Letters.{small, isBreak, isGap, isMark}
 use Rattle.spec.specs.{Vowels.initial, Vowels.hardEnd}
-use Rattle.message.specs.Classes.{classOf, gapClass, pauseClass, softSignClass, isBreakClass, byteBefore}
-use Rattle.message.specs.Places.{Steady, ByteTells}
-use Rattle.message.proofs.Bytes.{by-class, not-both, vowel-break, vowel-mark}
-use Rattle.message.proofs.{Before.ClassesAlike, Before.classes-alike, Computed.everything}
+use Rattle.letters.specs.Classes.{classOf, gapClass, pauseClass, softSignClass, isBreakClass, byteBefore}
+use Rattle.letters.specs.Places.{Steady, ByteTells}
+use Rattle.letters.proofs.Bytes.{by-class, not-both, vowel-break, vowel-mark}
+use Rattle.letters.proofs.{Before.ClassesAlike, Before.classes-alike, Computed.everything}
 use Rattle.laws.proofs.Classes.{cond-by, either, below-same}
 use Rattle.stress.specs.Before.{classBefore}
 use Rattle.stress.specs.Places.{Left, stepLeft, leftAt}

@@ -3,7 +3,7 @@ use Rattle.laws.proofs.Kit.{ℕ, _+_, _*_, _%_, _<_, _≤_, _≡_, refl, true, 
 use Rattle.laws.proofs.Kit.{arith, eqb, leb, getD, eqb-true, leb-true}
 use Rattle.laws.proofs.Classes.{below-same, where-same, pairs-same}
 use Rattle.spec.specs.{Letters.small, Letters.isConsonant, Refusals.consonantByte, Codes.isSound}
-use Rattle.message.proofs.Computed.{everything}
+use Rattle.letters.proofs.Computed.{everything}
 use Rattle.phones.specs.Following.{followingEnd, stepped, isVoiced, voicesOver, followingBy}
 use Rattle.phones.specs.Sounds.{consonantCode, codeBefore, Heard, alike, rowIn, softRow, soundRow}
 use Rattle.phones.specs.Sounds.{codeRow, firstRows, soundTable}

@@ -1,8 +1,8 @@
 -- A vowel's sound and glide by what the code reads off the bytes beside it are those that passes 2 and 3 make of it.
 use Rattle.laws.proofs.Kit.{ℕ, _<_, _≤_, _≡_, List, arith, length, getD}
 use Rattle.spec.specs.{Letters.small, Vowels.glides, declared.Cover.Cover, declared.Level.Level, declared.Syllable.Syllable}
-use Rattle.message.specs.{Classes.classCount, Classes.classOf, Places.Steady}
-use Rattle.message.proofs.Bytes.{by-class}
+use Rattle.letters.specs.{Classes.classCount, Classes.classOf, Places.Steady}
+use Rattle.letters.proofs.Bytes.{by-class}
 use Rattle.stress.specs.Before.{classBefore, syllableBy}
 use Rattle.stress.specs.Places.{leftAt, syllableAt}
 use Rattle.stress.proofs.Raw.{syllable-raw, class-tells}

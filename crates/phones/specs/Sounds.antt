@@ -12,7 +12,7 @@ use Rattle.spec.specs.Tables.{among}
 use Rattle.spec.specs.Codes.{А*, Б, Б', В', Г, Г', Х1, Х1', Д, Д', Ж, Ж', З, З', К, К', Л', М', Н'}
 use Rattle.spec.specs.Codes.{П, П', Р', С, С', Т, Т', Ф, Ф', Х, Х', Ц, Ц1, Ч, Ч1, Ш, Щ, palatalized}
 use Rattle.spec.specs.Voicing.{Tone, voiced, voiceless, asWritten, toned}
-use Rattle.message.specs.Classes.{tabulate}
+use Rattle.letters.specs.Classes.{tabulate}
 use Rattle.spec.specs.Letters.{isObstruent}
 use Rattle.spec.specs.Phones.{writtenCode}
 use Rattle.spec.specs.Palatalization.{isSoft}

@@ -8,14 +8,14 @@ use mathlib.Core.List.{List, [], _∷_}
 use lib.Dec.{eqb}
 use Rattle.spec.specs.Letters.{small, isBreak}
 use Rattle.spec.specs.Vowels.{hardEnd, vowelSound, bare, glides}
-use Rattle.message.specs.Classes.{gapClass, softSignClass, vowelOClass, iotatedClass, vowelIClass}
-use Rattle.message.specs.Classes.{isBreakClass, isSignClass, classOf, byteBefore}
+use Rattle.letters.specs.Classes.{gapClass, softSignClass, vowelOClass, iotatedClass, vowelIClass}
+use Rattle.letters.specs.Classes.{isBreakClass, isSignClass, classOf, byteBefore}
 use Rattle.spec.specs.declared.Cover.{Cover}
 use Rattle.spec.specs.declared.Syllable.{Syllable}
 use Rattle.stress.specs.Before.{classBefore}
 use Rattle.spec.specs.Codes.{J}
 use lib.ListN.{length, getD}
-use Rattle.message.specs.Places.{Steady, ByteTells}
+use Rattle.letters.specs.Places.{Steady, ByteTells}
 use Rattle.spec.specs.declared.Level.{Level}
 use Rattle.stress.specs.Places.{syllableAt, leftAt}
 use Rattle.stress.specs.Levels.{levelAt}

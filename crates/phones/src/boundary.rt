@@ -2,13 +2,13 @@
 ghost use mathlib.Core.Path.{_≡_};
 ghost use Rattle.spec.specs.Letters.{small};
 ghost use Rattle.spec.specs.Vowels.{hardEnd};
-ghost use Rattle.message.specs.Classes.{isBreakClass};
+ghost use Rattle.letters.specs.Classes.{isBreakClass};
 ghost use Rattle.stress.specs.Before.{Before};
 ghost use Rattle.phones.specs.VowelSounds.{letterBefore, hardBefore};
 use crate::LetterBefore;
 use crate::letter_classes::is_hard_only;
 use crate::letter_classes::is_paired;
-use message::classes;
+use letters::classes;
 use spec::alphabet;
 use stress::before::byte_before;
 

@@ -4,8 +4,8 @@ use Rattle.laws.proofs.Kit.{ℕ, zero, suc, _<_, _≡_, refl, sym, _∙_, Bool,
 use Rattle.spec.specs.Letters.{Letter, more, putLetter, read, firstWord, small, isMark, isBreak, isGap, beginsWithMark}
 use Rattle.spec.specs.{Syllables.hasMark, Vowels.hardEnd}
 use Rattle.laws.proofs.Classes.{cond-app}
-use Rattle.message.specs.Places.{lastAt, letterOf}
-use Rattle.message.proofs.Left.{mark-within, word-put}
+use Rattle.letters.specs.Places.{lastAt, letterOf}
+use Rattle.letters.proofs.Left.{mark-within, word-put}
 use Rattle.stress.specs.Places.{Left, stepLeft, leftAt, markFrom}
 
 -- its last letter

@@ -6,9 +6,9 @@ use Rattle.spec.specs.Letters.{isBreak, isMark, beginsWithMark}
 use Rattle.spec.specs.{Refusals.vowelByte, Syllables.nextStressed, Syllables.levelOf, LevelSteps.backAt, LevelSteps.backTo}
 use Rattle.spec.specs.LevelSteps.{levelSteps}
 use Rattle.spec.specs.declared.Level.the-variants.{Stressed, First, Second}
-use Rattle.message.specs.{Classes.classes, Classes.classOf, Classes.isCoveringClass, Places.Steady, Places.letterOf, Places.wordAt}
-use Rattle.message.proofs.Left.{mark-within, begins-at, unmarked-after, word-letter, word-break, word-end}
-use Rattle.message.proofs.{Bytes.vowel-break, Bytes.vowel-mark, Bytes.not-both, Computed.everything}
+use Rattle.letters.specs.{Classes.classes, Classes.classOf, Classes.isCoveringClass, Places.Steady, Places.letterOf, Places.wordAt}
+use Rattle.letters.proofs.Left.{mark-within, begins-at, unmarked-after, word-letter, word-break, word-end}
+use Rattle.letters.proofs.{Bytes.vowel-break, Bytes.vowel-mark, Bytes.not-both, Computed.everything}
 use Rattle.laws.proofs.{Classes.break-mark, Classes.break-vowel, Classes.either, Classes.where-same, LevelSteps.steps-suffice}
 use Rattle.stress.specs.{declared.LevelRun.LevelRun, Places.markBefore, Places.markedAt}
 use Rattle.stress.specs.Levels.{levelAt, countedBy, numbered, nearly, sinceBy, endRun, overVowel, overMark}

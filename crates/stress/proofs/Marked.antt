@@ -4,8 +4,8 @@ use Rattle.laws.proofs.Kit.{ℕ, zero, suc, _<_, _≤_, _≡_, refl, sym, _∙_
 use Rattle.laws.proofs.Kit.{getD, drop, drop-cons, drop-length}
 use Rattle.spec.specs.Letters.{isMark, isBreak}
 use Rattle.spec.specs.Syllables.{hasMark}
-use Rattle.message.specs.Places.{wordAt, Steady}
-use Rattle.message.proofs.Left.{begins-at, unmarked-after}
+use Rattle.letters.specs.Places.{wordAt, Steady}
+use Rattle.letters.proofs.Left.{begins-at, unmarked-after}
 use Rattle.laws.proofs.Classes.{break-vowel, either}
 use Rattle.stress.specs.Places.{markBefore, markFrom, markedAt, factsAt}
 use Rattle.stress.proofs.Left.{mark-first}

@@ -6,11 +6,11 @@ use Rattle.spec.specs.Alphabet.{pause, «ь»}
 use Rattle.spec.specs.{Letters.between, Letters.isBreak, Letters.isConsonant, Letters.isSign, Letters.isMark}
 use Rattle.spec.specs.Syllables.{coverAfter, incomplete, syllableOf}
 use Rattle.spec.specs.Refusals.{signByte, consonantByte}
-use Rattle.message.specs.Classes.{classOf, pauseClass, isBreakClass, isSignClass, isCoveringClass, isVowelClass}
-use Rattle.message.specs.Classes.{markClass, gapClass, hardSignClass, softSignClass, plainVowelClass, vowelIClass, byteBefore}
-use Rattle.message.specs.Places.{Steady, ByteTells}
-use Rattle.message.proofs.Bytes.{ByClass, by-class}
-use Rattle.message.proofs.{Before.classes-alike, Before.byte-tells, Computed.everything}
+use Rattle.letters.specs.Classes.{classOf, pauseClass, isBreakClass, isSignClass, isCoveringClass, isVowelClass}
+use Rattle.letters.specs.Classes.{markClass, gapClass, hardSignClass, softSignClass, plainVowelClass, vowelIClass, byteBefore}
+use Rattle.letters.specs.Places.{Steady, ByteTells}
+use Rattle.letters.proofs.Bytes.{ByClass, by-class}
+use Rattle.letters.proofs.{Before.classes-alike, Before.byte-tells, Computed.everything}
 use Rattle.stress.specs.Before.{classBefore, syllableBy}
 use Rattle.stress.specs.Levels.{levelAt}
 use Rattle.stress.specs.Places.{leftAt, syllableAt}

@@ -2,8 +2,8 @@
 -- word are the same at each of its places.
 use Rattle.laws.proofs.Kit.{ℕ, suc, _<_, _≡_, refl, true, false, List, [], _∷_, append-assoc, length, getD}
 use Rattle.spec.specs.Letters.{isMark, isBreak}
-use Rattle.message.specs.Places.{wordAt, letterOf, Steady}
-use Rattle.message.proofs.Left.{mark-within, word-letter, word-mark}
+use Rattle.letters.specs.Places.{wordAt, letterOf, Steady}
+use Rattle.letters.proofs.Left.{mark-within, word-letter, word-mark}
 use Rattle.laws.proofs.Classes.{either}
 use Rattle.stress.specs.Places.{lettersAt, wholeAt}
 

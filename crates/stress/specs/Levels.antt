@@ -11,8 +11,8 @@ use Rattle.spec.specs.Letters.{beginsWithMark, isBreak, isMark}
 use Rattle.spec.specs.Refusals.{vowelByte}
 use Rattle.spec.specs.LevelSteps.{backAt, backTo, levelSteps}
 use Rattle.spec.specs.Syllables.{nextStressed, levelOf}
-use Rattle.message.specs.Classes.{classes, classOf}
-use Rattle.message.specs.Places.{Steady, letterOf, wordAt}
+use Rattle.letters.specs.Classes.{classes, classOf}
+use Rattle.letters.specs.Places.{Steady, letterOf, wordAt}
 use Rattle.spec.specs.declared.Level.{Level}
 use Rattle.spec.specs.declared.Level.the-variants.{Stressed, First, Second}
 use Rattle.stress.specs.Places.{factsAt, markBefore, markedAt}

@@ -9,7 +9,7 @@ use lib.ListN.{getD, drop}
 use Rattle.spec.specs.Letters.{Letter, small, isMark, isBreak, isGap}
 use Rattle.spec.specs.Syllables.{Facts, factsOf, syllableOf}
 use Rattle.spec.specs.Vowels.{hardEnd}
-use Rattle.message.specs.Places.{wordAt, letterOf}
+use Rattle.letters.specs.Places.{wordAt, letterOf}
 use Rattle.spec.specs.declared.Syllable.{Syllable}
 
 -- what the bytes before a place say: the last letter of the word, the one before it (0 for none),

@@ -2,11 +2,11 @@
 ghost use mathlib.Core.Path.{_≡_};
 ghost use Prim.Native.Nat.{_≤_};
 ghost use lib.ListN.{length};
-ghost use Rattle.message.specs.Classes.{classes, byteBefore};
+ghost use Rattle.letters.specs.Classes.{classes, byteBefore};
 ghost use Rattle.stress.specs.Before.{classBefore};
-use message::classes;
-use message::classes::ClassTable;
-use message::classify::class_of;
+use letters::classes;
+use letters::classes::ClassTable;
+use letters::classify::class_of;
 use spec::alphabet;
 
 // The class of the byte before place i; a pause at the start of the message.

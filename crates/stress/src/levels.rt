@@ -9,9 +9,9 @@ ghost use Prim.Native.Nat.{_<_};
 ghost use Rattle.stress.specs.Levels.{Least, countedBy, numbered, endRun, stepOver};
 ghost use Rattle.stress.specs.Levels.{stepsOf, turnOf, StepDue, LookDue, Looked};
 use crate::LevelRun;
-use message::classes;
-use message::classes::ClassTable;
-use message::classify::class_of;
+use letters::classes;
+use letters::classes::ClassTable;
+use letters::classify::class_of;
 use spec::Level;
 use spec::alphabet;
 

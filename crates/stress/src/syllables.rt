@@ -1,8 +1,8 @@
 // The syllables of a word (paper 01, pass 2), told by the class of the byte before a vowel.
 ghost use mathlib.Core.Path.{_≡_};
-ghost use Rattle.message.specs.Classes.{isCoveringClass};
+ghost use Rattle.letters.specs.Classes.{isCoveringClass};
 ghost use Rattle.stress.specs.Before.{syllableBy};
-use message::classes;
+use letters::classes;
 use spec::Cover;
 use spec::Level;
 use spec::Syllable;

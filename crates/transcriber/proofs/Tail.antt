@@ -5,8 +5,8 @@ use Rattle.spec.specs.Syllables.{Facts, factsOf}
 use Rattle.spec.specs.Voicing.{voices}
 use Rattle.spec.specs.Tape.{segment, sounds, tape}
 use Rattle.spec.specs.{Codes.markOf, Vowels.endsHardFrom, Vowels.endsHard}
-use Rattle.message.specs.Places.{wordAt, letterOf, Steady}
-use Rattle.message.proofs.Left.{mark-within, word-put, read-letter, read-mark, read-break, read-end}
+use Rattle.letters.specs.Places.{wordAt, letterOf, Steady}
+use Rattle.letters.proofs.Left.{mark-within, word-put, read-letter, read-mark, read-break, read-end}
 use Rattle.laws.proofs.Stretch.{voices-over}
 use Rattle.stress.specs.Places.{Left, leftAt, factsAt}
 use Rattle.transcriber.specs.Places.{tailTape, tailNext, tailWord, tapeAt, followingAt, codesAt}

@@ -3,11 +3,11 @@ use Rattle.laws.proofs.Kit.{ℕ, suc, _+_, _%_, _<_, _≤_, arith, _≡_, refl,
 use Rattle.spec.specs.Letters.{small, firstByte, isBreak, isGap, isMark}
 use Rattle.spec.specs.Codes.{J, markOf, isSound}
 use Rattle.spec.specs.{Phones.softens, Refusals.vowelByte, Refusals.signByte, Refusals.consonantByte, declared.Level.Level}
-use Rattle.message.specs.Classes.{classes, classOf, isBreakClass, isSignClass, isConsonantClass, isVowelClass, isSofteningClass, elidedAt}
-use Rattle.message.specs.Classes.{pauseClass}
-use Rattle.message.specs.Places.{Steady, letterOf, wordAt}
-use Rattle.message.proofs.Left.{mark-within, word-letter, word-mark, word-break, word-end}
-use Rattle.message.proofs.{Bytes.by-class, Computed.everything, StepTable.class-spoken, Silent.elided-at}
+use Rattle.letters.specs.Classes.{classes, classOf, isBreakClass, isSignClass, isConsonantClass, isVowelClass, isSofteningClass, elidedAt}
+use Rattle.letters.specs.Classes.{pauseClass}
+use Rattle.letters.specs.Places.{Steady, letterOf, wordAt}
+use Rattle.letters.proofs.Left.{mark-within, word-letter, word-mark, word-break, word-end}
+use Rattle.letters.proofs.{Bytes.by-class, Computed.everything, Silent.class-spoken, Silent.elided-at}
 use Rattle.laws.proofs.{Classes.cond-same, Classes.where-same, Codes.vowel-sound, MarkIndex.sound-range, Putting.put-none, Classes.below}
 use Rattle.laws.specs.Putting.{Put}
 use Rattle.phones.specs.Following.{Following, followingEnd, stepped, putBefore, voicesOver, followingBy}

@@ -11,7 +11,7 @@ use Rattle.spec.specs.Syllables.{Facts}
 use Rattle.spec.specs.Vowels.{endsHardFrom}
 use Rattle.spec.specs.Voicing.{voices}
 use Rattle.spec.specs.Tape.{segment}
-use Rattle.message.specs.Places.{wordAt, letterOf}
+use Rattle.letters.specs.Places.{wordAt, letterOf}
 use Rattle.stress.specs.Places.{Left, leftAt, factsAt}
 use Rattle.phones.specs.Following.{Following, following}
 use Rattle.transcriber.specs.Fused.{letterCodes, fusedFrom}

@@ -9,9 +9,9 @@ use Rattle.spec.specs.Letters.{firstByte, isBreak, isMark}
 use Rattle.spec.specs.Codes.{markOf}
 use Rattle.spec.specs.Phones.{softens}
 use Rattle.spec.specs.Tape.{tape}
-use Rattle.message.specs.Places.{Steady, wordAt}
-use Rattle.message.specs.Filling.{MayStep, DidStep}
-use Rattle.message.specs.Classes.{classes, classOf, isBreakClass}
+use Rattle.letters.specs.Places.{Steady, wordAt}
+use Rattle.letters.specs.Filling.{MayStep, DidStep}
+use Rattle.letters.specs.Classes.{classes, classOf, isBreakClass}
 use Rattle.transcriber.specs.Places.{followingAt, codesAt}
 use Rattle.stress.specs.Levels.{stepOver, turnOf, LevelsAt}
 use Rattle.phones.specs.Sounds.{soundTable, Tells}

@@ -2,7 +2,7 @@
 ghost use mathlib.Core.Path.{_≡_};
 ghost use Prim.Native.Nat.{_<_, _≤_};
 ghost use lib.ListN.{length};
-ghost use Rattle.message.specs.Classes.{classes, isConsonantClass, isVowelClass, elidedAt};
+ghost use Rattle.letters.specs.Classes.{classes, isConsonantClass, isVowelClass, elidedAt};
 ghost use Rattle.spec.specs.Tape.{tape};
 ghost use Rattle.spec.specs.LevelSteps.{levelSteps};
 ghost use Rattle.spec.specs.Answers.{TranscribePromise};
@@ -14,13 +14,13 @@ ghost use Rattle.transcriber.specs.Walk.{begunOf, Lent, ClassAt, Ready, 
 ghost use Rattle.transcriber.specs.Walk.{Stepped, MayWrite};
 use crate::Right;
 use crate::tables::lay_tables;
+use letters::classes;
+use letters::classes::ClassTable;
+use letters::classify::class_of;
+use letters::elision::is_elided;
+use letters::output::put;
 use message::answers::refused;
 use message::check::check;
-use message::classes;
-use message::classes::ClassTable;
-use message::classify::class_of;
-use message::letters::is_elided;
-use message::output::put;
 use phones::Vowel;
 use phones::consonants::VOICELESS_END;
 use phones::consonants::consonant_code;

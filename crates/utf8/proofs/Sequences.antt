@@ -7,7 +7,7 @@ use Rattle.spec.specs.Utf8.{asciiBytes, characters, rowBytes, hasRow, sequence,
 use Rattle.laws.proofs.Classes.{either, refuted, below-same, among-same, among-none}
 use Rattle.laws.specs.Edited.{breaks}
 use Rattle.utf8.specs.Tables.{leadOf, leads, letterOf, letters, both, sequenceOf, sequences}
-use Rattle.message.proofs.StepTable.{tabulate-read}
+use Rattle.letters.proofs.Tabulated.{tabulate-read}
 use Rattle.spec.proofs.Computed.{everything}
 
 -- an octet that is taken alone stands for itself

@@ -6,7 +6,7 @@ use mathlib.Core.List.{List, [], _∷_}
 use Rattle.spec.specs.Alphabet.{gap}
 use Rattle.spec.specs.Letters.{between}
 use Rattle.spec.specs.Utf8.{octets, sequence, byteOf}
-use Rattle.message.specs.Classes.{tabulate}
+use Rattle.letters.specs.Classes.{tabulate}
 
 -- what a letter begins with that ends with this octet, but for Ё and ё; a gap, with which none begins, where none ends so
 unfoldable pub leadOf : ℕ → ℕ

@@ -3,7 +3,7 @@ use Rattle.laws.proofs.Kit.{_≡_, _∙_, arith, needs}
 use Rattle.laws.proofs.Putting.{put-length, put-rest, put-first}
 use Rattle.stress.specs.Levels.{LevelsAt}
 use Rattle.naming.specs.Names.{namesAt, namePiece}
-use Rattle.message.proofs.Filling.{Writing, writing-length, writing-ready, writing-more}
+use Rattle.letters.proofs.Filling.{Writing, writing-length, writing-ready, writing-more}
 use Rattle.stress.proofs.Levelling.{levels-done, levels-taken, end-due}
 use Rattle.naming.proofs.{Namings.end-ends, Namings.naming-none, Names.names-start}
 use Rattle.naming.proofs.fill_names.Statement.{statement}

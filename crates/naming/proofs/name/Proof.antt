@@ -2,7 +2,8 @@
 use Rattle.laws.proofs.Kit.{_≡_, sym, _∙_, arith, needs, length}
 use Rattle.spec.specs.{Refusals.checkOf, Tape.names, Answers.nameAnswer, declared.Checked.the-variants.Accepted}
 use Rattle.laws.proofs.Accepted.{accepted-counts}
-use Rattle.message.proofs.{Answering.answered-refused, Answering.answered-short, Answering.answered-written, Steadiness.accepted-steady}
+use Rattle.letters.proofs.Steadiness.{accepted-steady}
+use Rattle.message.proofs.Answering.{answered-refused, answered-short, answered-written}
 use Rattle.naming.proofs.name.Statement.{statement}
 use Rattle.naming.proofs.name.Tie as tie
 

@@ -1,8 +1,8 @@
 -- Each class of byte settles its names, and a byte of an accepted message has one; the run of the levels goes on over it.
 use Rattle.laws.proofs.Kit.{_≡_, true, _∙_, arith, getD, needs, eq-eqb, ne-eqb}
 use Rattle.spec.specs.Letters.{isBreak, isMark}
-use Rattle.message.specs.Classes.{classOf, isVowelClass}
-use Rattle.message.proofs.{Bytes.by-class, Bytes.vowel-break, Left.mark-within}
+use Rattle.letters.specs.Classes.{classOf, isVowelClass}
+use Rattle.letters.proofs.{Bytes.by-class, Bytes.vowel-break, Left.mark-within}
 use Rattle.naming.proofs.Namings.{other-piece, named-within, word-ends, named-break}
 use Rattle.stress.proofs.Levelling.{plain-letter, mark-vowel, levels-due, break-due}
 use Rattle.stress.proofs.Raw.{between-true, vowel-class, break-byte}

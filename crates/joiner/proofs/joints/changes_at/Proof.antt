@@ -1,6 +1,6 @@
 -- The codes beside the mark tell what a cut changes, and each branch settles one test of them.
 use Rattle.laws.proofs.Kit.{suc, _+_, _≡_, _∙_, _&&_, needs}
-use Rattle.message.specs.Classes.{letterAt}
+use Rattle.letters.specs.Classes.{letterAt}
 use Rattle.laws.specs.{Parts.changedAfter, Parts.changedBefore, Beside.isIOrE}
 use Rattle.joiner.proofs.Sides.{voice-told, hardness-told}
 use Rattle.joiner.proofs.joints.changes_at.Statement.{statement}

@@ -1,7 +1,9 @@
 -- The table of pairs has a row for each kind, and the table of classes a class for each byte.
 use Rattle.laws.proofs.Kit.{_+_, _*_, _<_, _≡_, arith, getD, needs}
-use Rattle.message.specs.{Classes.classAt, Steps.packed, Steps.stopUnit}
-use Rattle.message.proofs.{Bytes.by-class, StepTable.pairs-read}
+use Rattle.letters.specs.Classes.{classAt}
+use Rattle.message.specs.Steps.{packed, stopUnit}
+use Rattle.letters.proofs.Bytes.{by-class}
+use Rattle.message.proofs.StepTable.{pairs-read}
 use Rattle.message.proofs.check.entry_at.Statement.{statement}
 use Rattle.message.proofs.check.entry_at.Tie as tie
 

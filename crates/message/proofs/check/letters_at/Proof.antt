@@ -1,6 +1,7 @@
 -- Going back, each byte that is no mark is a letter, until a break or the letters counted before; these and what stands before come to the same.
 use Rattle.laws.proofs.Kit.{ℕ, suc, _+_, _-_, _≤_, _<_, _≡_, ap, _∙_, cond, and-false, List, arith, leb, le-leb, lt-leb, needs}
-use Rattle.message.specs.{Classes.isBreakClass, Classes.isLetterClass, Classes.classAt, Steps.lettersAt}
+use Rattle.letters.specs.Classes.{isBreakClass, isLetterClass, classAt}
+use Rattle.message.specs.Steps.{lettersAt}
 use Rattle.message.proofs.check.letters_at.Statement.{statement}
 use Rattle.message.proofs.check.letters_at.Tie as tie
 

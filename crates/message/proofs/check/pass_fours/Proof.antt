@@ -1,6 +1,7 @@
 -- Four bytes without a stop are seen one after the other; at the first stop, or at the end, what is seen stays true.
 use Rattle.laws.proofs.Kit.{_+_, _-_, _<_, _≤_, ⊎-elim, arith, needs}
-use Rattle.message.specs.{Classes.classAt, declared.Seen.Seen, Steps.Sees, Steps.silentFour, Steps.stopUnit}
+use Rattle.letters.specs.Classes.{classAt}
+use Rattle.message.specs.{declared.Seen.Seen, Steps.Sees, Steps.silentFour, Steps.stopUnit}
 use Rattle.message.proofs.Checking.{sees-small, Adds, sees-four}
 use Rattle.message.proofs.check.pass_fours.Statement.{statement}
 use Rattle.message.proofs.check.pass_fours.Tie as tie

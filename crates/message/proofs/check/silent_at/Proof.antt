@@ -1,6 +1,6 @@
 -- No other byte is elided, and of т and д the test tells.
 use Rattle.laws.proofs.Kit.{_<_, sym, _∙_, arith, getD, eqb-false, needs}
-use Rattle.message.proofs.{Bytes.by-class, StepTable.class-spoken}
+use Rattle.letters.proofs.{Bytes.by-class, Silent.class-spoken}
 use Rattle.message.proofs.check.silent_at.Statement.{statement}
 use Rattle.message.proofs.check.silent_at.Tie as tie
 

@@ -2,7 +2,7 @@
 use Rattle.laws.proofs.Kit.{_<_, _≡_, cond, add-one, arith, length, needs}
 use Rattle.message.specs.Steps.{faultHere}
 use Rattle.message.proofs.Checking.{sees-small, sees-more, stop-here, full-here, Gives, gives}
-use Rattle.message.proofs.Bytes.{by-class}
+use Rattle.letters.proofs.Bytes.{by-class}
 use Rattle.message.proofs.check.step.Statement.{statement}
 use Rattle.message.proofs.check.step.Tie as tie
 

@@ -1,7 +1,7 @@
 -- Each entry is small, and each class is a kind of the table.
 use Rattle.laws.proofs.Kit.{ℕ, _+_, _<_, arith, getD, needs}
-use Rattle.message.specs.Classes.{classCount, classAt}
-use Rattle.message.proofs.Bytes.{by-class}
+use Rattle.letters.specs.Classes.{classCount, classAt}
+use Rattle.letters.proofs.Bytes.{by-class}
 use Rattle.message.proofs.check.sum_four.Statement.{statement}
 use Rattle.message.proofs.check.sum_four.Tie as tie
 

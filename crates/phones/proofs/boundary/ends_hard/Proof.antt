@@ -2,7 +2,7 @@
 use Rattle.laws.proofs.Kit.{ℕ, _<_, _≡_, refl, false, _||_, or-false, _⊎_, ⊎-elim, eqb, arith, needs}
 use Rattle.spec.specs.Alphabet.{«ь»}
 use Rattle.spec.specs.{Letters.small, Letters.isHardOnly, Letters.isPaired, Vowels.hardEnd}
-use Rattle.message.proofs.Computed.{everything}
+use Rattle.letters.proofs.Computed.{everything}
 use Rattle.phones.proofs.Keys.{none, neither, outside}
 use Rattle.phones.proofs.boundary.ends_hard.Statement.{statement}
 use Rattle.phones.proofs.boundary.ends_hard.Tie as tie

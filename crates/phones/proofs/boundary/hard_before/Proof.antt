@@ -1,7 +1,7 @@
 -- Behind a gap the place is not the first, and the two bytes before the gap tell the end of the word.
 use Rattle.laws.proofs.Kit.{ℕ, _-_, _<_, _≡_, Bool, List, arith, needs, ne-eqb}
 use Rattle.spec.specs.{Alphabet.pause, Letters.small, Vowels.hardEnd}
-use Rattle.message.specs.Classes.{gapClass, byteBefore}
+use Rattle.letters.specs.Classes.{gapClass, byteBefore}
 use Rattle.stress.specs.Before.{classBefore}
 use Rattle.phones.specs.VowelSounds.{hardBefore}
 use Rattle.phones.proofs.Boundaries.{past-start}

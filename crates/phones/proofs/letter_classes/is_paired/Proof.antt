@@ -3,7 +3,7 @@
 use Rattle.laws.proofs.Kit.{ℕ, _≤_, _≡_, sym, refl, Bool, true, false, cond, _&&_, not, [], _∷_, map, arith}
 use Rattle.spec.specs.{Letters.between, Letters.small, Letters.isPaired, Tables.among}
 use Rattle.laws.proofs.Classes.{below}
-use Rattle.message.proofs.Computed.{everything}
+use Rattle.letters.proofs.Computed.{everything}
 use Rattle.phones.proofs.Keys.{none, other, inside}
 use Rattle.phones.proofs.letter_classes.is_paired.Statement.{statement}
 use Rattle.phones.proofs.letter_classes.is_paired.Tie as tie

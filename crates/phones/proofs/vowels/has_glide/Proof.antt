@@ -1,7 +1,7 @@
 -- The vowels that palatalize have a glide after a sign, which covers the syllable, and е ё ю я in a bare one; of the others о has one, after ь.
 use Rattle.laws.proofs.Kit.{ℕ, _<_, _≤_, _≡_, ap, _&&_, _||_, false, true≢false, and-false, and-true, or-comm, or-false, eqb, leb, eqb-true, eqb-false, ne-eqb, leb-false, lt-leb, arith, needs}
 use Rattle.laws.proofs.Classes.{either}
-use Rattle.message.specs.Classes.{hardSignClass, softSignClass, softOnlyClass, vowelOClass, iotatedClass, vowelIClass, classCount, isSignClass}
+use Rattle.letters.specs.Classes.{hardSignClass, softSignClass, softOnlyClass, vowelOClass, iotatedClass, vowelIClass, classCount, isSignClass}
 use Rattle.spec.specs.{Vowels.bare, declared.Cover.Cover, declared.Cover.the-variants.Bare}
 use Rattle.stress.specs.Before.{coverClass}
 use Rattle.phones.specs.VowelSounds.{glideBy}

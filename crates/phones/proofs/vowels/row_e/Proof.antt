@@ -1,6 +1,6 @@
 -- A hard boundary counts only where there is no letter before.
 use Rattle.laws.proofs.Kit.{needs}
-use Rattle.message.proofs.Computed.{everything}
+use Rattle.letters.proofs.Computed.{everything}
 use Rattle.phones.proofs.Boundaries.{told-none, told-byte}
 use Rattle.phones.proofs.vowels.row_e.Statement.{statement}
 use Rattle.phones.proofs.vowels.row_e.Tie as tie

@@ -1,6 +1,6 @@
 -- Only at the word's start is there no letter before.
 use Rattle.laws.proofs.Kit.{needs}
-use Rattle.message.proofs.Computed.{everything}
+use Rattle.letters.proofs.Computed.{everything}
 use Rattle.phones.proofs.Boundaries.{told-none, told-byte}
 use Rattle.phones.proofs.vowels.row_ya.Statement.{statement}
 use Rattle.phones.proofs.vowels.row_ya.Tie as tie

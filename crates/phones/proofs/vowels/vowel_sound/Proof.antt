@@ -1,7 +1,7 @@
 -- Each arm is its letter's row, by computation at the small letter and at the capital; another byte has no sound.
 use Rattle.laws.proofs.Kit.{refl, sym, ⊎-elim, arith, needs}
 use Rattle.spec.specs.{Letters.small, Vowels.vowelSound}
-use Rattle.message.proofs.Computed.{everything}
+use Rattle.letters.proofs.Computed.{everything}
 use Rattle.phones.specs.VowelSounds.{hardBefore}
 use Rattle.phones.proofs.Keys.{none, neither, outside}
 use Rattle.phones.proofs.vowels.vowel_sound.Statement.{statement}

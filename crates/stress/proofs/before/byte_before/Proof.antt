@@ -1,7 +1,7 @@
 -- Past the start, the byte before a place stands at the place before it.
 use Rattle.laws.proofs.Kit.{needs}
-use Rattle.message.specs.Classes.{byteBefore}
-use Rattle.message.proofs.StepTable.{before-at}
+use Rattle.letters.specs.Classes.{byteBefore}
+use Rattle.letters.proofs.Before.{before-at}
 use Rattle.stress.proofs.before.byte_before.Statement.{statement}
 use Rattle.stress.proofs.before.byte_before.Tie as tie
 

@@ -1,7 +1,7 @@
 -- Past the start, the byte before a place stands at the place before it, and the table has its class.
 use Rattle.laws.proofs.Kit.{sym, ap, _∙_, needs}
-use Rattle.message.specs.Classes.{classOf}
-use Rattle.message.proofs.StepTable.{before-at}
+use Rattle.letters.specs.Classes.{classOf}
+use Rattle.letters.proofs.Before.{before-at}
 use Rattle.stress.proofs.Raw.{start-class}
 use Rattle.stress.proofs.before.class_before.Statement.{statement}
 use Rattle.stress.proofs.before.class_before.Tie as tie

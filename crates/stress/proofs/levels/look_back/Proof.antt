@@ -1,8 +1,8 @@
 -- The bytes passed so far are letters, so what stands before them tells of the word's marks, and each was one step; a mark or a break, or the message's start, then tells all. The measure is j.
 use Rattle.laws.proofs.Kit.{ℕ, suc, _+_, _-_, _≤_, _≡_, refl, _∙_, true, false, true≢false, false≢true, arith, needs, List, getD}
 use Rattle.spec.specs.{Letters.isBreak, Letters.isMark, LevelSteps.backAt}
-use Rattle.message.specs.Places.{Steady}
-use Rattle.message.proofs.{Bytes.vowel-break, Bytes.vowel-mark, Left.mark-within}
+use Rattle.letters.specs.Places.{Steady}
+use Rattle.letters.proofs.{Bytes.vowel-break, Bytes.vowel-mark, Left.mark-within}
 use Rattle.stress.specs.{declared.LevelRun.LevelRun, Places.markBefore}
 use Rattle.stress.specs.Levels.{stepOver, endRun, Looked}
 use Rattle.laws.proofs.LevelSteps.{back-most}

@@ -1,8 +1,8 @@
 -- The class tells a vowel from another letter, and those from marks and breaks; of these the byte itself tells the mark.
 use Rattle.laws.proofs.Kit.{ℕ, _<_, _≤_, _≡_, _∙_, true, false, arith, needs, lt-leb, ne-eqb}
 use Rattle.spec.specs.{Letters.isMark, Refusals.vowelByte}
-use Rattle.message.specs.Classes.{classOf}
-use Rattle.message.proofs.Bytes.{by-class}
+use Rattle.letters.specs.Classes.{classOf}
+use Rattle.letters.proofs.Bytes.{by-class}
 use Rattle.stress.proofs.Levelling.{plain-letter}
 use Rattle.stress.proofs.Raw.{between-true, vowel-class, break-byte}
 use Rattle.stress.proofs.levels.step.Statement.{statement}

@@ -1,7 +1,7 @@
 -- Only т and д can be silent, and only after a consonant of class 7.
 use Rattle.laws.proofs.Kit.{ℕ, _<_, _≡_, sym, _∙_, false, List, getD, needs}
-use Rattle.message.specs.Classes.{byteBefore, elidedAt}
-use Rattle.message.proofs.StepTable.{class-spoken, before-spoken}
+use Rattle.letters.specs.Classes.{byteBefore, elidedAt}
+use Rattle.letters.proofs.Silent.{class-spoken, before-spoken}
 use Rattle.stress.specs.Before.{classBefore}
 use Rattle.transcriber.proofs.tape.is_silent.Statement.{statement}
 use Rattle.transcriber.proofs.tape.is_silent.Tie as tie

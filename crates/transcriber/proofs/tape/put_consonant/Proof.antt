@@ -1,6 +1,6 @@
 -- The code that the table gives is the consonant's, and it is what stands right of the letter before; a silent letter puts nothing.
 use Rattle.laws.proofs.Kit.{_≡_, sym, _∙_, false, needs}
-use Rattle.message.specs.Classes.{elidedAt}
+use Rattle.letters.specs.Classes.{elidedAt}
 use Rattle.transcriber.proofs.Walking.{run-ready, consonant-before, elided-steps, consonant-room, consonant-steps}
 use Rattle.transcriber.proofs.tape.put_consonant.Statement.{statement}
 use Rattle.transcriber.proofs.tape.put_consonant.Tie as tie

@@ -3,7 +3,7 @@ use Rattle.laws.proofs.Kit.{_≡_, ap, arith, length, needs}
 use Rattle.spec.specs.Tape.{tape}
 use Rattle.laws.proofs.Putting.{put-none}
 use Rattle.transcriber.specs.{Places.tapeAt, Walk.Stands, Walk.pieceAt}
-use Rattle.message.proofs.Filling.{Writing, writing-length, writing-ready, writing-more}
+use Rattle.letters.proofs.Filling.{Writing, writing-length, writing-ready, writing-more}
 use Rattle.stress.proofs.Levelling.{levels-done, levels-taken, end-due}
 use Rattle.transcriber.proofs.{Tail.tape-start, Tail.tape-end, Walking.piece-step, Walking.stands-end, Walking.ready-begun}
 use Rattle.transcriber.proofs.tape.walk.Statement.{statement}

@@ -1,8 +1,8 @@
 -- An accepted message is steady, so the walk puts the tape and counts the steps.
 use Rattle.laws.proofs.Kit.{_∙_, arith, needs}
 use Rattle.laws.proofs.{Accepted.accepted-passes, LevelSteps.steps-suffice}
-use Rattle.message.proofs.Steadiness.{accepted-steady}
-use Rattle.message.proofs.Filling.{put-output}
+use Rattle.letters.proofs.Steadiness.{accepted-steady}
+use Rattle.letters.proofs.Filling.{put-output}
 use Rattle.transcriber.proofs.tape.write_tape.Statement.{statement}
 use Rattle.transcriber.proofs.tape.write_tape.Tie as tie
 

@@ -1,0 +1,4 @@
+pub mod classes;
+pub mod classify;
+pub mod elision;
+pub mod output;
