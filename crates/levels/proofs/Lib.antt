@@ -1,2 +1,2 @@
-pub mod Placed
+pub mod LevelParts
 pub mod Signed

@@ -6,16 +6,15 @@ ghost use lib.ListN.{length};
 ghost use lib.IntN.{pos, natAbs};
 ghost use Rattle.spec.specs.SpokenLevels.{spoken, InRange, LevelPromise};
 ghost use Rattle.laws.specs.Putting.{Put};
-ghost use Rattle.levels.specs.Placing.{Room, Adds, Splits, signWords, partWords};
+ghost use Rattle.numerals.specs.Placing.{Room, Adds};
+ghost use Rattle.levels.specs.LevelParts.{Splits, signWords, partWords};
+use numerals::put_below_hundred;
+use numerals::put_hundreds;
+use numerals::put_thousands;
+use numerals::put_word;
 use spec::Answer;
 use spec::Refusal;
 use spec::numbers;
-use words::put_below_hundred;
-use words::put_hundreds;
-use words::put_thousands;
-use words::put_word;
-
-mod words;
 
 // No level has words of more bytes.
 pub const LONGEST: usize = 54;

@@ -1,6 +1,6 @@
 -- Each part is put behind those before it.
 use Rattle.laws.proofs.Kit.{needs}
-use Rattle.levels.proofs.Placed.{room-first, room-next, adds-both}
+use Rattle.numerals.proofs.Placed.{room-first, room-next, adds-both}
 use Rattle.levels.proofs.put_parts.Statement.{statement}
 use Rattle.levels.proofs.put_parts.Tie as tie
 

@@ -2,8 +2,9 @@
 use Rattle.laws.proofs.Kit.{_≡_, [], _∷_, arith, needs}
 use Rattle.spec.specs.SpokenLevels.{bytes}
 use Rattle.spec.proofs.Computed.{everything}
-use Rattle.levels.specs.Placing.{signWords}
-use Rattle.levels.proofs.Placed.{adds-none, sign-below, sign-above}
+use Rattle.levels.specs.LevelParts.{signWords}
+use Rattle.numerals.proofs.Placed.{adds-none}
+use Rattle.levels.proofs.LevelParts.{sign-below, sign-above}
 use Rattle.levels.proofs.Signed.{near-same}
 use Rattle.levels.proofs.put_sign.Statement.{statement}
 use Rattle.levels.proofs.put_sign.Tie as tie

@@ -5,8 +5,10 @@ use mir.Syntax.{w32}
 use mir.Val.{ofZ}
 use Rattle.spec.specs.SpokenLevels.{bytes, numberWords, levelWords}
 use Rattle.spec.proofs.Computed.{everything}
-use Rattle.levels.specs.Placing.{Room, Adds, signWords, partWords}
-use Rattle.levels.proofs.Placed.{room-first, room-next, adds-both, level-room, level-put, sign-words, parts-words}
+use Rattle.numerals.specs.Placing.{Room, Adds}
+use Rattle.levels.specs.LevelParts.{signWords, partWords}
+use Rattle.numerals.proofs.Placed.{room-first, room-next, adds-both}
+use Rattle.levels.proofs.LevelParts.{level-room, level-put, sign-words, parts-words}
 use Rattle.levels.proofs.Signed.{near-same, zero-told}
 use Rattle.levels.proofs.write_level.Statement.{statement}
 use Rattle.levels.proofs.write_level.Tie as tie

@@ -2,9 +2,9 @@
 use Rattle.laws.proofs.Kit.{arith, needs}
 use Rattle.spec.specs.SpokenLevels.{units}
 use Rattle.spec.proofs.Computed.{everything}
-use Rattle.levels.proofs.Placed.{adds-none, none-of}
-use Rattle.levels.proofs.words.put_unit.Statement.{statement}
-use Rattle.levels.proofs.words.put_unit.Tie as tie
+use Rattle.numerals.proofs.Placed.{adds-none, none-of}
+use Rattle.numerals.proofs.put_unit.Statement.{statement}
+use Rattle.numerals.proofs.put_unit.Tie as tie
 
 pub put-unit-spec : {M : Type 1} → statement M
 unfolding everything

@@ -5,7 +5,7 @@ ghost use Prim.Native.Nat.{_<_, _≤_};
 ghost use lib.ListN.{length};
 ghost use Rattle.spec.specs.SpokenLevels.{units, teens, tens, hundreds, feminine, wordIn};
 ghost use Rattle.spec.specs.SpokenLevels.{thousand, thousands};
-ghost use Rattle.levels.specs.Placing.{Room, Adds, lowWords};
+ghost use Rattle.numerals.specs.Placing.{Room, Adds, lowWords};
 use bytes::copy;
 use spec::alphabet::GAP;
 

@@ -1,10 +1,10 @@
 -- Nothing is put of none; else the count and then its form.
 use Rattle.laws.proofs.Kit.{[], _∷_, _++_, ne-eqb, needs}
 use Rattle.spec.specs.SpokenLevels.{feminine, wordIn, thousand, thousands}
-use Rattle.levels.specs.Placing.{Room}
-use Rattle.levels.proofs.Placed.{adds-none, room-first, room-next, adds-both}
-use Rattle.levels.proofs.words.put_thousands.Statement.{statement}
-use Rattle.levels.proofs.words.put_thousands.Tie as tie
+use Rattle.numerals.specs.Placing.{Room}
+use Rattle.numerals.proofs.Placed.{adds-none, room-first, room-next, adds-both}
+use Rattle.numerals.proofs.put_thousands.Statement.{statement}
+use Rattle.numerals.proofs.put_thousands.Tie as tie
 
 -- there is room for both
 room : (c : tie.Else1) → let s = c .before .before in Room (wordIn feminine (s .args .n) ++ (thousand (s .args .n) ∷ [])) (s .args .out .now) (s .args .at)

@@ -1,10 +1,10 @@
 -- Without tens there is the units' word, from 10 to 19 one word; else the tens' and then the units'.
 use Rattle.laws.proofs.Kit.{_++_, arith, ne-eqb, needs}
 use Rattle.spec.specs.SpokenLevels.{units, tens, wordIn}
-use Rattle.levels.specs.Placing.{Room, lowWords}
-use Rattle.levels.proofs.Placed.{room-first, room-next, adds-both}
-use Rattle.levels.proofs.words.put_below_hundred.Statement.{statement}
-use Rattle.levels.proofs.words.put_below_hundred.Tie as tie
+use Rattle.numerals.specs.Placing.{Room, lowWords}
+use Rattle.numerals.proofs.Placed.{room-first, room-next, adds-both}
+use Rattle.numerals.proofs.put_below_hundred.Statement.{statement}
+use Rattle.numerals.proofs.put_below_hundred.Tie as tie
 
 -- there is room for both
 room : (c : tie.Else2) → let s = c .before .before .before in

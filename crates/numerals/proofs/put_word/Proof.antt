@@ -3,9 +3,9 @@ use Rattle.laws.proofs.Kit.{_≤_, _+_, arith, length, length-drop, set, needs}
 use lib.ListN.{length-set}
 use Rattle.spec.specs.Alphabet.{gap}
 use Rattle.laws.proofs.Putting.{put-at, put-behind, put-part, put-length, rest-part}
-use Rattle.levels.proofs.Placed.{copied, room-word, room-gap, word-first, word-next}
-use Rattle.levels.proofs.words.put_word.Statement.{statement}
-use Rattle.levels.proofs.words.put_word.Tie as tie
+use Rattle.numerals.proofs.Placed.{copied, room-word, room-gap, word-first, word-next}
+use Rattle.numerals.proofs.put_word.Statement.{statement}
+use Rattle.numerals.proofs.put_word.Tie as tie
 
 -- past the start there is room for a gap and the word
 room : (c : tie.Else1) → let s = c .before .before .before in s .args .at + 1 + length (s .args .word .now) ≤ length (s .args .out .now)

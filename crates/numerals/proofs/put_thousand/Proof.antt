@@ -2,8 +2,8 @@
 use Rattle.laws.proofs.Kit.{_≡_, arith, ne-eqb, le-leb, lt-leb, needs}
 use Rattle.spec.specs.SpokenLevels.{thousand}
 use Rattle.spec.proofs.Computed.{everything}
-use Rattle.levels.proofs.words.put_thousand.Statement.{statement}
-use Rattle.levels.proofs.words.put_thousand.Tie as tie
+use Rattle.numerals.proofs.put_thousand.Statement.{statement}
+use Rattle.numerals.proofs.put_thousand.Tie as tie
 
 -- what the tests tell of the form
 few : (c : tie.Then2) → let n = c .before .before .before .args .n in thousand n ≡ thousand 2

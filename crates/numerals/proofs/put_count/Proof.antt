@@ -1,9 +1,9 @@
 -- The two feminine rows come first; any other count is a unit.
 use Rattle.laws.proofs.Kit.{arith, needs}
 use Rattle.spec.proofs.Computed.{everything}
-use Rattle.levels.proofs.Placed.{count-other}
-use Rattle.levels.proofs.words.put_count.Statement.{statement}
-use Rattle.levels.proofs.words.put_count.Tie as tie
+use Rattle.numerals.proofs.Placed.{count-other}
+use Rattle.numerals.proofs.put_count.Statement.{statement}
+use Rattle.numerals.proofs.put_count.Tie as tie
 
 -- any other count is a unit
 other-requires : tie.Need-put-unit-requires
