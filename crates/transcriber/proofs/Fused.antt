@@ -9,9 +9,10 @@ use Rattle.spec.specs.Phones.{Phone, writtenCode, softens, vowelPhones, phonesO
 use Rattle.spec.specs.Voicing.{Tone, voiced, voiceless, asWritten, toned, codesOf, voiceOne, voice}
 use Rattle.spec.specs.{Codes.palatalized, Elision.elideFrom, Elision.elide, Palatalization.isSoft, Palatalization.palatalize, Tape.wordTape}
 use Rattle.spec.specs.Syllables.{Facts, factsOf, syllableOf}
-use Rattle.phones.specs.{Sounds.consonantCode, VowelSounds.vowelCodes}
-use Rattle.phones.specs.Following.{Following, stepped, following}
-use Rattle.phones.proofs.Following.{tone-following, code-following}
+use Rattle.consonants.specs.Sounds.{consonantCode}
+use Rattle.vowels.specs.VowelSounds.{vowelCodes}
+use Rattle.consonants.specs.Following.{Following, stepped, following}
+use Rattle.consonants.proofs.Following.{tone-following, code-following}
 use Rattle.transcriber.specs.Fused.{letterCodes, fusedFrom}
 use Rattle.laws.proofs.Classes.{cond-app, cond-same, either, among-same, vowel-quiet, vowel-single}
 use Rattle.laws.proofs.Elided.{elide-cases, soft-elide, syllable-elide, phones-free}

@@ -11,8 +11,8 @@ use Rattle.laws.proofs.Stretch.{voices-over}
 use Rattle.stress.specs.Places.{Left, leftAt, factsAt}
 use Rattle.transcriber.specs.Places.{tailTape, tailNext, tailWord, tapeAt, followingAt, codesAt}
 use Rattle.transcriber.specs.Fused.{letterCodes, fusedFrom}
-use Rattle.phones.specs.Following.{followingEnd, putBefore, following, voicesOver}
-use Rattle.phones.proofs.Following.{voices-following, put-append}
+use Rattle.consonants.specs.Following.{followingEnd, putBefore, following, voicesOver}
+use Rattle.consonants.proofs.Following.{voices-following, put-append}
 use Rattle.stress.proofs.Left.{start, afterLetter, left-letter, left-mark, left-break}
 use Rattle.stress.proofs.Whole.{whole-within, whole-first, whole-after}
 use Rattle.transcriber.proofs.Fused.{word-fused}

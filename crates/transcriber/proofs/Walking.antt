@@ -10,18 +10,18 @@ use Rattle.letters.proofs.Left.{mark-within, word-letter, word-mark, word-break
 use Rattle.letters.proofs.{Bytes.by-class, Computed.everything, Silent.class-spoken, Silent.elided-at}
 use Rattle.laws.proofs.{Classes.cond-same, Classes.where-same, Codes.vowel-sound, MarkIndex.sound-range, Putting.put-none, Classes.below}
 use Rattle.laws.specs.Putting.{Put}
-use Rattle.phones.specs.Following.{Following, followingEnd, stepped, putBefore, voicesOver, followingBy}
-use Rattle.phones.specs.Sounds.{consonantCode, Tells, codeBefore, Heard, soundTable}
-use Rattle.phones.specs.VowelSounds.{vowelCodes, VowelAt, Sung, sungCodes}
+use Rattle.consonants.specs.Following.{Following, followingEnd, stepped, putBefore, voicesOver, followingBy}
+use Rattle.consonants.specs.Sounds.{consonantCode, Tells, codeBefore, Heard, soundTable}
+use Rattle.vowels.specs.VowelSounds.{vowelCodes, VowelAt, Sung, sungCodes}
 use Rattle.transcriber.specs.{Fused.letterCodes, declared.Right.Right}
 use Rattle.stress.specs.{Places.leftAt, Places.syllableAt, declared.LevelRun.LevelRun}
 use Rattle.transcriber.specs.Places.{tapeAt, followingAt, codesAt}
 use Rattle.transcriber.specs.Walk.{Stands, begunOf, pieceAt, Ready, ReadyFor, Stepped}
 use Rattle.stress.specs.Levels.{countedBy, numbered, endRun, stepOver, StepDue, LookDue, Looked}
-use Rattle.phones.specs.declared.Vowel.{Vowel}
+use Rattle.vowels.specs.declared.Vowel.{Vowel}
 use Rattle.stress.proofs.Levelling.{levels-found, levels-due, levels-over, break-due, levels-break, levels-end, levels-turn}
 use Rattle.stress.proofs.Left.{left-last}
-use Rattle.phones.proofs.SoundTable.{code-read}
+use Rattle.consonants.proofs.SoundTable.{code-read}
 use Rattle.transcriber.proofs.Tail.{tape-letter, tape-mark, tape-break}
 use Rattle.transcriber.proofs.Tail.{following-letter, following-mark, following-break, following-end}
 

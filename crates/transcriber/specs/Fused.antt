@@ -9,9 +9,9 @@ use Rattle.spec.specs.Letters.{Letter, firstByte, isSign, isVowel}
 use Rattle.spec.specs.Elision.{elides}
 use Rattle.spec.specs.Syllables.{Facts, syllableOf}
 use Rattle.spec.specs.Phones.{softens}
-use Rattle.phones.specs.VowelSounds.{vowelCodes}
-use Rattle.phones.specs.Following.{Following, following}
-use Rattle.phones.specs.Sounds.{consonantCode}
+use Rattle.vowels.specs.VowelSounds.{vowelCodes}
+use Rattle.consonants.specs.Following.{Following, following}
+use Rattle.consonants.specs.Sounds.{consonantCode}
 
 -- the codes of the letter l after p and before w, whose sounds are told by f
 unfoldable pub letterCodes : Bool → Facts → ℕ → Letter → List Letter → Following → List ℕ

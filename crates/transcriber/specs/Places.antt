@@ -13,7 +13,7 @@ use Rattle.spec.specs.Voicing.{voices}
 use Rattle.spec.specs.Tape.{segment}
 use Rattle.letters.specs.Places.{wordAt, letterOf}
 use Rattle.stress.specs.Places.{Left, leftAt, factsAt}
-use Rattle.phones.specs.Following.{Following, following}
+use Rattle.consonants.specs.Following.{Following, following}
 use Rattle.transcriber.specs.Fused.{letterCodes, fusedFrom}
 
 -- the codes of the rest of a word, w, and of what follows it, after the letters of the left context

@@ -14,7 +14,7 @@ use Rattle.letters.specs.Filling.{MayStep, DidStep}
 use Rattle.letters.specs.Classes.{classes, classOf, isBreakClass}
 use Rattle.transcriber.specs.Places.{followingAt, codesAt}
 use Rattle.stress.specs.Levels.{stepOver, turnOf, LevelsAt}
-use Rattle.phones.specs.Sounds.{soundTable, Tells}
+use Rattle.consonants.specs.Sounds.{soundTable, Tells}
 use Rattle.stress.specs.declared.LevelRun.{LevelRun}
 use Rattle.transcriber.specs.declared.Right.{Right}
 

@@ -2,10 +2,10 @@
 // written lays them out once and lends them; what they hold is the transcriber's own affair.
 ghost use Rattle.transcriber.specs.Walk.{Lent};
 use crate::LentTables;
+use consonants::tables;
+use consonants::tables::sound_table;
 use letters::classes::ClassTable;
 use letters::classify::class_table;
-use phones::tables;
-use phones::tables::sound_table;
 
 pub type ByteTable = ClassTable;
 

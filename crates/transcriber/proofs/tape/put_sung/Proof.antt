@@ -2,7 +2,7 @@
 use Rattle.laws.proofs.Kit.{_<_, List, ℕ, [], _∷_, arith, length, needs}
 use Rattle.spec.specs.Codes.{J}
 use Rattle.laws.proofs.Classes.{cond-both}
-use Rattle.phones.specs.{VowelSounds.sungCodes, declared.Vowel.Vowel}
+use Rattle.vowels.specs.{VowelSounds.sungCodes, declared.Vowel.Vowel}
 use Rattle.laws.proofs.Putting.{put-over, put-length}
 use Rattle.transcriber.proofs.tape.put_sung.Statement.{statement}
 use Rattle.transcriber.proofs.tape.put_sung.Tie as tie

@@ -1,5 +1,0 @@
-pub mod Boundaries
-pub mod Following
-pub mod Keys
-pub mod SoundTable
-pub mod VowelSounds
