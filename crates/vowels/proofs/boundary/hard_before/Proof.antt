@@ -1,5 +1,5 @@
 -- Behind a gap the place is not the first, and the two bytes before the gap tell the end of the word.
-use Rattle.laws.proofs.Kit.{ℕ, _-_, _<_, _≡_, Bool, List, arith, needs, ne-eqb}
+use Rattle.laws.proofs.Kit.{ℕ, _-_, _<_, _≡_, Bool, false, List, arith, needs, ne-eqb}
 use Rattle.spec.specs.{Alphabet.pause, Letters.small, Vowels.hardEnd}
 use Rattle.letters.specs.Classes.{gapClass, byteBefore}
 use Rattle.stress.specs.Before.{classBefore}
@@ -15,17 +15,21 @@ at-gap : (m : List ℕ) (i : ℕ) {k p q : ℕ} {r : Bool} → k ≡ classBefore
 unfolding hardBefore
 at-gap m i e g f h x = rw (← e, g, ← f, ← h) x
 
+-- where no gap stands before there is no boundary
+no-gap : (m : List ℕ) (i : ℕ) {k : ℕ} → k ≡ classBefore m i → (k ≡ gapClass → ⊥) → false ≡ hardBefore m i
+unfolding hardBefore
+no-gap m i e n = rw (← e, ne-eqb _ gapClass n)
+
 -- before the second place no byte stands but one
 only-one : (m : List ℕ) (i : ℕ) → i < 2 → pause ≡ byteBefore m (i - 2)
 unfolding byteBefore
 only-one m i h = let e : i - 2 ≡ 0 = omega arith in rw e
 
 pub hard-before-spec : {M : Type 1} → statement M
-unfolding hardBefore
 hard-before-spec =
     tie.close
     (tie.spec
-    (λ c. rw (← c .before .before .pre .class, ne-eqb _ _ (c .if1 .taken)))
+    (λ c. let s = c .before .before in no-gap (s .args .m .now) (s .args .i) (s .pre .class) (c .if1 .taken))
     (λ c. let s = c .before .before in past-start (s .args .m .now) (s .args .i) (s .pre .class) (λ e. omega arith))
     (λ c κs. search needs)
     (search needs)
