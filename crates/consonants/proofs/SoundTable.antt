@@ -2,7 +2,7 @@
 use Rattle.laws.proofs.Kit.{ℕ, _+_, _*_, _%_, _<_, _≤_, _≡_, refl, true, cond, not, List, [], _∷_}
 use Rattle.laws.proofs.Kit.{arith, eqb, leb, getD, eqb-true, leb-true}
 use Rattle.laws.proofs.Classes.{below-same, where-same, pairs-same}
-use Rattle.spec.specs.{Letters.small, Letters.isConsonant, Refusals.consonantByte, Codes.isSound}
+use Rattle.spec.specs.{Letters.small, Letters.isConsonant, Refusals.consonantByte, Codes.isSoundCode, Codes.isSound}
 use Rattle.letters.proofs.Computed.{everything}
 use Rattle.consonants.specs.Following.{followingEnd, stepped, isVoiced, voicesOver, followingBy}
 use Rattle.consonants.specs.Sounds.{consonantCode, codeBefore, Heard, alike, rowIn, softRow, soundRow}
@@ -10,7 +10,7 @@ use Rattle.consonants.specs.Sounds.{codeRow, firstRows, soundTable}
 
 -- every definition of the table
 unfoldable pub table : Unit {0}
-unfolding everything isSound followingEnd stepped followingBy consonantCode alike rowIn softRow soundRow codeRow firstRows soundTable
+unfolding everything isSoundCode followingEnd stepped followingBy consonantCode alike rowIn softRow soundRow codeRow firstRows soundTable
 table = tt
 
 -- the rows of sounds that act alike; the table has four more

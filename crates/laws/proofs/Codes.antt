@@ -5,7 +5,7 @@ use Rattle.laws.proofs.Kit.{and-eq-true-iff, and-true, or-false, true�
 use Rattle.laws.proofs.Kit.{length-take, length-drop, take-length, getD-take, getD-drop, not-false}
 use Rattle.spec.specs.Letters.{Letter, Message, last, more, read, putLetter, hardOnly, paired, softOnly, plainVowels, softeningVowels}
 use Rattle.spec.specs.Letters.{obstruents, isGap, isBreak, isMark, isPaired, isConsonant, isSign, isVowel, isObstruent}
-use Rattle.spec.specs.Codes.{J, markOf, isMarkCode, isSound, isCode}
+use Rattle.spec.specs.Codes.{J, markOf, isMarkCode, isSoundCode, isSound, isCode}
 use Rattle.spec.specs.Syllables.{Facts, factsOf, syllableOf, nameIn, nameOf, isName, incomplete, namesFrom}
 use Rattle.spec.specs.Vowels.{vowelSound, endsHard}
 use Rattle.spec.specs.Phones.{Phone, writtenCode, phonesFrom}
@@ -83,7 +83,7 @@ vowel-fine b c v h = simp (vowel-single b v, vowel-quiet b v, and-true) h
 
 -- pass 3: a vowel has a sound, whatever stands around it
 vowel-plain : (hard : Bool) (p : ℕ) (s : Syllable) (b : ℕ) → isVowel b ≡ true → plain (vowelSound hard p s b) ≡ true
-unfolding everything isSound
+unfolding everything isSoundCode
 vowel-plain hard p s b h =
     alike (s .level) refl ∙ among-same (λ x. plain (vowelSound false 0 marked x)) (λ _. true) (plainVowels ++ softeningVowels) b refl h
   where
@@ -101,12 +101,12 @@ vowel-sound hard p s b h = and-eq-true-iff (isSound (vowelSound hard p s b)) _ .
 
 -- a consonant's sound as written
 written-fine : (b : ℕ) → isConsonant b ≡ true → fine b (writtenCode b) ≡ true
-unfolding everything isSound fine both
+unfolding everything isSoundCode fine both
 written-fine b h = among-same (λ x. fine x (writtenCode x)) (λ _. true) (hardOnly ++ paired ++ softOnly) b refl h
 
 -- pass 3, over a word: a letter of the alphabet is a sign, a vowel or a consonant
 phones-fine : (hard : Bool) (facts : Facts) (p : ℕ) (w : List Letter) → Spelled w → Fine (phonesFrom hard facts p w)
-unfolding phonesFrom spells isSound
+unfolding phonesFrom spells isSoundCode
 phones-fine hard facts p [] s = tt
 phones-fine hard facts p (l ∷ w) s =
     let r = phones-fine false facts (l .byte) w (s .1) in
@@ -120,7 +120,7 @@ word-fine hard w s = phones-fine hard (factsOf w) 0 (elideFrom 0 w) (elide-spell
 
 -- pass 4: an obstruent's sound before any other
 toned-sound : (tone : Tone) (b c : ℕ) → isObstruent b ≡ true → both isSound b c ≡ true → both isSound b (toned tone b c) ≡ true
-unfolding everything isSound both
+unfolding everything isSoundCode both
 toned-sound voiced b c h f = among-same (λ x. both isSound x (voicedCode x)) (λ _. true) obstruents b refl h
 toned-sound voiceless b c h f = among-same (λ x. both isSound x (voicelessCode x)) (λ _. true) obstruents b refl h
 toned-sound asWritten b c h f = f
@@ -168,7 +168,7 @@ part-spells m p a n =
 
 -- a sound is no mark of a break, so sounds have no mark among them
 sounds-unmarked : (s : List ℕ) → Each isSound s → marksOf s ≡ []
-unfolding marksOf isMarkCode isSound among
+unfolding marksOf isMarkCode isSoundCode among
 sounds-unmarked [] h = refl
 sounds-unmarked (c ∷ s) h =
     rw (refuted (isMarkCode c) (λ q. true≢false (sym (h .0) ∙ among-same isSound (λ _. false) (0 ∷ 63 ∷ []) c refl (simp or-false q)))) (sounds-unmarked s (h .1))
@@ -228,7 +228,7 @@ unbroken (b ∷ p) n = rw (n 0 (omega arith)) (unbroken p (λ i l. n (suc i) (om
 
 -- a break's mark is a code
 mark-code : (x : ℕ) → isCode (markOf x) ≡ true
-unfolding isCode isSound isMarkCode
+unfolding isCode isSoundCode isMarkCode
 mark-code x = mark-both (λ c. isCode c ≡ true) x refl refl
 
 segment-codes : (h n : Bool) (r : Message) → Spells r → Each isCode (segment h n r)

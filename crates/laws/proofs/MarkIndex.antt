@@ -2,7 +2,7 @@
 -- as its own, and since each code of a word is a sound the last mark before that of a place is that of the last break before it.
 use Rattle.laws.proofs.Kit.{ℕ, suc, _+_, _-_, _<_, _≤_, _≡_, refl, sym, ap, _∙_, Bool, true, false, not, _&&_, and-eq-true-iff, true≢false, _⊎_, ⊎-elim, List, [], _∷_, _++_, append-nil, arith, leb, length, take, drop, getD, length-append, length-drop, List·getD-append, List·getD-eq-default, take-all, getD-append-add, leb-true, le-leb}
 use Rattle.spec.specs.Letters.{between, read, firstByte, isGap, isBreak}
-use Rattle.spec.specs.Codes.{А*, Щ, markOf, isSound}
+use Rattle.spec.specs.Codes.{А*, Щ, markOf, isSoundCode, isSound}
 use Rattle.spec.specs.{Tape.segment, Tape.sounds, Refusals.checkOf, Joints.markIndex, Joints.wordBefore, Joints.wordAfter, declared.Counts.Counts, declared.Checked.the-variants.Accepted}
 use Rattle.laws.proofs.Codes.{Each, part-spells, read-marks, segment-sounds, unbroken, each-at}
 use Rattle.laws.proofs.Parts.{last-at, onward-cut, part-own, tape-cut, mark-index, mark-there, code-after, onward-alone}
@@ -83,7 +83,7 @@ inside front s rest j h lo hi =
 
 -- a sound is one of 1 to 56
 pub sound-range : (c : ℕ) → isSound c ≡ true → (1 ≤ c) × (c ≤ 56)
-unfolding isSound
+unfolding isSoundCode
 sound-range c s = either (between 1 13 c)
     (λ q. let a = and-eq-true-iff (leb 1 c) (leb c 13) .0 q in (leb-true 1 c (a .0), omega (arith, leb-true c 13 (a .1))))
     (λ q. let a = and-eq-true-iff (leb 16 c) (leb c 56) .0 (rw q at s) in (omega (arith, leb-true 16 c (a .0)), leb-true c 56 (a .1)))

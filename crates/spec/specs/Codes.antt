@@ -185,13 +185,17 @@ markOf b = cond (eqb b pause) 63 0
 unfoldable pub isMarkCode : ℕ → Bool
 isMarkCode c = eqb c 0 || eqb c 63
 
--- the sounds that arise: О and Е, 14 and 15, never do yet
-unfoldable pub isSound : ℕ → Bool
-isSound c = between А* Э2 c || between Б Щ c
+-- the codes of the sounds that arise: О and Е, 14 and 15, never do yet
+unfoldable pub isSoundCode : ℕ → Bool
+isSoundCode c = between А* Э2 c || between Б Щ c
+
+-- what the passes make of a word: each sound is its code
+abbrev pub isSound : ℕ → Bool
+isSound c = isSoundCode c
 
 -- what can stand on a tape
 unfoldable pub isCode : ℕ → Bool
-isCode c = isSound c || isMarkCode c
+isCode c = isSoundCode c || isMarkCode c
 
 -- in the code list a palatalized sound stands right after its hard one
 abbrev pub palatalized : ℕ → ℕ

@@ -1,7 +1,7 @@
 -- The walk from the right, one byte at a time: what a break, a mark and a letter put on the tape, and what then stands right of their place.
 use Rattle.laws.proofs.Kit.{ℕ, suc, _+_, _%_, _<_, _≤_, arith, _≡_, refl, sym, ap, _∙_, Bool, true, false, cond, _&&_, not, true≢false, List, [], _∷_, _++_, map, eqb, length, getD, le-leb, lt-leb, ne-eqb}
 use Rattle.spec.specs.Letters.{small, firstByte, isBreak, isGap, isMark}
-use Rattle.spec.specs.Codes.{J, markOf, isSound}
+use Rattle.spec.specs.Codes.{J, markOf, isSoundCode, isSound}
 use Rattle.spec.specs.{Phones.softens, Refusals.vowelByte, Refusals.signByte, Refusals.consonantByte, declared.Level.Level}
 use Rattle.letters.specs.Classes.{classes, classOf, isBreakClass, isSignClass, isConsonantClass, isVowelClass, isSofteningClass, elidedAt}
 use Rattle.letters.specs.Classes.{pauseClass}
@@ -269,7 +269,7 @@ module _ {m out : List ℕ} {i c : ℕ} {r : Right} (a : ReadyFor isVowelClass m
 
     -- their first is what stands right of the letter before
     first-tells : (soft : Bool) (f : Following) → Tells (cond (v .glide) J (v .sound) + cond soft 64 0) soft (putBefore (sungCodes v) f)
-    unfolding vowelByte isSound
+    unfolding vowelByte isSoundCode
     first-tells soft f = by (v .glide)
       where
         by : (g : Bool) → Tells (cond g J (v .sound) + cond soft 64 0) soft (putBefore (cond g (J ∷ v .sound ∷ []) (v .sound ∷ [])) f)
