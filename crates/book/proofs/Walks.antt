@@ -1,18 +1,18 @@
 -- The walk over a book, place by place: what is read at a place of the bytes is what stands at the start of the bytes from there on.
 use Rattle.laws.proofs.Kit.{ℕ, suc, _+_, _*_, _<_, _≤_, _≡_, refl, sym, ap, _∙_, true, false, ⊎-elim, cond, _&&_, and-true, List, [], _∷_, add-one, arith, eqb, leb, length, drop, length-append, getD, getD-drop, length-drop, length-take-le, take-all, drop-of-length-le, drop-drop, le-leb, lt-leb, eqb-true, eqb-false, ne-eqb, eq-eqb}
-use Rattle.spec.specs.Book.{Phrase, recordOf, records, headSize, recordMark, pairAt, numberIn, lengthIn, spanIn, phraseIn, hasRecordMark}
+use Rattle.spec.specs.Book.{Phrase, bookStorage, recordOf, records, headSize, recordMark, pairAt, numberIn, lengthIn, spanIn, phraseIn, hasRecordMark}
 use Rattle.spec.specs.Book.{isWhole, isRecord, row15, row16, Bytes, bookIn, Reading, holds, unsound, _then_, readFrom, readBook, Search}
 use Rattle.spec.specs.Book.{none, entry, search, recordAt, startOf, heard, placed, locateAnswer, unheard, leastAfter, afterBook, RisingFrom}
 use Rattle.spec.specs.{Listeners.mayHear, Listeners.withheld, declared.Listener.Listener, declared.Located.Located, Tables.same, Refusals.refusal, declared.Refusal.Refusal, declared.Answer.Answer, declared.Answer.the-variants.Refused}
 use Rattle.spec.specs.declared.Located.the-variants as located
 use Rattle.laws.proofs.{Classes.either, Classes.refuted, Classes.below-or, Book.Stands, Book.record-stands, Book.stands-15, Book.read-15}
 use Rattle.laws.proofs.{Book.read-16, Book.read-record, Book.Judged, Book.isSound, Book.isRefused, Book.judge, Book.record-size}
-use Rattle.laws.proofs.{Book.written-reads, Lookup.found-stands, Lookup.record-there, Lookup.tape-inside}
+use Rattle.laws.proofs.{Book.written-reads, Lookup.found-stands, Lookup.record-there, Lookup.stored-inside, Lookup.tape-plain}
 use Rattle.book.specs.Walking.{EndOf, walkedOf, noted, PlaceIn, toldAt}
 use Rattle.book.specs.{declared.Seen.Seen, declared.Walked.Walked, declared.Walked.the-variants.Sound, declared.Walked.the-variants.Unsound}
 
 -- the two bytes of the mark
-mark-bytes : (x : List ℕ) → hasRecordMark x ≡ (eqb (getD x 0 0) 82 && eqb (getD x 1 0) 159)
+mark-bytes : (x : List ℕ) → hasRecordMark bookStorage x ≡ (eqb (getD x 0 0) 82 && eqb (getD x 1 0) 159)
 unfolding hasRecordMark recordMark same
 mark-bytes [] = refl
 mark-bytes (a ∷ []) = refl
@@ -25,7 +25,7 @@ mark-number a b h = either (eqb a 82)
     (λ q. rw (p, q) (ne-eqb (a + b * 256) 40786 (λ e. eqb-false b 159 q (omega (arith, e, h))))))
     (λ p. rw p (ne-eqb (a + b * 256) 40786 (λ e. eqb-false a 82 p (omega (arith, e, h)))))
 
-pub mark-at : (x : List ℕ) (i : ℕ) → Bytes x → eqb (pairAt i x) 40786 ≡ hasRecordMark (drop i x)
+pub mark-at : (x : List ℕ) (i : ℕ) → Bytes x → eqb (pairAt i x) 40786 ≡ hasRecordMark bookStorage (drop i x)
 unfolding pairAt
 mark-at x i b =
     let z : i + 0 ≡ i = omega arith in
@@ -37,14 +37,14 @@ unfolding pairAt
 pair-behind x i k = let e : i + suc k ≡ suc (i + k) = omega arith in rw (getD-drop i x k 0, getD-drop i x (suc k) 0, e) refl
 
 -- no record stands where its head or its tape is cut short
-pub no-record : (x : List ℕ) → (Stands x → ⊥) → isRecord x ≡ false
-no-record x h = refuted (isRecord x) (λ q. h (record-stands x q))
+pub no-record : (x : List ℕ) → (Stands bookStorage x → ⊥) → isRecord bookStorage x ≡ false
+no-record x h = refuted (isRecord bookStorage x) (λ q. h (record-stands bookStorage x q))
 
 -- and behind a head with its mark its end tells
-pub record-by-end : (x : List ℕ) (i : ℕ) → hasRecordMark (drop i x) ≡ true → i + headSize ≤ length x → leb (i + spanIn (drop i x)) (length x) ≡ isRecord (drop i x)
+pub record-by-end : (x : List ℕ) (i : ℕ) → hasRecordMark bookStorage (drop i x) ≡ true → i + headSize ≤ length x → leb (i + spanIn bookStorage (drop i x)) (length x) ≡ isRecord bookStorage (drop i x)
 unfolding isRecord isWhole
 record-by-end x i m h =
-    let s = spanIn (drop i x) in
+    let s = spanIn bookStorage (drop i x) in
     let l = length-drop i x in
     rw (m, le-leb headSize (length (drop i x)) (omega (arith, l, h)))
     (⊎-elim (λ q. rw (lt-leb (i + s) (length x) q, lt-leb s (length (drop i x)) (omega (arith, l, q, h))) refl)
@@ -62,7 +62,7 @@ end-all buffer used r l m h = record { inside = m; book = take-all r buffer l �
 -- what is seen with the phrases from place i on, after what was seen before them, and what the walk comes to with them
 abbrev notedAll : Seen → ℕ → ℕ → List Phrase → Seen
 notedAll s n i [] = s
-notedAll s n i (f ∷ fs) = notedAll (noted s n (f .number) i) n (i + length (recordOf f)) fs
+notedAll s n i (f ∷ fs) = notedAll (noted s n (f .number) i) n (i + length (recordOf bookStorage f)) fs
 
 abbrev pub soundWith : Seen → Walked
 soundWith s = Sound (s .least) (s .place)
@@ -71,28 +71,28 @@ abbrev pub resumed : Seen → ℕ → ℕ → Reading → Walked
 resumed s n i (holds fs) = soundWith (notedAll s n i fs)
 resumed s n i (unsound r) = Unsound r
 
-resumed-then : (s : Seen) (n i : ℕ) (f : Phrase) (r : Reading) → resumed s n i (f then r) ≡ resumed (noted s n (f .number) i) n (i + length (recordOf f)) r
+resumed-then : (s : Seen) (n i : ℕ) (f : Phrase) (r : Reading) → resumed s n i (f then r) ≡ resumed (noted s n (f .number) i) n (i + length (recordOf bookStorage f)) r
 unfolding _then_
 resumed-then s n i f (holds fs) = refl
 resumed-then s n i f (unsound r) = refl
 
 -- Numbers rise, so above the number wanted nothing is found any more,
-noted-above : (n k i : ℕ) (s : Seen) (fs : List Phrase) → RisingFrom k fs → n < k → notedAll s n i fs ≡ record { least = leastAfter (s .least) fs; place = s .place }
+noted-above : (n k i : ℕ) (s : Seen) (fs : List Phrase) → RisingFrom bookStorage k fs → n < k → notedAll s n i fs ≡ record { least = leastAfter (s .least) fs; place = s .place }
 unfolding leastAfter
 noted-above n k i s [] r h = refl
 noted-above n k i s (f ∷ fs) r h =
     let e = ne-eqb (f .number) n (omega (arith, h, r .1)) in
-    rw (e, add-one (f .number)) (noted-above n (suc (f .number)) (i + length (recordOf f)) (record { least = suc (f .number); place = s .place }) fs (r .2) (omega (arith, h, r .1)))
+    rw (e, add-one (f .number)) (noted-above n (suc (f .number)) (i + length (recordOf bookStorage f)) (record { least = suc (f .number); place = s .place }) fs (r .2) (omega (arith, h, r .1)))
 
 -- and the walk, which begins with the book's end for the place, finds where the record wanted begins.
-noted-found : (n k i : ℕ) (s : Seen) (fs : List Phrase) → RisingFrom k fs → s .place ≡ i + length (records fs) → notedAll s n i fs ≡ record { least = leastAfter (s .least) fs; place = i + recordAt fs n }
+noted-found : (n k i : ℕ) (s : Seen) (fs : List Phrase) → RisingFrom bookStorage k fs → s .place ≡ i + length (records bookStorage fs) → notedAll s n i fs ≡ record { least = leastAfter (s .least) fs; place = i + recordAt bookStorage fs n }
 unfolding leastAfter recordAt records
 noted-found n k i s [] r h = rw (← h) refl
 noted-found n k i s (f ∷ fs) r h =
-    let j = i + length (recordOf f) in
+    let j = i + length (recordOf bookStorage f) in
     let z : i + 0 ≡ i = omega arith in
-    let here : i + (length (recordOf f) + recordAt fs n) ≡ j + recordAt fs n = omega arith in
-    let end : s .place ≡ j + length (records fs) = omega (arith, h, length-append (recordOf f) (records fs)) in
+    let here : i + (length (recordOf bookStorage f) + recordAt bookStorage fs n) ≡ j + recordAt bookStorage fs n = omega arith in
+    let end : s .place ≡ j + length (records bookStorage fs) = omega (arith, h, length-append (recordOf bookStorage f) (records bookStorage fs)) in
     either (eqb (f .number) n)
     (λ q. rw (q, z, add-one (f .number)) (noted-above n (suc (f .number)) j (record { least = suc (f .number); place = i }) fs (r .2) (omega (arith, eqb-true (f .number) n q))))
     (λ q. rw (q, here, add-one (f .number)) (noted-found n (suc (f .number)) j (record { least = suc (f .number); place = s .place }) fs (r .2) end))
@@ -101,18 +101,18 @@ noted-found n k i s (f ∷ fs) r h =
 pub record Going (book : List ℕ) (n i : ℕ) (s : Seen) : Type 0 where
   pub inside : i ≤ length book
   pub bytes : Bytes book
-  pub rest : walkedOf (readBook book) n ≡ resumed s n i (readFrom 0 i (s .least) (drop i book))
+  pub rest : walkedOf (readBook bookStorage book) n ≡ resumed s n i (readFrom bookStorage 0 i (s .least) (drop i book))
 
 pub going-start : (book : List ℕ) (n : ℕ) → Bytes book → Going book n 0 (record { least = 0; place = length book })
 unfolding walkedOf readBook
-going-start book n b = record { inside = omega arith; bytes = b; rest = of (judge book b) } where
-  of : Judged book → walkedOf (readBook book) n ≡ resumed (record { least = 0; place = length book }) n 0 (readBook book)
+going-start book n b = record { inside = omega arith; bytes = b; rest = of (judge bookStorage book b) } where
+  of : Judged bookStorage book → walkedOf (readBook bookStorage book) n ≡ resumed (record { least = 0; place = length book }) n 0 (readBook bookStorage book)
   of (isSound fs s e) =
-      let z : 0 + recordAt fs n ≡ recordAt fs n = omega arith in
+      let z : 0 + recordAt bookStorage fs n ≡ recordAt bookStorage fs n = omega arith in
       rw e (ap soundWith (sym (rw z at (noted-found n 0 0 (record { least = 0; place = length book }) fs (s .rising) (omega (arith, ap length (s .bytes)))))))
   of (isRefused k p range d e) = rw e refl
 
-pub going-all : {book : List ℕ} {n i : ℕ} {s : Seen} → Going book n i s → length book ≤ i → soundWith s ≡ walkedOf (readBook book) n
+pub going-all : {book : List ℕ} {n i : ℕ} {s : Seen} → Going book n i s → length book ≤ i → soundWith s ≡ walkedOf (readBook bookStorage book) n
 unfolding readFrom
 going-all {book} {n} {i} {s} g h = sym (rw (drop-of-length-le book h) at (g .rest))
 
@@ -121,30 +121,30 @@ module _ {book : List ℕ} {n i : ℕ} {s : Seen} (g : Going book n i s) where
   abbrev x : List ℕ
   x = drop i book
 
-  pub going-15 : i < length book → isRecord x ≡ false → Unsound (refusal 15 i) ≡ walkedOf (readBook book) n
+  pub going-15 : i < length book → isRecord bookStorage x ≡ false → Unsound (refusal 15 i) ≡ walkedOf (readBook bookStorage book) n
   unfolding row15
-  going-15 more h = sym (rw (read-15 i (s .least) x (omega (arith, length-drop i book, more)) (rw h refl)) at (g .rest))
+  going-15 more h = sym (rw (read-15 bookStorage i (s .least) x (omega (arith, length-drop i book, more)) (rw h refl)) at (g .rest))
 
-  module _ (there : Stands x) {number : ℕ} (e : number ≡ numberIn x) where
+  module _ (there : Stands bookStorage x) {number : ℕ} (e : number ≡ numberIn x) where
     left : 0 < length x
     left = omega (arith, there .head)
 
-    pub going-16 : number < s .least → Unsound (refusal 16 i) ≡ walkedOf (readBook book) n
+    pub going-16 : number < s .least → Unsound (refusal 16 i) ≡ walkedOf (readBook bookStorage book) n
     unfolding row16
     going-16 l =
         let k : row16 (s .least) x ≡ true = rw (← e, lt-leb (s .least) number l) refl in
-        sym (rw (read-16 i (s .least) x left (stands-15 there) k) at (g .rest))
+        sym (rw (read-16 bookStorage i (s .least) x left (stands-15 bookStorage there) k) at (g .rest))
 
-    pub going-more : {j : ℕ} {q : Seen} → j ≡ i + spanIn x → s .least ≤ number → q ≡ noted s n number i → Going book n j q
+    pub going-more : {j : ℕ} {q : Seen} → j ≡ i + spanIn bookStorage x → s .least ≤ number → q ≡ noted s n number i → Going book n j q
     unfolding row16 phraseIn
     going-more {j} {q} b l t =
         let k : row16 (s .least) x ≡ false = rw (← e, le-leb (s .least) number l) refl in
         let w = there .whole in
-        let z : length (recordOf (phraseIn x)) ≡ spanIn x = record-size (phraseIn x) ∙ ap (headSize +_) (length-take-le (lengthIn x) (drop headSize x) (omega (arith, w, length-drop headSize x))) in
+        let z : length (recordOf bookStorage (phraseIn bookStorage x)) ≡ spanIn bookStorage x = record-size bookStorage (phraseIn bookStorage x) ∙ ap (headSize +_) (length-take-le (bookStorage .size (lengthIn x)) (drop headSize x) (omega (arith, w, length-drop headSize x))) in
         record {
           inside = omega (arith, w, b, length-drop i book);
           bytes = g .bytes;
-          rest = g .rest ∙ ap (resumed s n i) (read-record i (s .least) x left (stands-15 there) k) ∙ resumed-then s n i (phraseIn x) _ ∙ rw (t, e, b, z, add-one (numberIn x), drop-drop (spanIn x) i book) refl;
+          rest = g .rest ∙ ap (resumed s n i) (read-record bookStorage i (s .least) x left (stands-15 bookStorage there) k) ∙ resumed-then s n i (phraseIn bookStorage x) _ ∙ rw (t, e, b, z, add-one (numberIn x), drop-drop (spanIn bookStorage x) i book) refl;
         }
 
 -- What the walk over a book that is not sound tells, for lookups and additions,
@@ -160,34 +160,37 @@ walked-sound (holds fs) n bookEnd a {least} h = let e : least ≡ leastAfter 0 f
 walked-sound (unsound x) n bookEnd a h = absurd (let z : _≡_ {A = ℕ} 0 1 = cc in omega (arith, z))
 
 -- and for a lookup: the record there, or the book's end, tells a listener what he must be told.
-none-at : (n : ℕ) (fs : List Phrase) → search fs n ≡ none → recordAt fs n ≡ length (records fs)
+none-at : (n : ℕ) (fs : List Phrase) → search fs n ≡ none → recordAt bookStorage fs n ≡ length (records bookStorage fs)
 unfolding search recordAt records
 none-at n [] h = refl
 none-at n (f ∷ fs) h = either (eqb (f .number) n) (λ q. absurd (let u = rw q at h in let z : _≡_ {A = ℕ} 0 1 = cc in omega (arith, z)))
-    (λ q. rw q (ap (length (recordOf f) +_) (none-at n fs (rw q at h)) ∙ sym (length-append (recordOf f) (records fs))))
+    (λ q. rw q (ap (length (recordOf bookStorage f) +_) (none-at n fs (rw q at h)) ∙ sym (length-append (recordOf bookStorage f) (records bookStorage fs))))
 
-module _ (l : Listener) (book : List ℕ) (n : ℕ) (b : Bytes book) {least place : ℕ} (walked : walkedOf (readBook book) n ≡ Sound least place) where
+module _ (l : Listener) (book : List ℕ) (n : ℕ) (b : Bytes book) {least place : ℕ} (walked : walkedOf (readBook bookStorage book) n ≡ Sound least place) where
   abbrev Told : ℕ → Located → Type 0
   Told i due = PlaceIn book i × (toldAt l book i ≡ due)
 
-  told-search : (fs : List Phrase) → RisingFrom 0 fs → book ≡ records fs → (q : Search) → search fs n ≡ q → Told (recordAt fs n) (placed (startOf fs n) (heard l q))
+  told-search : (fs : List Phrase) → RisingFrom bookStorage 0 fs → book ≡ records bookStorage fs → (q : Search) → search fs n ≡ q → Told (recordAt bookStorage fs n) (placed (startOf fs n) (heard bookStorage l q))
   unfolding placed heard
   told-search fs r e none h =
-      let z : length book ≤ recordAt fs n = omega (arith, ap length e, none-at n fs h) in
-      (λ more. absurd (omega (arith, z, more)), rw (le-leb (length book) (recordAt fs n) z) refl)
+      let z : length book ≤ recordAt bookStorage fs n = omega (arith, ap length e, none-at n fs h) in
+      (λ more. absurd (omega (arith, z, more)), rw (le-leb (length book) (recordAt bookStorage fs n) z) refl)
   told-search fs r e (entry g) h =
-      let w = found-stands 0 n g fs r h in
-      let d = rw (← e) at (record-there w) in
-      let f = written-reads g (w .behind) (w .fits) in
-      let z : recordAt fs n + headSize + length (g .codes) ≤ length book = omega (arith, tape-inside w, ap length e) in
-      (λ more. omega (arith, z), rw (lt-leb (length book) (recordAt fs n) (omega (arith, z)), d, f .set, f .length) (either (mayHear l (g .set)) (λ m. rw m refl) (λ m. rw m refl)))
+      let w = found-stands bookStorage 0 n g fs r h in
+      let d = rw (← e) at (record-there bookStorage w) in
+      let f = written-reads bookStorage g (w .behind) (w .fits) in
+      let z : recordAt bookStorage fs n + headSize + length (g .stored) ≤ length book = omega (arith, stored-inside bookStorage w, ap length e) in (
+        λ more. omega (arith, z),
+        rw (lt-leb (length book) (recordAt bookStorage fs n) (omega (arith, z)), d, f .set, f .count, tape-plain (w .fits))
+            (either (mayHear l (g .set)) (λ m. rw (m, w .fits .stored) refl) (λ m. rw m refl)),
+      )
 
-  pub told-walked : Told place (locateAnswer l (readBook book) n)
+  pub told-walked : Told place (locateAnswer l (readBook bookStorage book) n)
   unfolding walkedOf locateAnswer
-  told-walked = of (judge book b) where
-    of : Judged book → Told place (locateAnswer l (readBook book) n)
+  told-walked = of (judge bookStorage book b) where
+    of : Judged bookStorage book → Told place (locateAnswer l (readBook bookStorage book) n)
     of (isSound fs g e) =
         let w = rw e at walked in
-        let z : place ≡ recordAt fs n = (cc) in
+        let z : place ≡ recordAt bookStorage fs n = (cc) in
         rw (e, z) (told-search fs (g .rising) (g .bytes) (search fs n) refl)
     of (isRefused k p range d e) = absurd (let w = rw e at walked in let z : _≡_ {A = ℕ} 0 1 = cc in omega (arith, z))

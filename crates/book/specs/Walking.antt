@@ -6,7 +6,7 @@ use mathlib.Core.Bool.{cond}
 use mathlib.Core.List.{List}
 use lib.Dec.{eqb, leb}
 use lib.ListN.{length, take, drop}
-use Rattle.spec.specs.Book.{headSize, setIn, lengthIn, Reading, holds, unsound, bookIn, recordAt, leastAfter}
+use Rattle.spec.specs.Book.{bookStorage, headSize, setIn, lengthIn, Reading, holds, unsound, bookIn, recordAt, leastAfter}
 use Rattle.spec.specs.Listeners.{mayHear, withheld}
 use Rattle.spec.specs.Tape.{tape}
 use Rattle.spec.specs.Refusals.{checkOf}
@@ -26,7 +26,7 @@ pub record EndOf (buffer : List ℕ) (used r : ℕ) : Type 0 where
 
 -- what the walk over a book comes to: the least number that may be added, and where the record of number n begins, the book's end where there is none
 unfoldable pub walkedOf : Reading → ℕ → Walked
-walkedOf (holds fs) n = Sound (leastAfter 0 fs) (recordAt fs n)
+walkedOf (holds fs) n = Sound (leastAfter 0 fs) (recordAt bookStorage fs n)
 walkedOf (unsound r) n = Unsound r
 
 -- what was seen before a record, and is seen with it: it has this number, and begins at this place

@@ -1,7 +1,7 @@
 // Additions (paper 02, requests 6 and 7).
 ghost use mathlib.Core.Path.{_≡_};
 ghost use lib.ListN.{length};
-ghost use Rattle.spec.specs.Book.{readBook, afterBook, phraseOf, recordOf, AddPromise};
+ghost use Rattle.spec.specs.Book.{bookStorage, readBook, afterBook, phraseOf, recordOf, AddPromise};
 ghost use Rattle.laws.specs.Putting.{Put};
 ghost use Rattle.book.specs.Walking.{RecordDue};
 use crate::Walked;
@@ -22,7 +22,7 @@ use transcriber::tape::write_tape;
 
 // The book's refusals of an addition under a number: 15 and 16 of its records, and 16 at its end where the number is not above the last. Where none is due it answers a writing of nothing.
 fn judge(book: &[u8], number: usize) -> Answer
-    ensures { λ r. ⌜ r ≡ afterBook (readBook (now (book .entry))) number (length (now (book .entry))) (Answer.Written 0 0) ⌝ }
+    ensures { λ r. ⌜ r ≡ afterBook (readBook bookStorage (now (book .entry))) number (length (now (book .entry))) (Answer.Written 0 0) ⌝ }
 {
     match walk(book, number) {
         Walked::Sound { least, place: _ } => {
@@ -41,7 +41,7 @@ fn judge(book: &[u8], number: usize) -> Answer
 // Writes the record of an accepted message, whose tape has n codes, from place i on, and tells where it ends. The tape is put straight to its place, right before that end.
 fn write_record(m: &[u8], out: &mut [u8], i: usize, number: usize, set: u8, n: usize) -> usize
     requires { ⌜ RecordDue (now m) (now out) i number n ⌝ }
-    ensures { λ r. ⌜ Put (recordOf (phraseOf
+    ensures { λ r. ⌜ Put (recordOf bookStorage (phraseOf bookStorage
         (record { number = number; set = set; message = now (m .entry) })))
         (now (out .entry)) (now (out .exit)) r i ⌝ }
 {
@@ -53,7 +53,7 @@ fn write_record(m: &[u8], out: &mut [u8], i: usize, number: usize, set: u8, n: u
 
 // Dispatch's addition: puts the record behind the book and answers the new used count, or refuses and leaves every byte.
 fn append(buffer: &mut [u8], used: usize, number: u16, set: u8, m: &[u8]) -> Answer
-    ensures { λ r. ⌜ AddPromise Listener.Dispatch (now (buffer .entry)) used
+    ensures { λ r. ⌜ AddPromise bookStorage Listener.Dispatch (now (buffer .entry)) used
         (record { number = number; set = set; message = now (m .entry) }) (now (buffer .exit)) r ⌝ }
 {
     let checked = check(m);
@@ -86,7 +86,7 @@ pub fn add(
     set: u8,
     m: &[u8],
 ) -> Answer
-    ensures { λ r. ⌜ AddPromise listener (now (buffer .entry)) used
+    ensures { λ r. ⌜ AddPromise bookStorage listener (now (buffer .entry)) used
         (record { number = number; set = set; message = now (m .entry) }) (now (buffer .exit)) r ⌝ }
 {
     match listener {

@@ -1,6 +1,6 @@
 // Lookups (paper 02, requests 6 and 7).
 ghost use mathlib.Core.Path.{_≡_};
-ghost use Rattle.spec.specs.Book.{readBook, bookIn, locateAnswer, unheard, standsAfter, FindPromise, LocatePromise};
+ghost use Rattle.spec.specs.Book.{bookStorage, readBook, bookIn, locateAnswer, unheard, standsAfter, FindPromise, LocatePromise};
 ghost use Rattle.book.specs.Walking.{PlaceIn, toldAt};
 use crate::Walked;
 use crate::listeners::may_hear;
@@ -45,7 +45,7 @@ pub fn locate(listener: Listener, buffer: &[u8], used: usize, wanted: u16) -> Lo
 
 // Why someone who is no listener is turned away: the book is not sound, or nothing in it is for him.
 pub fn refuse(buffer: &[u8], used: usize) -> Refusal
-    ensures { λ r. ⌜ r ≡ unheard (readBook (bookIn (now (buffer .entry)) used)) ⌝ }
+    ensures { λ r. ⌜ r ≡ unheard (readBook bookStorage (bookIn (now (buffer .entry)) used)) ⌝ }
 {
     let end = book_end(buffer, used);
     match walk(&buffer[..end], 0) {
@@ -62,8 +62,8 @@ pub fn find<'a>(
     wanted: u16,
     tape: &mut &'a [u8],
 ) -> Found
-    ensures { λ r. ⌜ FindPromise listener (now (buffer .entry)) used wanted (now (now (tape .entry))) (now (now (tape .exit))) r ⌝ }
-    ensures { λ _. ⌜ now (tape .exit) .ptr ≡ standsAfter (locateAnswer listener (readBook (bookIn (now (buffer .entry)) used)) wanted) (buffer .entry .ptr) (now (tape .entry) .ptr) ⌝ }
+    ensures { λ r. ⌜ FindPromise bookStorage listener (now (buffer .entry)) used wanted (now (now (tape .entry))) (now (now (tape .exit))) r ⌝ }
+    ensures { λ _. ⌜ now (tape .exit) .ptr ≡ standsAfter (locateAnswer listener (readBook bookStorage (bookIn (now (buffer .entry)) used)) wanted) (buffer .entry .ptr) (now (tape .entry) .ptr) ⌝ }
 {
     match locate(listener, buffer, used, wanted) {
         Located::At { start, length } => {

@@ -1,7 +1,7 @@
 // One walk over a whole book, for lookups and additions.
 ghost use mathlib.Core.Path.{_≡_};
 ghost use Prim.Native.Nat.{_<_};
-ghost use Rattle.spec.specs.Book.{readBook};
+ghost use Rattle.spec.specs.Book.{bookStorage, readBook};
 ghost use Rattle.book.specs.Walking.{noted, walkedOf, EndOf};
 use crate::Seen;
 use crate::Walked;
@@ -39,7 +39,7 @@ fn note(s: Seen, wanted: usize, number: usize, place: usize) -> Seen
 
 // Goes through the book record by record to its end, also where the number wanted is found before.
 pub fn walk(book: &[u8], wanted: usize) -> Walked
-    ensures { λ r. ⌜ r ≡ walkedOf (readBook (now (book .entry))) wanted ⌝ }
+    ensures { λ r. ⌜ r ≡ walkedOf (readBook bookStorage (now (book .entry))) wanted ⌝ }
 {
     let mut i = 0;
     let mut s = Seen {

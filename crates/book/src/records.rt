@@ -3,7 +3,7 @@ ghost use mathlib.Core.Path.{_≡_};
 ghost use mathlib.Core.List.{[], _∷_};
 ghost use Prim.Native.Nat.{_+_, _<_, _≤_};
 ghost use lib.ListN.{length, drop};
-ghost use Rattle.spec.specs.Book.{headSize, pairAt, spanIn, hasRecordMark, isRecord, twoBytes, headOf};
+ghost use Rattle.spec.specs.Book.{bookStorage, headSize, pairAt, spanIn, hasRecordMark, isRecord, twoBytes, headOf};
 ghost use Rattle.laws.specs.Putting.{Put};
 ghost use Rattle.book.specs.Walking.{HeadDue};
 use spec::numbers::RECORD_MARK;
@@ -28,7 +28,7 @@ pub fn pair_at(x: &[u8], i: usize) -> usize
 // Does the mark of a record stand at place i?
 fn is_marked(x: &[u8], i: usize) -> bool
     requires { ⌜ i + 1 < length (now x) ⌝ }
-    ensures { λ r. ⌜ r ≡ hasRecordMark (drop i (now (x .entry))) ⌝ }
+    ensures { λ r. ⌜ r ≡ hasRecordMark bookStorage (drop i (now (x .entry))) ⌝ }
 {
     pair_at(x, i) == RECORD_MARK
 }
@@ -36,7 +36,7 @@ fn is_marked(x: &[u8], i: usize) -> bool
 // Where the record at place i ends by its head.
 pub fn record_end(x: &[u8], i: usize) -> usize
     requires { ⌜ i + headSize ≤ length (now x) ⌝ }
-    ensures { λ r. ⌜ r ≡ i + spanIn (drop i (now (x .entry))) ⌝ }
+    ensures { λ r. ⌜ r ≡ i + spanIn bookStorage (drop i (now (x .entry))) ⌝ }
 {
     i + HEAD_SIZE + pair_at(x, i + LENGTH)
 }
@@ -44,7 +44,7 @@ pub fn record_end(x: &[u8], i: usize) -> usize
 // Does a record stand at place i, with its mark, its head and its whole tape?
 pub fn is_record(x: &[u8], i: usize) -> bool
     requires { ⌜ i ≤ length (now x) ⌝ }
-    ensures { λ r. ⌜ r ≡ isRecord (drop i (now (x .entry))) ⌝ }
+    ensures { λ r. ⌜ r ≡ isRecord bookStorage (drop i (now (x .entry))) ⌝ }
 {
     if x.len() < i + HEAD_SIZE {
         return false;
@@ -77,7 +77,7 @@ fn put_pair(out: &mut [u8], i: usize, n: usize) -> usize
 // Puts the head of a record from place i on: for a number, a set of listeners, and a tape of n codes.
 pub fn put_head(out: &mut [u8], i: usize, number: usize, set: u8, n: usize) -> usize
     requires { ⌜ HeadDue (now out) i number n ⌝ }
-    ensures { λ r. ⌜ Put (headOf number set n) (now (out .entry)) (now (out .exit)) r i ⌝ }
+    ensures { λ r. ⌜ Put (headOf bookStorage number set n) (now (out .entry)) (now (out .exit)) r i ⌝ }
 {
     let number_place = put_pair(out, i, RECORD_MARK);
     let set_place = put_pair(out, number_place, number);

@@ -1,6 +1,6 @@
 -- The law of silence in C: a listener hears the same in both books, so he is told the same but for its place; and who is no listener gets 17 from every sound book.
 use Rattle.laws.proofs.Kit.{ℕ, _≡_, refl, sym, _∙_, List, take, drop}
-use Rattle.spec.specs.Book.{bookIn, Heard, nothing, aloud, tapeAfter, placed, locateAnswer, partAt, unheard, LocatePromise}
+use Rattle.spec.specs.Book.{bookStorage, bookIn, Heard, nothing, aloud, tapeAfter, placed, locateAnswer, partAt, unheard, LocatePromise}
 use Rattle.spec.specs.{Answers.Carried, BookDemands.AgreeFor, declared.Listener.Listener, declared.Located.Located, declared.Located.the-variants.At, declared.Located.the-variants.Refused}
 use Rattle.laws.proofs.{Book.sound-read, Lookup.heard-same}
 use Rattle.capi.specs.Said.{SaidFound, numberFound, placeFound, isFound, startFound, lengthFound, named, FindsFor, AgreeIn, SaidAlike, SilenceInC}
@@ -31,14 +31,14 @@ said-alike {buffer} {buffer₂} {a} {a₂} e b s s₂ = record {
 }
 
 -- A listener hears the same in both.
-located-same : {l : Listener} {buffer buffer₂ : List ℕ} {used used₂ n : ℕ} {a a₂ : Located} → AgreeFor l (bookIn buffer used) (bookIn buffer₂ used₂)
+located-same : {l : Listener} {buffer buffer₂ : List ℕ} {used used₂ n : ℕ} {a a₂ : Located} → AgreeFor bookStorage l (bookIn buffer used) (bookIn buffer₂ used₂)
     → LocatePromise l buffer used n a → LocatePromise l buffer₂ used₂ n a₂ → Same a a₂ × (partAt a buffer ≡ partAt a₂ buffer₂)
 unfolding locateAnswer tapeAfter
 located-same {l} {n = n} g k k₂ =
     let b = g .both in
-    let e = sound-read (b .sound) in
-    let e₂ = sound-read (b .sound₂) in
-    let h = heard-same l n (b .phrases) (b .phrases₂) (b .sound .rising) (b .sound₂ .rising) (g .same n) in
+    let e = sound-read bookStorage (b .sound) in
+    let e₂ = sound-read bookStorage (b .sound₂) in
+    let h = heard-same bookStorage l n (b .phrases) (b .phrases₂) (b .sound .rising) (b .sound₂ .rising) (g .same n) in
     (rw (k .answer, k₂ .answer, e, e₂, h) (placed-same _ _ _), k .tape ∙ rw (e, e₂, h) refl ∙ sym (k₂ .tape))
 
 -- So what is said is the same but for the start; and who is no listener gets 17 from both.
@@ -49,6 +49,6 @@ silence-in-c listener buffer used buffer₂ used₂ = of (named listener) where
       → Carried (FindsFor who buffer used n) SaidFound r → Carried (FindsFor who buffer₂ used₂ n) SaidFound r₂ → SaidAlike buffer buffer₂ r r₂
   of (Known l) g n r r₂ k k₂ = let w = located-same g (k .promise) (k₂ .promise) in said-alike (w .0) (w .1) (k .said) (k₂ .said)
   of Other g n r r₂ k k₂ =
-      let e = rw (sound-read (g .sound)) at (k .promise) in
-      let e₂ = rw (sound-read (g .sound₂)) at (k₂ .promise) in
+      let e = rw (sound-read bookStorage (g .sound)) at (k .promise) in
+      let e₂ = rw (sound-read bookStorage (g .sound₂)) at (k₂ .promise) in
       said-alike (rw (e, e₂) (refl, refl, refl, refl)) (rw (e, e₂) refl) (k .said) (k₂ .said)

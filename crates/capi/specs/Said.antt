@@ -8,9 +8,9 @@ use lib.Dec.{eqb}
 use lib.ListN.{take, drop}
 use Rattle.spec.specs.Answers.{numberOf, placeOf, lengthOf, liveOf, checkedNumber, checkedPlace, checkedCodes, checkedNames, Promise, Carried}
 use Rattle.spec.specs.Listeners.{withheld}
-use Rattle.spec.specs.Book.{Phrase, readBook, bookIn, unheard, LocatePromise}
+use Rattle.spec.specs.Book.{Phrase, bookStorage, readBook, bookIn, unheard, LocatePromise}
 use Rattle.spec.specs.Book.{NewPhrase, phraseOf, AddPromise}
-use Rattle.spec.specs.BookDemands.{HoldsJust, BothSound, AgreeFor}
+use Rattle.spec.specs.BookDemands.{HoldsLocated, BothSound, AgreeFor}
 use Rattle.spec.specs.declared.Listener.the-variants.{Pump, Road, Dispatch}
 use Rattle.spec.specs.declared.Answer.{Answer}
 use Rattle.spec.specs.declared.Answer.the-variants as answer
@@ -89,11 +89,11 @@ named n =
 -- A lookup by him. Who is no listener may hear nothing.
 abbrev pub FindsFor : Named → List ℕ → ℕ → ℕ → Located → Type 0
 FindsFor (Known l) buffer used n r = LocatePromise l buffer used n r
-FindsFor Other buffer used n r = r ≡ Refused (unheard (readBook (bookIn buffer used)))
+FindsFor Other buffer used n r = r ≡ Refused (unheard (readBook bookStorage (bookIn buffer used)))
 
 -- An addition by him. Who is no listener may add nothing, and meets 17 with every byte left.
 abbrev pub AddsFor : Named → List ℕ → ℕ → NewPhrase → List ℕ → Answer → Type 0
-AddsFor (Known l) buffer used x buffer′ r = AddPromise l buffer used x buffer′ r
+AddsFor (Known l) buffer used x buffer′ r = AddPromise bookStorage l buffer used x buffer′ r
 AddsFor Other buffer used x buffer′ r = Promise (answer.Refused withheld) [] buffer buffer′ r
 
 -- Request 6, the list of additions in C. One call of govorun_book_add: whom the caller names and
@@ -138,18 +138,18 @@ countAfterAll used (c ∷ more) = countAfterAll (countAfter c used) more
 abbrev pub acceptedCalls : List Call → List Phrase
 acceptedCalls [] = []
 acceptedCalls (c ∷ more) =
-    cond (isAccepted c) (phraseOf (c .phrase) ∷ acceptedCalls more) (acceptedCalls more)
+    cond (isAccepted c) (phraseOf bookStorage (c .phrase) ∷ acceptedCalls more) (acceptedCalls more)
 
 -- After every list of calls to an empty book, whoever calls and whatever stood in the buffer, it
 -- holds just the tapes of the accepted, under their numbers and with their sets, in order.
 abbrev pub AdditionsInC : List ℕ → List Call → Type 0
 AdditionsInC buffer calls = CallByCall buffer 0 calls
-    → HoldsJust (bufferAfterAll buffer calls) (countAfterAll 0 calls) (acceptedCalls calls)
+    → HoldsLocated (bufferAfterAll buffer calls) (countAfterAll 0 calls) (acceptedCalls calls)
 
 -- Slip 7, the law of silence in C. Two sound books agree in what the one who is named may hear; where he is no listener, it is enough that both are sound.
 abbrev pub AgreeIn : Named → List ℕ → List ℕ → Type 0
-AgreeIn (Known l) book book₂ = AgreeFor l book book₂
-AgreeIn Other book book₂ = BothSound book book₂
+AgreeIn (Known l) book book₂ = AgreeFor bookStorage l book book₂
+AgreeIn Other book book₂ = BothSound bookStorage book book₂
 
 -- Then what is said to him of a number is the same, but for the start, and so are the bytes that it tells of.
 pub record SaidAlike (buffer buffer₂ : List ℕ) (r r₂ : GovorunFound) : Type 0 where

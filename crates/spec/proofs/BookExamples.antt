@@ -10,8 +10,8 @@ use Rattle.spec.specs.Refusals.{refusal}
 use Rattle.spec.specs.Answers.{outputAfter}
 use Rattle.spec.specs.SpokenLevels.{bytes}
 use Rattle.spec.specs.Listeners.{mayHear}
-use Rattle.spec.specs.Book.{Phrase, records, Reading, holds, unsound, readBook, bookIn, findAnswer, tapeAfter, locateAnswer}
-use Rattle.spec.specs.Book.{NewPhrase, withAddition, addAnswer}
+use Rattle.spec.specs.Book.{Phrase, bookStorage, records, Reading, holds, unsound, readBook, bookIn, findAnswer, tapeAfter}
+use Rattle.spec.specs.Book.{NewPhrase, withAddition, addAnswer, locateAnswer}
 use Rattle.spec.specs.declared.Answer.{Answer}
 use Rattle.spec.specs.declared.Answer.the-variants as answer
 use Rattle.spec.specs.declared.Found.{Found}
@@ -33,7 +33,7 @@ unfolding everything
 sets-right = refl
 
 abbrev phrase : ℕ → ℕ → List ℕ → Phrase
-phrase n set t = record { number = n; set = set; codes = t }
+phrase n set t = record { number = n; set = set; count = length t; stored = bookStorage .store t }
 
 -- two records: number 1 for pump crews and dispatch, with the tape of дуб, and 770, which is 3 * 256 + 2, for road crews, with a tape of one code; its set has bits 3 to 7, too
 unfoldable pub first : List ℕ
@@ -45,7 +45,7 @@ second = 82 ∷ 159 ∷ 2 ∷ 3 ∷ 250 ∷ 1 ∷ 0 ∷ 1 ∷ []
 unfoldable pub phrases : List Phrase
 phrases = phrase 1 5 (24 ∷ 6 ∷ 39 ∷ []) ∷ phrase 770 250 (1 ∷ []) ∷ []
 
-pub records-right : records phrases ≡ first ++ second
+pub records-right : records bookStorage phrases ≡ first ++ second
 unfolding everything phrases first second
 records-right = refl
 
@@ -78,7 +78,7 @@ examples =
     (record { book = first ++ first ++ (82 ∷ []); reading = unsound (refusal 16 10) }) ∷
     (record { book = first ++ (0 ∷ first); reading = unsound (refusal 15 10) }) ∷ []
 
-pub readings-right : map (λ (e : Example). readBook (e .book)) examples ≡ map (λ (e : Example). e .reading) examples
+pub readings-right : map (λ (e : Example). readBook bookStorage (e .book)) examples ≡ map (λ (e : Example). e .reading) examples
 unfolding everything examples phrases first second
 readings-right = refl
 
@@ -120,13 +120,13 @@ lookups =
     refusedAt Road (first ++ first) 20 1 16 10 ∷ []
 
 abbrev readingOf : Lookup → Reading
-readingOf l = readBook (bookIn (l .buffer) (l .used))
+readingOf l = readBook bookStorage (bookIn (l .buffer) (l .used))
 
-pub told-right : map (λ (l : Lookup). findAnswer (l .listener) (readingOf l) (l .number)) lookups ≡ map (λ (l : Lookup). l .told) lookups
+pub told-right : map (λ (l : Lookup). findAnswer bookStorage (l .listener) (readingOf l) (l .number)) lookups ≡ map (λ (l : Lookup). l .told) lookups
 unfolding everything lookups first second
 told-right = refl
 
-pub tapes-right : map (λ (l : Lookup). tapeAfter (l .listener) (readingOf l) (l .number) (9 ∷ [])) lookups ≡ map (λ (l : Lookup). l .tape) lookups
+pub tapes-right : map (λ (l : Lookup). tapeAfter bookStorage (l .listener) (readingOf l) (l .number) (9 ∷ [])) lookups ≡ map (λ (l : Lookup). l .tape) lookups
 unfolding everything lookups first second
 tapes-right = refl
 
@@ -176,14 +176,14 @@ abbrev asks : Added → NewPhrase
 asks a = record { number = a .number; set = a .set; message = bytes (a .message) }
 
 abbrev answerOf : Added → Answer
-answerOf a = addAnswer (a .listener) (bookIn (a .buffer) (a .used)) (asks a) (length (a .buffer))
+answerOf a = addAnswer bookStorage (a .listener) (bookIn (a .buffer) (a .used)) (asks a) (length (a .buffer))
 
 pub answers-right : map answerOf additions ≡ map (λ (a : Added). a .answer) additions
 unfolding everything additions first second
 answers-right = refl
 
 abbrev bufferOf : Added → List ℕ
-bufferOf a = outputAfter (answerOf a) (withAddition (bookIn (a .buffer) (a .used)) (asks a)) (a .buffer)
+bufferOf a = outputAfter (answerOf a) (withAddition bookStorage (bookIn (a .buffer) (a .used)) (asks a)) (a .buffer)
 
 pub buffers-right : map bufferOf additions ≡ map (λ (a : Added). a .after) additions
 unfolding everything additions first second

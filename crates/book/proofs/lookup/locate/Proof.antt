@@ -1,6 +1,6 @@
 -- The walk over the book tells where the tape stands.
 use Rattle.laws.proofs.Kit.{_≡_, sym, _∙_, arith, length-take-le, needs}
-use Rattle.spec.specs.{Book.readBook, Book.bookIn, Book.locateAnswer, declared.Answer.the-variants.Written}
+use Rattle.spec.specs.{Book.bookStorage, Book.readBook, Book.bookIn, Book.locateAnswer, declared.Answer.the-variants.Written}
 use Rattle.spec.specs.Book.{Bytes}
 use Rattle.laws.proofs.{Book.bytes-in, Lookup.locate-promised}
 use Rattle.book.specs.{Walking.walkedOf, Walking.PlaceIn, Walking.toldAt}
@@ -9,7 +9,7 @@ use Rattle.book.proofs.lookup.locate.Statement.{statement}
 use Rattle.book.proofs.lookup.locate.Tie as tie
 
 -- what was walked over is the book
-walked : (c : tie.After-walk) → let s = c .before .before .before .before in c .walk .result ≡ walkedOf (readBook (bookIn (s .args .buffer .now) (s .args .used))) (s .args .wanted)
+walked : (c : tie.After-walk) → let s = c .before .before .before .before in c .walk .result ≡ walkedOf (readBook bookStorage (bookIn (s .args .buffer .now) (s .args .used))) (s .args .wanted)
 walked c = let b = c .before .before in rw (← b .book-end .ensures .book) (c .walk .ensures)
 
 -- in a buffer of bytes
@@ -19,7 +19,7 @@ known c j = omega (arith, c .before .before .before .shared-slice-known .given j
 -- and what it comes to tells the listener what he must be told
 told : (c : tie.After-place) → let s = c .before .before .before .before .before .before in
     let book = bookIn (s .args .buffer .now) (s .args .used) in
-    PlaceIn book (c .place .given .0 .1 .0) × (toldAt (s .args .listener) book (c .place .given .0 .1 .0) ≡ locateAnswer (s .args .listener) (readBook book) (s .args .wanted))
+    PlaceIn book (c .place .given .0 .1 .0) × (toldAt (s .args .listener) book (c .place .given .0 .1 .0) ≡ locateAnswer (s .args .listener) (readBook bookStorage book) (s .args .wanted))
 told c =
     let w = c .before .before in
     let s = w .before .before .before .before in

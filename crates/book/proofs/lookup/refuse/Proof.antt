@@ -1,12 +1,12 @@
 -- The walk tells whether the book is sound.
 use Rattle.laws.proofs.Kit.{_≡_, sym, _∙_, length-take-le, needs}
-use Rattle.spec.specs.{Book.readBook, Book.bookIn, declared.Listener.the-variants.Dispatch, declared.Answer.the-variants.Written}
+use Rattle.spec.specs.{Book.bookStorage, Book.readBook, Book.bookIn, declared.Listener.the-variants.Dispatch, declared.Answer.the-variants.Written}
 use Rattle.book.specs.{Walking.walkedOf}
 use Rattle.book.proofs.Walks.{walked-sound, walked-unsound}
 use Rattle.book.proofs.lookup.refuse.Statement.{statement}
 use Rattle.book.proofs.lookup.refuse.Tie as tie
 
-walked : (c : tie.After-walk) → let s = c .before .before .before .before in walkedOf (readBook (bookIn (s .args .buffer .now) (s .args .used))) 0 ≡ c .walk .result
+walked : (c : tie.After-walk) → let s = c .before .before .before .before in walkedOf (readBook bookStorage (bookIn (s .args .buffer .now) (s .args .used))) 0 ≡ c .walk .result
 walked c = let b = c .before .before in rw (← b .book-end .ensures .book) (sym (c .walk .ensures))
 
 pub refuse-spec : {M : Type 1} → statement M

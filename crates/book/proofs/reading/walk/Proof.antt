@@ -1,6 +1,6 @@
 -- At each place what is left to read makes of what was told what is due.
 use Rattle.laws.proofs.Kit.{_+_, _-_, _≤_, _≡_, sym, _∙_, arith, length, drop, length-drop}
-use Rattle.spec.specs.Book.{numberPlace, numberIn, spanIn}
+use Rattle.spec.specs.Book.{bookStorage, numberPlace, numberIn, spanIn}
 use Rattle.laws.proofs.Book.{Stands, record-stands}
 use Rattle.book.proofs.Walks.{pair-behind, Going, going-start, going-15, going-16, going-more, going-all}
 use Rattle.book.proofs.reading.walk.Statement.{statement}
@@ -13,11 +13,11 @@ abbrev μ-loop : tie.MeasureT-loop
 μ-loop book wanted i₀ s₀ i s = length book - i
 
 -- a record stands at the place,
-there : (c : tie.Then1 Inv-loop μ-loop) → let l = c .before .before in Stands (drop (l .loop .i) (l .before .before .args .book .now))
-there c = record-stands _ (sym (c .before .is-record .ensures) ∙ c .if1 .taken)
+there : (c : tie.Then1 Inv-loop μ-loop) → let l = c .before .before in Stands bookStorage (drop (l .loop .i) (l .before .before .args .book .now))
+there c = record-stands bookStorage _ (sym (c .before .is-record .ensures) ∙ c .if1 .taken)
 
 -- within the book,
-inside : (c : tie.Then1 Inv-loop μ-loop) → let l = c .before .before in l .loop .i + spanIn (drop (l .loop .i) (l .before .before .args .book .now)) ≤ length (l .before .before .args .book .now)
+inside : (c : tie.Then1 Inv-loop μ-loop) → let l = c .before .before in l .loop .i + spanIn bookStorage (drop (l .loop .i) (l .before .before .args .book .now)) ≤ length (l .before .before .args .book .now)
 inside c =
     let l = c .before .before in
     omega (arith, l .loop .inv .inside, there c .whole, length-drop (l .loop .i) (l .before .before .args .book .now))
