@@ -1,9 +1,13 @@
--- What dispatch's addition answers where the check does not refuse: the book's refusal, then number 11, and else the record stands behind the book.
-use Rattle.laws.proofs.Kit.{ℕ, _+_, _<_, _≤_, _≡_, refl, sym, ap, _∙_, arith, List, append-assoc, leb, length, take, drop, length-append, length-take-le}
-use Rattle.spec.specs.Book.{bookStorage, headSize, recordOf, Reading, holds, unsound, readBook, bookIn, leastAfter, afterListener, afterBook, NewPhrase}
-use Rattle.spec.specs.Book.{phraseOf, withAddition, addAnswer, AddPromise}
+-- What dispatch's addition answers where the check does not refuse: the book's refusal, then number 11, and else the record stands behind
+-- the book.
+use Rattle.laws.proofs.Kit.{ℕ, _+_, _<_, _≤_, _≡_, refl, sym, ap, _∙_, arith, List, append-assoc, leb, length, take, drop, length-append}
+use Rattle.laws.proofs.Kit.{length-take-le}
+use Rattle.spec.specs.Book.{bookStorage, headSize, recordOf, Reading, holds, unsound, readBook, bookIn, leastAfter, afterListener}
+use Rattle.spec.specs.Book.{afterBook, NewPhrase, phraseOf, withAddition, addAnswer, AddPromise}
 use Rattle.spec.specs.Answers.{afterCheck, outputAfter}
-use Rattle.spec.specs.{declared.Listener.the-variants.Dispatch, Refusals.refusal, Refusals.checkOf, declared.Refusal.Refusal, declared.Counts.Counts, declared.Checked.the-variants.Accepted, declared.Answer.Answer, declared.Answer.the-variants.Written, declared.Answer.the-variants.Refused}
+use Rattle.spec.specs.{declared.Listener.the-variants.Dispatch, Refusals.refusal, Refusals.checkOf, declared.Refusal.Refusal}
+use Rattle.spec.specs.{declared.Counts.Counts, declared.Checked.the-variants.Accepted, declared.Answer.Answer}
+use Rattle.spec.specs.{declared.Answer.the-variants.Written, declared.Answer.the-variants.Refused}
 use Rattle.laws.proofs.{Classes.either, Accepted.accepted-counts, Book.record-size, Promises.promised, Promises.promised-short}
 use Rattle.laws.proofs.Promises.{promised-written}
 use Rattle.laws.specs.Putting.{Put}

@@ -1,15 +1,20 @@
 -- The walk over a book, place by place: what is read at a place of the bytes is what stands at the start of the bytes from there on.
-use Rattle.laws.proofs.Kit.{ℕ, suc, _+_, _*_, _<_, _≤_, _≡_, refl, sym, ap, _∙_, true, false, ⊎-elim, cond, _&&_, and-true, List, [], _∷_, add-one, arith, eqb, leb, length, drop, length-append, getD, getD-drop, length-drop, length-take-le, take-all, drop-of-length-le, drop-drop, le-leb, lt-leb, eqb-true, eqb-false, ne-eqb, eq-eqb}
-use Rattle.spec.specs.Book.{Phrase, bookStorage, recordOf, records, headSize, recordMark, pairAt, numberIn, lengthIn, spanIn, phraseIn, hasRecordMark}
-use Rattle.spec.specs.Book.{isWhole, isRecord, row15, row16, Bytes, bookIn, Reading, holds, unsound, _then_, readFrom, readBook, Search}
+use Rattle.laws.proofs.Kit.{ℕ, suc, _+_, _*_, _<_, _≤_, _≡_, refl, sym, ap, _∙_, true, false, ⊎-elim, cond, _&&_, and-true, List, [], _∷_}
+use Rattle.laws.proofs.Kit.{add-one, arith, eqb, leb, length, drop, length-append, getD, getD-drop, length-drop, length-take-le, take-all}
+use Rattle.laws.proofs.Kit.{drop-of-length-le, drop-drop, le-leb, lt-leb, eqb-true, eqb-false, ne-eqb, eq-eqb}
+use Rattle.spec.specs.Book.{Phrase, bookStorage, recordOf, records, headSize, recordMark, pairAt, numberIn, lengthIn, spanIn, phraseIn}
+use Rattle.spec.specs.Book.{hasRecordMark, isWhole, isRecord, row15, row16, Bytes, bookIn, Reading, holds, unsound, _then_, readFrom}
+use Rattle.spec.specs.Book.{readBook, Search}
 use Rattle.spec.specs.Book.{none, entry, search, recordAt, startOf, heard, placed, locateAnswer, unheard, leastAfter, afterBook, RisingFrom}
-use Rattle.spec.specs.{Listeners.mayHear, Listeners.withheld, declared.Listener.Listener, declared.Located.Located, Tables.same, Refusals.refusal, declared.Refusal.Refusal, declared.Answer.Answer, declared.Answer.the-variants.Refused}
+use Rattle.spec.specs.{Listeners.mayHear, Listeners.withheld, declared.Listener.Listener, declared.Located.Located, Tables.same}
+use Rattle.spec.specs.{Refusals.refusal, declared.Refusal.Refusal, declared.Answer.Answer, declared.Answer.the-variants.Refused}
 use Rattle.spec.specs.declared.Located.the-variants as located
 use Rattle.laws.proofs.{Classes.either, Classes.refuted, Classes.below-or, Book.Stands, Book.record-stands, Book.stands-15, Book.read-15}
 use Rattle.laws.proofs.{Book.read-16, Book.read-record, Book.Judged, Book.isSound, Book.isRefused, Book.judge, Book.record-size}
 use Rattle.laws.proofs.{Book.written-reads, Lookup.found-stands, Lookup.record-there, Lookup.stored-inside, Lookup.tape-plain}
 use Rattle.book.specs.Walking.{EndOf, walkedOf, noted, PlaceIn, toldAt}
-use Rattle.book.specs.{declared.Seen.Seen, declared.Walked.Walked, declared.Walked.the-variants.Sound, declared.Walked.the-variants.Unsound}
+use Rattle.book.specs.{declared.Seen.Seen, declared.Walked.Walked}
+use Rattle.book.specs.declared.Walked.the-variants.{Sound, Unsound}
 
 -- the two bytes of the mark
 mark-bytes : (x : List ℕ) → hasRecordMark bookStorage x ≡ (eqb (getD x 0 0) 82 && eqb (getD x 1 0) 159)
@@ -41,7 +46,8 @@ pub no-record : (x : List ℕ) → (Stands bookStorage x → ⊥) → isRecord b
 no-record x h = refuted (isRecord bookStorage x) (λ q. h (record-stands bookStorage x q))
 
 -- and behind a head with its mark its end tells
-pub record-by-end : (x : List ℕ) (i : ℕ) → hasRecordMark bookStorage (drop i x) ≡ true → i + headSize ≤ length x → leb (i + spanIn bookStorage (drop i x)) (length x) ≡ isRecord bookStorage (drop i x)
+pub record-by-end : (x : List ℕ) (i : ℕ) → hasRecordMark bookStorage (drop i x) ≡ true → i + headSize ≤ length x
+    → leb (i + spanIn bookStorage (drop i x)) (length x) ≡ isRecord bookStorage (drop i x)
 unfolding isRecord isWhole
 record-by-end x i m h =
     let s = spanIn bookStorage (drop i x) in
@@ -71,31 +77,39 @@ abbrev pub resumed : Seen → ℕ → ℕ → Reading → Walked
 resumed s n i (holds fs) = soundWith (notedAll s n i fs)
 resumed s n i (unsound r) = Unsound r
 
-resumed-then : (s : Seen) (n i : ℕ) (f : Phrase) (r : Reading) → resumed s n i (f then r) ≡ resumed (noted s n (f .number) i) n (i + length (recordOf bookStorage f)) r
+resumed-then : (s : Seen) (n i : ℕ) (f : Phrase) (r : Reading)
+    → resumed s n i (f then r) ≡ resumed (noted s n (f .number) i) n (i + length (recordOf bookStorage f)) r
 unfolding _then_
 resumed-then s n i f (holds fs) = refl
 resumed-then s n i f (unsound r) = refl
 
 -- Numbers rise, so above the number wanted nothing is found any more,
-noted-above : (n k i : ℕ) (s : Seen) (fs : List Phrase) → RisingFrom bookStorage k fs → n < k → notedAll s n i fs ≡ record { least = leastAfter (s .least) fs; place = s .place }
+noted-above : (n k i : ℕ) (s : Seen) (fs : List Phrase) → RisingFrom bookStorage k fs → n < k
+    → notedAll s n i fs ≡ record { least = leastAfter (s .least) fs; place = s .place }
 unfolding leastAfter
 noted-above n k i s [] r h = refl
 noted-above n k i s (f ∷ fs) r h =
     let e = ne-eqb (f .number) n (omega (arith, h, r .1)) in
-    rw (e, add-one (f .number)) (noted-above n (suc (f .number)) (i + length (recordOf bookStorage f)) (record { least = suc (f .number); place = s .place }) fs (r .2) (omega (arith, h, r .1)))
+    let j = i + length (recordOf bookStorage f) in
+    rw (e, add-one (f .number))
+    (noted-above n (suc (f .number)) j (record { least = suc (f .number); place = s .place }) fs (r .2) (omega (arith, h, r .1)))
 
 -- and the walk, which begins with the book's end for the place, finds where the record wanted begins.
-noted-found : (n k i : ℕ) (s : Seen) (fs : List Phrase) → RisingFrom bookStorage k fs → s .place ≡ i + length (records bookStorage fs) → notedAll s n i fs ≡ record { least = leastAfter (s .least) fs; place = i + recordAt bookStorage fs n }
+noted-found : (n k i : ℕ) (s : Seen) (fs : List Phrase) → RisingFrom bookStorage k fs → s .place ≡ i + length (records bookStorage fs)
+    → notedAll s n i fs ≡ record { least = leastAfter (s .least) fs; place = i + recordAt bookStorage fs n }
 unfolding leastAfter recordAt records
 noted-found n k i s [] r h = rw (← h) refl
 noted-found n k i s (f ∷ fs) r h =
     let j = i + length (recordOf bookStorage f) in
     let z : i + 0 ≡ i = omega arith in
     let here : i + (length (recordOf bookStorage f) + recordAt bookStorage fs n) ≡ j + recordAt bookStorage fs n = omega arith in
-    let end : s .place ≡ j + length (records bookStorage fs) = omega (arith, h, length-append (recordOf bookStorage f) (records bookStorage fs)) in
+    let all = length-append (recordOf bookStorage f) (records bookStorage fs) in
+    let end : s .place ≡ j + length (records bookStorage fs) = omega (arith, h, all) in
     either (eqb (f .number) n)
-    (λ q. rw (q, z, add-one (f .number)) (noted-above n (suc (f .number)) j (record { least = suc (f .number); place = i }) fs (r .2) (omega (arith, eqb-true (f .number) n q))))
-    (λ q. rw (q, here, add-one (f .number)) (noted-found n (suc (f .number)) j (record { least = suc (f .number); place = s .place }) fs (r .2) end))
+    (λ q. rw (q, z, add-one (f .number))
+    (noted-above n (suc (f .number)) j (record { least = suc (f .number); place = i }) fs (r .2) (omega (arith, eqb-true (f .number) n q))))
+    (λ q. rw (q, here, add-one (f .number))
+    (noted-found n (suc (f .number)) j (record { least = suc (f .number); place = s .place }) fs (r .2) end))
 
 -- Where the walk stands: at place i of the book, with s seen; what is left to read makes of it what is due.
 pub record Going (book : List ℕ) (n i : ℕ) (s : Seen) : Type 0 where
@@ -106,13 +120,16 @@ pub record Going (book : List ℕ) (n i : ℕ) (s : Seen) : Type 0 where
 pub going-start : (book : List ℕ) (n : ℕ) → Bytes book → Going book n 0 (record { least = 0; place = length book })
 unfolding walkedOf readBook
 going-start book n b = record { inside = omega arith; bytes = b; rest = of (judge bookStorage book b) } where
-  of : Judged bookStorage book → walkedOf (readBook bookStorage book) n ≡ resumed (record { least = 0; place = length book }) n 0 (readBook bookStorage book)
+  of : Judged bookStorage book
+      → walkedOf (readBook bookStorage book) n ≡ resumed (record { least = 0; place = length book }) n 0 (readBook bookStorage book)
   of (isSound fs s e) =
       let z : 0 + recordAt bookStorage fs n ≡ recordAt bookStorage fs n = omega arith in
-      rw e (ap soundWith (sym (rw z at (noted-found n 0 0 (record { least = 0; place = length book }) fs (s .rising) (omega (arith, ap length (s .bytes)))))))
+      let all = noted-found n 0 0 (record { least = 0; place = length book }) fs (s .rising) (omega (arith, ap length (s .bytes))) in
+      rw e (ap soundWith (sym (rw z at all)))
   of (isRefused k p range d e) = rw e refl
 
-pub going-all : {book : List ℕ} {n i : ℕ} {s : Seen} → Going book n i s → length book ≤ i → soundWith s ≡ walkedOf (readBook bookStorage book) n
+pub going-all : {book : List ℕ} {n i : ℕ} {s : Seen} → Going book n i s → length book ≤ i
+    → soundWith s ≡ walkedOf (readBook bookStorage book) n
 unfolding readFrom
 going-all {book} {n} {i} {s} g h = sym (rw (drop-of-length-le book h) at (g .rest))
 
@@ -140,21 +157,26 @@ module _ {book : List ℕ} {n i : ℕ} {s : Seen} (g : Going book n i s) where
     going-more {j} {q} b l t =
         let k : row16 (s .least) x ≡ false = rw (← e, le-leb (s .least) number l) refl in
         let w = there .whole in
-        let z : length (recordOf bookStorage (phraseIn bookStorage x)) ≡ spanIn bookStorage x = record-size bookStorage (phraseIn bookStorage x) ∙ ap (headSize +_) (length-take-le (bookStorage .size (lengthIn x)) (drop headSize x) (omega (arith, w, length-drop headSize x))) in
+        let f = phraseIn bookStorage x in
+        let size = length-take-le (bookStorage .size (lengthIn x)) (drop headSize x) (omega (arith, w, length-drop headSize x)) in
+        let z : length (recordOf bookStorage f) ≡ spanIn bookStorage x = record-size bookStorage f ∙ ap (headSize +_) size in
         record {
           inside = omega (arith, w, b, length-drop i book);
           bytes = g .bytes;
-          rest = g .rest ∙ ap (resumed s n i) (read-record bookStorage i (s .least) x left (stands-15 bookStorage there) k) ∙ resumed-then s n i (phraseIn bookStorage x) _ ∙ rw (t, e, b, z, add-one (numberIn x), drop-drop (spanIn bookStorage x) i book) refl;
+          rest = g .rest ∙ ap (resumed s n i) (read-record bookStorage i (s .least) x left (stands-15 bookStorage there) k)
+              ∙ resumed-then s n i f _ ∙ rw (t, e, b, z, add-one (numberIn x), drop-drop (spanIn bookStorage x) i book) refl;
         }
 
 -- What the walk over a book that is not sound tells, for lookups and additions,
-pub walked-unsound : (l : Listener) (r : Reading) (n bookEnd : ℕ) (a : Answer) {x : Refusal} → walkedOf r n ≡ Unsound x → (locateAnswer l r n ≡ located.Refused x) × (afterBook r n bookEnd a ≡ Refused x) × (unheard r ≡ x)
+pub walked-unsound : (l : Listener) (r : Reading) (n bookEnd : ℕ) (a : Answer) {x : Refusal} → walkedOf r n ≡ Unsound x
+    → (locateAnswer l r n ≡ located.Refused x) × (afterBook r n bookEnd a ≡ Refused x) × (unheard r ≡ x)
 unfolding walkedOf locateAnswer afterBook unheard
 walked-unsound l (holds fs) n bookEnd a h = absurd (let z : _≡_ {A = ℕ} 0 1 = cc in omega (arith, z))
 walked-unsound l (unsound y) n bookEnd a {x} h = let e : y ≡ x = (cc) in rw e (refl, refl, refl)
 
 -- and over a sound one, for an addition, and for one who may hear nothing
-pub walked-sound : (r : Reading) (n bookEnd : ℕ) (a : Answer) {least place : ℕ} → walkedOf r n ≡ Sound least place → (afterBook r n bookEnd a ≡ cond (leb least n) a (Refused (refusal 16 bookEnd))) × (unheard r ≡ withheld)
+pub walked-sound : (r : Reading) (n bookEnd : ℕ) (a : Answer) {least place : ℕ} → walkedOf r n ≡ Sound least place
+    → (afterBook r n bookEnd a ≡ cond (leb least n) a (Refused (refusal 16 bookEnd))) × (unheard r ≡ withheld)
 unfolding walkedOf afterBook unheard
 walked-sound (holds fs) n bookEnd a {least} h = let e : least ≡ leastAfter 0 fs = (cc) in rw e (refl, refl)
 walked-sound (unsound x) n bookEnd a h = absurd (let z : _≡_ {A = ℕ} 0 1 = cc in omega (arith, z))
@@ -164,13 +186,17 @@ none-at : (n : ℕ) (fs : List Phrase) → search fs n ≡ none → recordAt boo
 unfolding search recordAt records
 none-at n [] h = refl
 none-at n (f ∷ fs) h = either (eqb (f .number) n) (λ q. absurd (let u = rw q at h in let z : _≡_ {A = ℕ} 0 1 = cc in omega (arith, z)))
-    (λ q. rw q (ap (length (recordOf bookStorage f) +_) (none-at n fs (rw q at h)) ∙ sym (length-append (recordOf bookStorage f) (records bookStorage fs))))
+    (λ q.
+    let all = length-append (recordOf bookStorage f) (records bookStorage fs) in
+    rw q (ap (length (recordOf bookStorage f) +_) (none-at n fs (rw q at h)) ∙ sym all))
 
-module _ (l : Listener) (book : List ℕ) (n : ℕ) (b : Bytes book) {least place : ℕ} (walked : walkedOf (readBook bookStorage book) n ≡ Sound least place) where
+module _ (l : Listener) (book : List ℕ) (n : ℕ) (b : Bytes book) {least place : ℕ}
+    (walked : walkedOf (readBook bookStorage book) n ≡ Sound least place) where
   abbrev Told : ℕ → Located → Type 0
   Told i due = PlaceIn book i × (toldAt l book i ≡ due)
 
-  told-search : (fs : List Phrase) → RisingFrom bookStorage 0 fs → book ≡ records bookStorage fs → (q : Search) → search fs n ≡ q → Told (recordAt bookStorage fs n) (placed (startOf fs n) (heard bookStorage l q))
+  told-search : (fs : List Phrase) → RisingFrom bookStorage 0 fs → book ≡ records bookStorage fs → (q : Search) → search fs n ≡ q
+      → Told (recordAt bookStorage fs n) (placed (startOf fs n) (heard bookStorage l q))
   unfolding placed heard
   told-search fs r e none h =
       let z : length book ≤ recordAt bookStorage fs n = omega (arith, ap length e, none-at n fs h) in
@@ -179,9 +205,10 @@ module _ (l : Listener) (book : List ℕ) (n : ℕ) (b : Bytes book) {least plac
       let w = found-stands bookStorage 0 n g fs r h in
       let d = rw (← e) at (record-there bookStorage w) in
       let f = written-reads bookStorage g (w .behind) (w .fits) in
-      let z : recordAt bookStorage fs n + headSize + length (g .stored) ≤ length book = omega (arith, stored-inside bookStorage w, ap length e) in (
+      let i = recordAt bookStorage fs n in
+      let z : i + headSize + length (g .stored) ≤ length book = omega (arith, stored-inside bookStorage w, ap length e) in (
         λ more. omega (arith, z),
-        rw (lt-leb (length book) (recordAt bookStorage fs n) (omega (arith, z)), d, f .set, f .count, tape-plain (w .fits))
+        rw (lt-leb (length book) i (omega (arith, z)), d, f .set, f .count, tape-plain (w .fits))
             (either (mayHear l (g .set)) (λ m. rw (m, w .fits .stored) refl) (λ m. rw m refl)),
       )
 

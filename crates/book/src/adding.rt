@@ -20,9 +20,11 @@ use spec::numbers;
 use transcriber::tables::lay_tables;
 use transcriber::tape::write_tape;
 
-// The book's refusals of an addition under a number: 15 and 16 of its records, and 16 at its end where the number is not above the last. Where none is due it answers a writing of nothing.
+// The book's refusals of an addition under a number: 15 and 16 of its records, and 16 at its end
+// where the number is not above the last. Where none is due it answers a writing of nothing.
 fn judge(book: &[u8], number: usize) -> Answer
-    ensures { λ r. ⌜ r ≡ afterBook (readBook bookStorage (now (book .entry))) number (length (now (book .entry))) (Answer.Written 0 0) ⌝ }
+    ensures { λ r. ⌜ r ≡ afterBook (readBook bookStorage (now (book .entry))) number
+        (length (now (book .entry))) (Answer.Written 0 0) ⌝ }
 {
     match walk(book, number) {
         Walked::Sound { least, place: _ } => {
@@ -38,7 +40,8 @@ fn judge(book: &[u8], number: usize) -> Answer
     }
 }
 
-// Writes the record of an accepted message, whose tape has n codes, from place i on, and tells where it ends. The tape is put straight to its place, right before that end.
+// Writes the record of an accepted message, whose tape has n codes, from place i on, and tells
+// where it ends. The tape is put straight to its place, right before that end.
 fn write_record(m: &[u8], out: &mut [u8], i: usize, number: usize, set: u8, n: usize) -> usize
     requires { ⌜ RecordDue (now m) (now out) i number n ⌝ }
     ensures { λ r. ⌜ Put (recordOf bookStorage (phraseOf bookStorage
@@ -51,7 +54,8 @@ fn write_record(m: &[u8], out: &mut [u8], i: usize, number: usize, set: u8, n: u
     end
 }
 
-// Dispatch's addition: puts the record behind the book and answers the new used count, or refuses and leaves every byte.
+// Dispatch's addition: puts the record behind the book and answers the new used count, or refuses
+// and leaves every byte.
 fn append(buffer: &mut [u8], used: usize, number: u16, set: u8, m: &[u8]) -> Answer
     ensures { λ r. ⌜ AddPromise bookStorage Listener.Dispatch (now (buffer .entry)) used
         (record { number = number; set = set; message = now (m .entry) }) (now (buffer .exit)) r ⌝ }
@@ -77,7 +81,8 @@ fn append(buffer: &mut [u8], used: usize, number: u16, set: u8, m: &[u8]) -> Ans
     Answer::Written { length, live: 0 }
 }
 
-// The writer: adds the tape of a message, under a number and for a set of listeners, at the end of the book. That is for dispatch alone; anyone else is turned away before all other checks.
+// The writer: adds the tape of a message, under a number and for a set of listeners, at the end of
+// the book. That is for dispatch alone; anyone else is turned away before all other checks.
 pub fn add(
     listener: Listener,
     buffer: &mut [u8],

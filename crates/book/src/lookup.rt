@@ -1,6 +1,7 @@
 // Lookups (paper 02, requests 6 and 7).
 ghost use mathlib.Core.Path.{_≡_};
-ghost use Rattle.spec.specs.Book.{bookStorage, readBook, bookIn, locateAnswer, unheard, standsAfter, FindPromise, LocatePromise};
+ghost use Rattle.spec.specs.Book.{bookStorage, readBook, bookIn, locateAnswer, unheard};
+ghost use Rattle.spec.specs.Book.{standsAfter, FindPromise, LocatePromise};
 ghost use Rattle.book.specs.Walking.{PlaceIn, toldAt};
 use crate::Walked;
 use crate::listeners::may_hear;
@@ -31,7 +32,8 @@ fn tell(listener: Listener, book: &[u8], i: usize) -> Located
     Located::Refused(not_for_listener())
 }
 
-// Tells a listener where in the buffer the tape under a number stands, if it is for him, or else that it is not, or why the book is not sound.
+// Tells a listener where in the buffer the tape under a number stands, if it is for him, or else
+// that it is not, or why the book is not sound.
 pub fn locate(listener: Listener, buffer: &[u8], used: usize, wanted: u16) -> Located
     ensures { λ r. ⌜ LocatePromise listener (now (buffer .entry)) used wanted r ⌝ }
 {
@@ -43,7 +45,8 @@ pub fn locate(listener: Listener, buffer: &[u8], used: usize, wanted: u16) -> Lo
     }
 }
 
-// Why someone who is no listener is turned away: the book is not sound, or nothing in it is for him.
+// Why someone who is no listener is turned away: the book is not sound, or nothing in it is for
+// him.
 pub fn refuse(buffer: &[u8], used: usize) -> Refusal
     ensures { λ r. ⌜ r ≡ unheard (readBook bookStorage (bookIn (now (buffer .entry)) used)) ⌝ }
 {
@@ -54,7 +57,8 @@ pub fn refuse(buffer: &[u8], used: usize) -> Refusal
     }
 }
 
-// Hands back the tape's own bytes, a part of the buffer, in the place that is lent for it; where there is none to hand back the place keeps what it had.
+// Hands back the tape's own bytes, a part of the buffer, in the place that is lent for it; where
+// there is none to hand back the place keeps what it had.
 pub fn find<'a>(
     listener: Listener,
     buffer: &'a [u8],
@@ -62,8 +66,11 @@ pub fn find<'a>(
     wanted: u16,
     tape: &mut &'a [u8],
 ) -> Found
-    ensures { λ r. ⌜ FindPromise bookStorage listener (now (buffer .entry)) used wanted (now (now (tape .entry))) (now (now (tape .exit))) r ⌝ }
-    ensures { λ _. ⌜ now (tape .exit) .ptr ≡ standsAfter (locateAnswer listener (readBook bookStorage (bookIn (now (buffer .entry)) used)) wanted) (buffer .entry .ptr) (now (tape .entry) .ptr) ⌝ }
+    ensures { λ r. ⌜ FindPromise bookStorage listener (now (buffer .entry)) used wanted
+        (now (now (tape .entry))) (now (now (tape .exit))) r ⌝ }
+    ensures { λ _. ⌜ now (tape .exit) .ptr ≡ standsAfter
+        (locateAnswer listener (readBook bookStorage (bookIn (now (buffer .entry)) used)) wanted)
+        (buffer .entry .ptr) (now (tape .entry) .ptr) ⌝ }
 {
     match locate(listener, buffer, used, wanted) {
         Located::At { start, length } => {

@@ -12,7 +12,8 @@ use crate::records::record_end;
 use spec::Refusal;
 use spec::numbers;
 
-// Where the book ends in a buffer: at the used count, or at the buffer's end where the count is above that.
+// Where the book ends in a buffer: at the used count, or at the buffer's end where the count is
+// above that.
 pub fn book_end(buffer: &[u8], used: usize) -> usize
     ensures { λ r. ⌜ EndOf (now (buffer .entry)) used r ⌝ }
 {

@@ -1,9 +1,11 @@
-// The record of a phrase (paper 02, requests 6 and 7): a head of mark, number, set of listeners and length, and then the tape.
+// The record of a phrase (paper 02, requests 6 and 7): a head of mark, number, set of listeners and
+// length, and then the tape.
 ghost use mathlib.Core.Path.{_≡_};
 ghost use mathlib.Core.List.{[], _∷_};
 ghost use Prim.Native.Nat.{_+_, _<_, _≤_};
 ghost use lib.ListN.{length, drop};
-ghost use Rattle.spec.specs.Book.{bookStorage, headSize, pairAt, spanIn, hasRecordMark, isRecord, twoBytes, headOf};
+ghost use Rattle.spec.specs.Book.{bookStorage, headSize, pairAt, spanIn, hasRecordMark, isRecord};
+ghost use Rattle.spec.specs.Book.{twoBytes, headOf};
 ghost use Rattle.laws.specs.Putting.{Put};
 ghost use Rattle.book.specs.Walking.{HeadDue};
 use spec::numbers::RECORD_MARK;
@@ -74,10 +76,11 @@ fn put_pair(out: &mut [u8], i: usize, n: usize) -> usize
     i + 2
 }
 
-// Puts the head of a record from place i on: for a number, a set of listeners, and a tape of n codes.
+// Puts the head of a record from place i on: for a number, a set of listeners, a tape of n codes.
 pub fn put_head(out: &mut [u8], i: usize, number: usize, set: u8, n: usize) -> usize
     requires { ⌜ HeadDue (now out) i number n ⌝ }
-    ensures { λ r. ⌜ Put (headOf bookStorage number set n) (now (out .entry)) (now (out .exit)) r i ⌝ }
+    ensures { λ r. ⌜ Put (headOf bookStorage number set n)
+        (now (out .entry)) (now (out .exit)) r i ⌝ }
 {
     let number_place = put_pair(out, i, RECORD_MARK);
     let set_place = put_pair(out, number_place, number);

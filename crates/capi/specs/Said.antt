@@ -1,4 +1,5 @@
--- What the C interface says of an answer: the paper's four numbers; of the editor's, the reader's and an addition's three, since no cut is live there; and of a lookup's five.
+-- What the C interface says of an answer: the paper's four numbers; of the editor's, the reader's
+-- and an addition's three, since no cut is live there; and of a lookup's five.
 -- Assumes nothing: these are definitions.
 use Prim.Native.Nat.{ℕ, _<_}
 use mathlib.Core.Path.{_≡_}
@@ -6,7 +7,8 @@ use mathlib.Core.Bool.{Bool, cond}
 use mathlib.Core.List.{List, [], _∷_}
 use lib.Dec.{eqb}
 use lib.ListN.{take, drop}
-use Rattle.spec.specs.Answers.{numberOf, placeOf, lengthOf, liveOf, checkedNumber, checkedPlace, checkedCodes, checkedNames, Promise, Carried}
+use Rattle.spec.specs.Answers.{numberOf, placeOf, lengthOf, liveOf, checkedNumber, checkedPlace}
+use Rattle.spec.specs.Answers.{checkedCodes, checkedNames, Promise, Carried}
 use Rattle.spec.specs.Listeners.{withheld}
 use Rattle.spec.specs.Book.{Phrase, bookStorage, readBook, bookIn, unheard, LocatePromise}
 use Rattle.spec.specs.Book.{NewPhrase, phraseOf, AddPromise}
@@ -51,7 +53,8 @@ pub record SaidAdded (a : Answer) (r : GovorunAdded) : Type 0 where
   pub place : r .place ≡ placeOf a
   pub used : r .used ≡ lengthOf a
 
--- the five numbers of a lookup: 0 and 0 where it is not refused, whether there is a tape, and where it begins and how long it is, 0 and 0 where there is none
+-- the five numbers of a lookup: 0 and 0 where it is not refused, whether there is a tape, and where
+-- it begins and how long it is, 0 and 0 where there is none
 unfoldable pub numberFound : Located → ℕ
 numberFound (At start n) = 0
 numberFound (Refused r) = r .number
@@ -79,7 +82,8 @@ pub record SaidFound (a : Located) (r : GovorunFound) : Type 0 where
   pub start : r .start ≡ startFound a
   pub length : r .length ≡ lengthFound a
 
--- whom a number names: 0 pump crews, 1 road crews, 2 dispatch, and any other number someone who is no listener
+-- whom a number names: 0 pump crews, 1 road crews, 2 dispatch, and any other number someone who is
+-- no listener
 abbrev pub named : ℕ → Named
 named n =
     cond (eqb n 0) (Known Pump)
@@ -146,19 +150,26 @@ abbrev pub AdditionsInC : List ℕ → List Call → Type 0
 AdditionsInC buffer calls = CallByCall buffer 0 calls
     → HoldsLocated (bufferAfterAll buffer calls) (countAfterAll 0 calls) (acceptedCalls calls)
 
--- Slip 7, the law of silence in C. Two sound books agree in what the one who is named may hear; where he is no listener, it is enough that both are sound.
+-- Request 7, the law of silence in C. Two sound books agree in what the one who is named may hear;
+-- where he is no listener, it is enough that both are sound.
 abbrev pub AgreeIn : Named → List ℕ → List ℕ → Type 0
 AgreeIn (Known l) book book₂ = AgreeFor bookStorage l book book₂
 AgreeIn Other book book₂ = BothSound bookStorage book book₂
 
--- Then what is said to him of a number is the same, but for the start, and so are the bytes that it tells of.
+-- Then what is said to him of a number is the same, but for the start, and so are the bytes that it
+-- tells of.
 pub record SaidAlike (buffer buffer₂ : List ℕ) (r r₂ : GovorunFound) : Type 0 where
-  pub bytes : take (r .length) (drop (r .start) buffer) ≡ take (r₂ .length) (drop (r₂ .start) buffer₂)
+  pub bytes : take (r .length) (drop (r .start) buffer)
+      ≡ take (r₂ .length) (drop (r₂ .start) buffer₂)
   pub number : r .number ≡ r₂ .number
   pub place : r .place ≡ r₂ .place
   pub found : r .found ≡ r₂ .found
   pub length : r .length ≡ r₂ .length
 
 abbrev pub SilenceInC : ℕ → List ℕ → ℕ → List ℕ → ℕ → Type 0
-SilenceInC listener buffer used buffer₂ used₂ = AgreeIn (named listener) (bookIn buffer used) (bookIn buffer₂ used₂) → (n : ℕ) (r r₂ : GovorunFound)
-    → Carried (FindsFor (named listener) buffer used n) SaidFound r → Carried (FindsFor (named listener) buffer₂ used₂ n) SaidFound r₂ → SaidAlike buffer buffer₂ r r₂
+SilenceInC listener buffer used buffer₂ used₂ =
+    AgreeIn (named listener) (bookIn buffer used) (bookIn buffer₂ used₂)
+    → (n : ℕ) (r r₂ : GovorunFound)
+    → Carried (FindsFor (named listener) buffer used n) SaidFound r
+    → Carried (FindsFor (named listener) buffer₂ used₂ n) SaidFound r₂
+    → SaidAlike buffer buffer₂ r r₂

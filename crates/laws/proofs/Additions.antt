@@ -1,19 +1,25 @@
--- Additions to a phrase book: each ends in one of the ways that its numbers tell, and one after the other, from an empty book on, they leave just the records of those that were accepted.
+-- Additions to a phrase book, in any storage: each ends in one of the ways that its numbers tell, and one after the other, from an empty
+-- book on, they leave just the records of those that were accepted. For that a tape must be stored in as many bytes as its codes take. What
+-- holds in the plain storage besides stands last in this file.
 use Rattle.laws.proofs.Kit.{ℕ, zero, suc, _+_, _*_, _<_, _≤_, _≡_, refl, sym, ap, _∙_, true, _⊎_, inl, inr, ⊎-elim, List, [], _∷_}
-use Rattle.laws.proofs.Kit.{_++_, append-assoc, append-nil, arith, leb, length, take, drop, length-append, take-append-drop, take-at, take-length}
-use Rattle.laws.proofs.Kit.{le-leb, lt-leb}
-use Rattle.spec.specs.Book.{Phrase, Storage, Sized, plain, recordOf, records, row15, row16, Reading, holds, unsound, _then_, readFrom, readBook, Bytes, bookIn}
-use Rattle.spec.specs.Book.{findAnswer, tapeAfter, locateAnswer, leastAfter, afterListener, afterBook, NewPhrase, phraseOf, withAddition}
-use Rattle.spec.specs.Book.{addAnswer, Fits, RisingFrom, Sound}
-use Rattle.spec.specs.BookDemands.{BookDemands, MayAdd, AddDue, notDispatch, ofMessage, ofBook, notAboveLast, noRoomBehind, Addition, AddedTo, usedAfter, addedBy, OneByOne, lastBuffer, lastUsed, accepted, HoldsJust, AdditionsKept, PlainDemands, AdditionsLocated}
+use Rattle.laws.proofs.Kit.{_++_, append-assoc, append-nil, arith, leb, length, take, drop, length-append, take-append-drop, take-at}
+use Rattle.laws.proofs.Kit.{take-length, le-leb, lt-leb}
+use Rattle.spec.specs.Book.{Phrase, Storage, Sized, plain, recordOf, records, row15, row16, Reading, holds, unsound, _then_, readFrom}
+use Rattle.spec.specs.Book.{readBook, Bytes, bookIn, findAnswer, tapeAfter, leastAfter, afterListener, afterBook, NewPhrase, phraseOf}
+use Rattle.spec.specs.Book.{withAddition, addAnswer, Fits, RisingFrom, Sound, locateAnswer}
+use Rattle.spec.specs.BookDemands.{BookDemands, MayAdd, AddDue, notDispatch, ofMessage, ofBook, notAboveLast, noRoomBehind, Addition}
+use Rattle.spec.specs.BookDemands.{AddedTo, usedAfter, addedBy, OneByOne, lastBuffer, lastUsed, accepted, HoldsJust, AdditionsKept}
+use Rattle.spec.specs.BookDemands.{PlainDemands, AdditionsLocated}
 use Rattle.spec.specs.Answers.{within, afterCheck, outputAfter}
-use Rattle.spec.specs.{Listeners.mayWrite, declared.Listener.Listener, Tape.tape, Refusals.refusal, Refusals.NoneFits, declared.Answer.Answer, declared.Answer.the-variants.Written, declared.Answer.the-variants.Refused, declared.Refusal.Refusal}
+use Rattle.spec.specs.{Listeners.mayWrite, declared.Listener.Listener, Tape.tape, Refusals.refusal, Refusals.NoneFits}
+use Rattle.spec.specs.{declared.Answer.Answer, declared.Refusal.Refusal}
+use Rattle.spec.specs.declared.Answer.the-variants.{Written, Refused}
 use Rattle.laws.proofs.Accepted.{Passes, check-finds, passes-none, passes-accepted, none-accepted, given-refused, given-range}
 use Rattle.laws.proofs.Demands.{Ways, settled, exactly}
 use Rattle.laws.proofs.Book.{Judged, isSound, isRefused, judge, record-size, sound-read, due-read, bytes-in}
 use Rattle.laws.proofs.{Classes.either, Classes.below-or, Sizes.tape-size, Lookup.looks-up, Lookup.find-promised}
 
--- A book that is not sound is refused with a number,
+-- a book's refusal, where it is not sound, has a number,
 abbrev NumberedBook : Reading → Type 0
 NumberedBook (holds fs) = Unit {0}
 NumberedBook (unsound r) = 1 ≤ r .number
@@ -23,7 +29,7 @@ unfolding _then_
 then-numbered f (holds fs) h = tt
 then-numbered f (unsound r) h = h
 
--- and so is an addition: no refusal has number 0.
+-- and so has an answer's, where it is one: none has number 0
 abbrev pub Numbered : Answer → Type 0
 Numbered (Written n k) = Unit {0}
 Numbered (Refused r) = 1 ≤ r .number
@@ -42,12 +48,13 @@ book-first : (x y : List ℕ) → bookIn (x ++ y) (length x) ≡ x
 unfolding bookIn
 book-first x y = take-at x y (length x) refl
 
--- After an addition all is as it was,
+-- after an addition all is as it was
 pub record AsBefore (buffer : List ℕ) (a : Addition) : Type 0 where
   pub refusal : Refusal
   pub answer : a .answer ≡ Refused refusal
   pub after : a .after ≡ buffer
 
+-- what an addition added and what the later ones did
 added-all : (r : Answer) (fs gs : List Phrase) (f : Phrase) → fs ++ addedBy r f [] ++ gs ≡ fs ++ addedBy r f gs
 unfolding addedBy
 added-all (Written n k) fs gs f = append-assoc fs (f ∷ []) gs
@@ -133,6 +140,7 @@ module _ (st : Storage) where
         leaves = λ l x buffer′ r k. rw (k .output) (book-left buffer used x (addAnswer st l (bookIn buffer used) x (length buffer)));
       }
 
+  -- A book that is not sound is refused with a number,
   read-numbered : (skip place least : ℕ) (x : List ℕ) → NumberedBook (readFrom st skip place least x)
   unfolding readFrom
   read-numbered skip place least [] = tt
@@ -140,6 +148,7 @@ module _ (st : Storage) where
   read-numbered zero place least (b ∷ x) = either (row15 st (b ∷ x)) (λ p. rw p (omega arith))
       (λ p. either (row16 least (b ∷ x)) (λ q. rw (p, q) (omega arith)) (λ q. rw (p, q) (then-numbered _ _ (read-numbered _ _ _ x))))
 
+  -- and so is an addition.
   pub add-numbered : (l : Listener) (book : List ℕ) (x : NewPhrase) (room : ℕ) → Numbered (addAnswer st l book x room)
   unfolding addAnswer afterListener afterCheck readBook
   add-numbered l book x room = either (mayWrite l)
@@ -156,7 +165,8 @@ module _ (st : Storage) where
   records-more [] f = sym (append-nil (recordOf st f))
   records-more (g ∷ fs) f = append-assoc (recordOf st g) (records st fs) (recordOf st f) ∙ ap (recordOf st g ++_) (records-more fs f)
 
-  rising-more : (least : ℕ) (fs : List Phrase) (f : Phrase) → RisingFrom st least fs → Fits st f → leastAfter least fs ≤ f .number → RisingFrom st least (fs ++ (f ∷ []))
+  rising-more : (least : ℕ) (fs : List Phrase) (f : Phrase) → RisingFrom st least fs → Fits st f → leastAfter least fs ≤ f .number
+      → RisingFrom st least (fs ++ (f ∷ []))
   unfolding leastAfter
   rising-more least [] f r fit h = (fit, h, tt)
   rising-more least (g ∷ fs) f r fit h = (r .0, r .1, rising-more (suc (g .number)) fs f (r .2) fit h)
@@ -164,10 +174,11 @@ module _ (st : Storage) where
   abbrev pub added : Addition → Phrase
   added a = phraseOf st (a .phrase)
 
-  -- or a book of these phrases holds one more.
+  -- After an addition all is as it was, or a book of these phrases holds one more.
   pub data Next (buffer : List ℕ) (fs : List Phrase) (a : Addition) : Type 0 where
     asBefore : AsBefore buffer a → Next buffer fs a
-    oneMore : (k : ℕ) → a .answer ≡ Written k 0 → k ≡ length (records st (fs ++ (added a ∷ []))) → Sound st (bookIn (a .after) k) (fs ++ (added a ∷ [])) → Next buffer fs a
+    oneMore : (k : ℕ) → a .answer ≡ Written k 0 → k ≡ length (records st (fs ++ (added a ∷ [])))
+        → Sound st (bookIn (a .after) k) (fs ++ (added a ∷ [])) → Next buffer fs a
 
   module _ {buffer : List ℕ} {used : ℕ} {a : Addition} (kept : AddedTo st buffer used a) where
     abbrev book : List ℕ
@@ -232,12 +243,15 @@ module _ (st : Storage) where
   holding-next {fs = fs} now (asBefore k) = rw (k .answer, k .after, append-nil fs) now
   holding-next now (oneMore k r e s) = rw r (record { sound = s; size = e })
 
+  -- where a tape is stored in as many bytes as its codes take
   module _ (sized : Sized st) where
-    holding-all : {buffer : List ℕ} {used : ℕ} {fs : List Phrase} (additions : List Addition) → Holding buffer used fs → OneByOne st buffer used additions
+    holding-all : {buffer : List ℕ} {used : ℕ} {fs : List Phrase} (additions : List Addition) → Holding buffer used fs
+        → OneByOne st buffer used additions
         → Holding (lastBuffer buffer additions) (lastUsed used additions) (fs ++ accepted st additions)
     holding-all {fs = fs} [] now kept = rw (append-nil fs) now
     holding-all {fs = fs} (a ∷ more) now kept =
-        rw (added-all (a .answer) fs (accepted st more) (added a)) at (holding-all more (holding-next now (sound-next (kept .0) (now .sound) sized)) (kept .1))
+        let next = holding-next now (sound-next (kept .0) (now .sound) sized) in
+        rw (added-all (a .answer) fs (accepted st more) (added a)) at (holding-all more next (kept .1))
 
     -- After every list of additions to an empty book it holds just the tapes of those accepted.
     pub additions-kept : (buffer : List ℕ) (additions : List Addition) → AdditionsKept st buffer additions
@@ -253,7 +267,11 @@ module _ (st : Storage) where
           find = λ l n old new r k. (k .answer ∙ rw e refl, k .tape ∙ rw e refl);
         }
 
--- In the plain storage a record has a head and a tape, which has at most two codes for each byte.
+-- In the plain storage a tape is stored as it is,
+pub plain-sized : Sized plain
+plain-sized t = refl
+
+-- and a record has a head and a tape, which has at most two codes for each byte.
 added-size : (book : List ℕ) (x : NewPhrase) → length (withAddition plain book x) ≤ length book + (7 + 2 * length (x .message))
 unfolding withAddition
 added-size book x =
@@ -268,9 +286,10 @@ plain-demands buffer used = record {
   locate = λ l n r k. record { answer = find-promised [] k .answer; tape = k .tape };
 }
 
+-- After every list of additions to an empty book a lookup tells the places of the tapes.
 pub additions-located : (buffer : List ℕ) (additions : List Addition) → AdditionsLocated buffer additions
 unfolding locateAnswer
 additions-located buffer additions kept =
-    let h = additions-kept plain (λ t. refl) buffer additions kept in
+    let h = additions-kept plain plain-sized buffer additions kept in
     let e = sound-read plain (h .sound) in
     record { just = h; locate = λ l n r k. k .answer ∙ rw e refl }

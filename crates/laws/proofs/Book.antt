@@ -1,16 +1,22 @@
--- The phrase book: a record that is written reads back, and what reads as a record was written so; hence any bytes are the records of some rising phrases and then their end or the first place of a refusal.
-use Rattle.laws.proofs.Kit.{ℕ, zero, suc, _+_, _-_, _*_, _/_, _%_, _<_, _≤_, _≡_, refl, sym, ap, _∙_, true, false, not, _&&_, true≢false, false≢true, _⊎_, inl, inr, ⊎-elim, List, [], _∷_, _++_, append-assoc, append-nil, arith, eqb, leb, length, take, drop, getD, length-append, length-drop, take-append-drop, take-at, drop-at, getD-drop, getD-take, List·getD-eq-default, drop-drop, length-take, length-take-le, eqb-true, eq-eqb, leb-true, le-leb, lt-leb}
-use Rattle.spec.specs.Book.{Phrase, Storage, recordMark, twoBytes, headOf, recordOf, records, headSize, numberIn, setIn, lengthIn, spanIn, pairAt}
-use Rattle.spec.specs.Book.{phraseIn, hasRecordMark, isWhole, isRecord, row15, row16, Reading, holds, unsound, _then_, readFrom, readBook}
-use Rattle.spec.specs.Book.{Bytes, bookIn, leastAfter, Fits, RisingFrom, Sound}
-use Rattle.spec.specs.{Tables.same, Refusals.refusal, declared.Refusal.Refusal, BookDemands.UpTo, BookDemands.BookDue, BookDemands.noRecord, BookDemands.notAbove}
+-- The phrase book, in any storage: a record that is written reads back, and what reads as a record was written so; hence any bytes are the
+-- records of some rising phrases and then their end or the first place of a refusal. Of the storage nothing is asked.
+use Rattle.laws.proofs.Kit.{ℕ, zero, suc, _+_, _-_, _*_, _/_, _%_, _<_, _≤_, _≡_, refl, sym, ap, _∙_, true, false, not, _&&_}
+use Rattle.laws.proofs.Kit.{true≢false, false≢true, _⊎_, inl, inr, ⊎-elim, List, [], _∷_, _++_, append-assoc, append-nil, arith, eqb}
+use Rattle.laws.proofs.Kit.{leb, length, take, drop, getD, length-append, length-drop, take-append-drop, take-at, drop-at, getD-drop}
+use Rattle.laws.proofs.Kit.{getD-take, List·getD-eq-default, drop-drop, length-take, length-take-le, eqb-true, eq-eqb, leb-true}
+use Rattle.laws.proofs.Kit.{le-leb, lt-leb}
+use Rattle.spec.specs.Book.{Phrase, Storage, recordMark, twoBytes, headOf, recordOf, records, headSize, numberIn, setIn, lengthIn, spanIn}
+use Rattle.spec.specs.Book.{pairAt, phraseIn, hasRecordMark, isWhole, isRecord, row15, row16, Reading, holds, unsound, _then_, readFrom}
+use Rattle.spec.specs.Book.{readBook, Bytes, bookIn, leastAfter, Fits, RisingFrom, Sound}
+use Rattle.spec.specs.BookDemands.{UpTo, BookDue, noRecord, notAbove}
+use Rattle.spec.specs.{Tables.same, Refusals.refusal, declared.Refusal.Refusal}
 use Rattle.laws.proofs.{Classes.either, Classes.below-or}
 
 -- the two bytes of a number give it back
 pair-back : (n : ℕ) → n % 256 + n / 256 * 256 ≡ n
 pair-back n = omega arith
 
--- bytes behind others are bytes
+-- bytes behind others are bytes,
 pub bytes-behind : (k : ℕ) (x : List ℕ) → Bytes x → Bytes (drop k x)
 bytes-behind k x b = λ j. rw (getD-drop k x j 0) (b (k + j))
 
@@ -18,7 +24,8 @@ bytes-behind k x b = λ j. rw (getD-drop k x j 0) (b (k + j))
 pub bytes-in : (buffer : List ℕ) (used : ℕ) → Bytes buffer → Bytes (bookIn buffer used)
 unfolding bookIn
 bytes-in buffer used b j = ⊎-elim (λ h. rw (getD-take used buffer j 0 h) (b j))
-    (λ (h : used ≤ j). let past : length (take used buffer) ≤ j = omega (arith, length-take used buffer, h) in rw (List·getD-eq-default (take used buffer) 0 past) (omega arith)) (below-or j used)
+    (λ (h : used ≤ j). let past : length (take used buffer) ≤ j = omega (arith, length-take used buffer, h) in
+    rw (List·getD-eq-default (take used buffer) 0 past) (omega arith)) (below-or j used)
 
 -- phrases before what the records after them hold
 abbrev pub thenAll : List Phrase → Reading → Reading
@@ -51,7 +58,8 @@ module _ (st : Storage) where
   skipped (suc k) place least (b ∷ x) = let e : place + suc k ≡ suc place + k = omega arith in rw e (skipped k (suc place) least x)
 
   -- the bytes of a record, with the first
-  behind : (s place least b : ℕ) (x : List ℕ) → 0 < s → readFrom st (s - 1) (suc place) least x ≡ readFrom st 0 (place + s) least (drop s (b ∷ x))
+  behind : (s place least b : ℕ) (x : List ℕ) → 0 < s
+      → readFrom st (s - 1) (suc place) least x ≡ readFrom st 0 (place + s) least (drop s (b ∷ x))
   behind zero place least b x h = absurd (omega arith)
   behind (suc k) place least b x h =
       let e : suc k - 1 ≡ k = omega arith in
@@ -65,7 +73,8 @@ module _ (st : Storage) where
   read-15 place least (b ∷ x) more h = rw h refl
 
   -- or one whose number is not above the one before,
-  pub read-16 : (place least : ℕ) (x : List ℕ) → 0 < length x → row15 st x ≡ false → row16 least x ≡ true → readFrom st 0 place least x ≡ unsound (refusal 16 place)
+  pub read-16 : (place least : ℕ) (x : List ℕ) → 0 < length x → row15 st x ≡ false → row16 least x ≡ true
+      → readFrom st 0 place least x ≡ unsound (refusal 16 place)
   unfolding readFrom
   read-16 place least [] more h k = absurd (omega arith)
   read-16 place least (b ∷ x) more h k = rw (h, k) refl
@@ -181,29 +190,35 @@ module _ (st : Storage) where
 
   -- Sound records and then more bytes are read as their phrases, and then the bytes from the number after them on.
   pub read-all : (fs : List Phrase) (place least : ℕ) (rest : List ℕ) → RisingFrom st least fs
-      → readFrom st 0 place least (records st fs ++ rest) ≡ thenAll fs (readFrom st 0 (place + length (records st fs)) (leastAfter least fs) rest)
+      → readFrom st 0 place least (records st fs ++ rest)
+      ≡ thenAll fs (readFrom st 0 (place + length (records st fs)) (leastAfter least fs) rest)
   unfolding records leastAfter
   read-all [] place least rest h = let e : place + 0 ≡ place = omega arith in rw e refl
   read-all (f ∷ fs) place least rest h =
-      let e : place + length (recordOf st f ++ records st fs) ≡ place + length (recordOf st f) + length (records st fs) = omega (arith, length-append (recordOf st f) (records st fs)) in
-      rw (append-assoc (recordOf st f) (records st fs) rest, e)
-      (read-one place least f (records st fs ++ rest) (h .0) (h .1) ∙ ap (f then_) (read-all fs (place + length (recordOf st f)) (suc (f .number)) rest (h .2)))
+      let here = recordOf st f in
+      let e : place + length (here ++ records st fs) ≡ place + length here + length (records st fs) = omega (arith, length-append here (records st fs)) in
+      rw (append-assoc here (records st fs) rest, e)
+      (read-one place least f (records st fs ++ rest) (h .0) (h .1)
+      ∙ ap (f then_) (read-all fs (place + length here) (suc (f .number)) rest (h .2)))
 
-  -- What any bytes are: the records of rising phrases, and then no more, or bytes that are no record, or a record whose number is not above.
+  -- What any bytes are: the records of rising phrases, and then nothing, or what is no record, or a record whose number is not above.
   pub record Run (least : ℕ) (x : List ℕ) : Type 0 where
     pub phrases : List Phrase
     pub rest : List ℕ
     pub bytes : x ≡ records st phrases ++ rest
     pub rising : RisingFrom st least phrases
-    pub ends : (rest ≡ []) ⊎ ((0 < length rest) × ((row15 st rest ≡ true) ⊎ (row15 st rest ≡ false) × (row16 (leastAfter least phrases) rest ≡ true)))
+    pub ends : (rest ≡ [])
+        ⊎ ((0 < length rest) × ((row15 st rest ≡ true) ⊎ (row15 st rest ≡ false) × (row16 (leastAfter least phrases) rest ≡ true)))
 
   -- a record more before them
-  run-more : (least : ℕ) (x : List ℕ) → Bytes x → row15 st x ≡ false → row16 least x ≡ false → Run (suc (numberIn x)) (drop (spanIn st x) x) → Run least x
+  run-more : (least : ℕ) (x : List ℕ) → Bytes x → row15 st x ≡ false → row16 least x ≡ false → Run (suc (numberIn x)) (drop (spanIn st x) x)
+      → Run least x
   unfolding records leastAfter row16 phraseIn
   run-more least x b h k r =
       let w = stands-written x b (standing x h) in
       let f = phraseIn st x in
-      let a : least ≤ numberIn x = ⊎-elim (λ l. absurd (true≢false (rw (lt-leb least (numberIn x) l) at k))) (λ l. l) (below-or (numberIn x) least) in
+      let a : least ≤ numberIn x =
+      ⊎-elim (λ l. absurd (true≢false (rw (lt-leb least (numberIn x) l) at k))) (λ l. l) (below-or (numberIn x) least) in
       record {
         phrases = f ∷ r .phrases;
         rest = r .rest;
@@ -224,9 +239,11 @@ module _ (st : Storage) where
   run (suc n) least [] h b = run-none least
   run (suc n) least (c ∷ x) h b =
       let y = c ∷ x in
-      let stop : (row15 st y ≡ true) ⊎ (row15 st y ≡ false) × (row16 least y ≡ true) → Run least y = λ s. record { phrases = []; rest = y; bytes = refl; rising = tt; ends = inr (omega arith, s) } in
+      let span = spanIn st y in
+      let stop : (row15 st y ≡ true) ⊎ (row15 st y ≡ false) × (row16 least y ≡ true) → Run least y =
+      λ s. record { phrases = []; rest = y; bytes = refl; rising = tt; ends = inr (omega arith, s) } in
       either (row15 st y) (λ p. stop (inl p)) (λ p. either (row16 least y) (λ q. stop (inr (p, q)))
-      (λ q. run-more least y b p q (run n (suc (numberIn y)) (drop (spanIn st y) y) (omega (arith, h, length-drop (spanIn st y) y)) (bytes-behind (spanIn st y) y b))))
+      (λ q. run-more least y b p q (run n (suc (numberIn y)) (drop span y) (omega (arith, h, length-drop span y)) (bytes-behind span y b))))
 
   -- So a book is sound, and then its phrases are read, or one of its numbers is due, and then that is its refusal.
   pub sound-read : {book : List ℕ} {fs : List Phrase} → Sound st book fs → readBook st book ≡ holds fs
@@ -235,7 +252,8 @@ module _ (st : Storage) where
       rw (s .bytes, ← append-nil (records st fs)) (read-all fs 0 0 [] (s .rising) ∙ all-holds fs [] ∙ ap holds (append-nil fs))
 
   module _ {book : List ℕ} {fs : List Phrase} {rest : List ℕ} (u : UpTo st book fs rest) where
-    stopped : (n : ℕ) → readFrom st 0 (length (records st fs)) (leastAfter 0 fs) rest ≡ unsound (refusal n (length (records st fs))) → readBook st book ≡ unsound (refusal n (length (records st fs)))
+    stopped : (n : ℕ) → readFrom st 0 (length (records st fs)) (leastAfter 0 fs) rest ≡ unsound (refusal n (length (records st fs)))
+        → readBook st book ≡ unsound (refusal n (length (records st fs)))
     unfolding readBook
     stopped n h =
         let z : 0 + length (records st fs) ≡ length (records st fs) = omega arith in
@@ -250,7 +268,8 @@ module _ (st : Storage) where
     stopped-15 : 0 < length rest → row15 st rest ≡ true → readBook st book ≡ unsound (refusal 15 (length (records st fs)))
     stopped-15 more h = stopped 15 (read-15 (length (records st fs)) (leastAfter 0 fs) rest more h)
 
-    stopped-16 : 0 < length rest → row15 st rest ≡ false → row16 (leastAfter 0 fs) rest ≡ true → readBook st book ≡ unsound (refusal 16 (length (records st fs)))
+    stopped-16 : 0 < length rest → row15 st rest ≡ false → row16 (leastAfter 0 fs) rest ≡ true
+        → readBook st book ≡ unsound (refusal 16 (length (records st fs)))
     stopped-16 more h k = stopped 16 (read-16 (length (records st fs)) (leastAfter 0 fs) rest more h k)
 
     -- that is no record's start
@@ -279,15 +298,22 @@ module _ (st : Storage) where
       let fs = r .phrases in
       let u : UpTo st book fs (r .rest) = record { bytes = r .bytes; rising = r .rising } in
       ⊎-elim
-      (λ e. let s : Sound st book fs = record { bytes = r .bytes ∙ ap (records st fs ++_) e ∙ append-nil (records st fs); rising = r .rising } in isSound fs s (sound-read s))
+      (λ e.
+      let all : book ≡ records st fs = r .bytes ∙ ap (records st fs ++_) e ∙ append-nil (records st fs) in
+      let s : Sound st book fs = record { bytes = all; rising = r .rising } in
+      isSound fs s (sound-read s))
       (λ e. ⊎-elim
       (λ h. isRefused 15 _ (omega arith, omega arith) (at-start (r .rest) (e .0) u h) (stopped-15 u (e .0) h))
       (λ h.
-      let w = stands-written (r .rest) (bytes-after u b) (standing (r .rest) (h .0)) in
-      let v : UpTo st book fs (recordOf st (phraseIn st (r .rest)) ++ drop (spanIn st (r .rest)) (r .rest)) = record { bytes = r .bytes ∙ ap (records st fs ++_) (w .bytes); rising = r .rising } in
-      isRefused 16 _ (omega arith, omega arith) (notAbove fs _ _ (w .fits) v (not-above (leastAfter 0 fs) (numberIn (r .rest)) (h .1))) (stopped-16 u (e .0) (h .0) (h .1))) (e .1)) (r .ends)
+      let x = r .rest in
+      let w = stands-written x (bytes-after u b) (standing x (h .0)) in
+      let v : UpTo st book fs (recordOf st (phraseIn st x) ++ drop (spanIn st x) x) =
+      record { bytes = r .bytes ∙ ap (records st fs ++_) (w .bytes); rising = r .rising } in
+      isRefused 16 _ (omega arith, omega arith) (notAbove fs _ _ (w .fits) v (not-above (leastAfter 0 fs) (numberIn x) (h .1)))
+      (stopped-16 u (e .0) (h .0) (h .1))) (e .1)) (r .ends)
     where
-      at-start : {fs : List Phrase} (rest : List ℕ) → 0 < length rest → UpTo st book fs rest → row15 st rest ≡ true → BookDue st book 15 (length (records st fs))
+      at-start : {fs : List Phrase} (rest : List ℕ) → 0 < length rest → UpTo st book fs rest → row15 st rest ≡ true
+          → BookDue st book 15 (length (records st fs))
       at-start [] more u h = absurd (omega (arith, more))
       at-start {fs} (c ∷ rest) more u h = noRecord fs c rest u (none-there u (bytes-after u b) h)
 

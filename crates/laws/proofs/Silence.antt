@@ -1,12 +1,14 @@
--- The law of silence: what a listener is told of a sound book is made of what he hears under the numbers he asks for, and where two books have the same for him he hears the same.
-use Rattle.laws.proofs.Kit.{ℕ, _≡_, refl, sym, ap, _∙_, false, true≢false, _⊎_, inl, inr, ⊎-elim, _↔_, List, [], _∷_, _++_, arith, length}
+-- The law of silence, in any storage: what a listener is told of a sound book is made of what he hears under the numbers he asks for, and
+-- where two books have the same for him he hears the same.
+use Rattle.laws.proofs.Kit.{ℕ, _≡_, refl, sym, ap, _∙_, false, true≢false, _⊎_, inl, inr, ⊎-elim, _↔_, List, [], _∷_, _++_}
+use Rattle.laws.proofs.Kit.{arith, length}
 use Rattle.spec.specs.Book.{Phrase, Storage, Sized, Bytes, bookIn, readBook, findAnswer, tapeAfter, Sound}
-use Rattle.spec.specs.BookDemands.{Listed, IsFor, Addition, usedAfter, asked, AnswerAlike, Silence, UnheardAddition}
+use Rattle.spec.specs.BookDemands.{Listed, IsFor, Addition, usedAfter, asked, AnswerAlike, BothSound, Silence, UnheardAddition}
 use Rattle.spec.specs.{Listeners.mayHear, declared.Listener.Listener}
 use Rattle.laws.proofs.{Book.Judged, Book.isSound, Book.isRefused, Book.judge, Book.sound-read, Book.bytes-in, Lookup.heard-same}
 use Rattle.laws.proofs.Additions.{added, AsBefore, Next, asBefore, oneMore, sound-next, unsound-next}
 
--- A phrase behind the others that is not for a listener is none for him.
+-- a list of phrases with one more behind
 listed-before : (f g : Phrase) (fs : List Phrase) → Listed f fs → Listed f (fs ++ (g ∷ []))
 listed-before f g [] h = absurd h
 listed-before f g (x ∷ fs) h = ⊎-elim (λ e. inl e) (λ r. inr (listed-before f g fs r)) h
@@ -19,8 +21,10 @@ listed-or f g (x ∷ fs) h = ⊎-elim (λ e. inl (inl e)) (λ r. ⊎-elim (λ s.
 module _ (st : Storage) where
   -- Two books that tell a listener the same of every number answer him alike.
   module _ (l : Listener) (buffer : List ℕ) (used : ℕ) (buffer₂ : List ℕ) (used₂ : ℕ) where
-    alike : ((n : ℕ) (old : List ℕ) → (findAnswer st l (readBook st (bookIn buffer used)) n ≡ findAnswer st l (readBook st (bookIn buffer₂ used₂)) n)
-        × (tapeAfter st l (readBook st (bookIn buffer used)) n old ≡ tapeAfter st l (readBook st (bookIn buffer₂ used₂)) n old)) → AnswerAlike st l buffer used buffer₂ used₂
+    alike : ((n : ℕ) (old : List ℕ)
+        → (findAnswer st l (readBook st (bookIn buffer used)) n ≡ findAnswer st l (readBook st (bookIn buffer₂ used₂)) n)
+        × (tapeAfter st l (readBook st (bookIn buffer used)) n old ≡ tapeAfter st l (readBook st (bookIn buffer₂ used₂)) n old))
+        → AnswerAlike st l buffer used buffer₂ used₂
     alike same [] [] k k₂ e = refl
     alike same [] (y ∷ ys) k k₂ e = absurd (omega (arith, ap length e))
     alike same (x ∷ xs) [] k k₂ e = absurd (omega (arith, ap length e))
@@ -44,23 +48,30 @@ module _ (st : Storage) where
         let h = heard-same st l n (g .both .phrases) (g .both .phrases₂) (g .both .sound .rising) (g .both .sound₂ .rising) (g .same n) in
         rw (e, e₂, h) (refl, refl))
 
-  not-for-him : (l : Listener) (g : Phrase) (fs : List Phrase) → mayHear l (g .set) ≡ false → (n : ℕ) (t : List ℕ) → IsFor st l fs n t ↔ IsFor st l (fs ++ (g ∷ [])) n t
+  -- A phrase behind the others that is not for a listener is none for him.
+  not-for-him : (l : Listener) (g : Phrase) (fs : List Phrase) → mayHear l (g .set) ≡ false → (n : ℕ) (t : List ℕ)
+      → IsFor st l fs n t ↔ IsFor st l (fs ++ (g ∷ [])) n t
   not-for-him l g fs h n t = (
     λ p. record { phrase = p .phrase; listed = listed-before _ g fs (p .listed); number = p .number; tape = p .tape; hears = p .hears },
     λ p. ⊎-elim (λ q. record { phrase = p .phrase; listed = q; number = p .number; tape = p .tape; hears = p .hears })
         (λ e. absurd (true≢false (sym (p .hears) ∙ ap (λ (f : Phrase). mayHear l (f .set)) e ∙ h))) (listed-or _ g fs (p .listed)),
   )
 
-  -- So no answer of his is changed by an addition that is not for him.
-  pub unheard-addition : Sized st → (l : Listener) (buffer : List ℕ) (used : ℕ) → Bytes buffer → (a : Addition) → UnheardAddition st l buffer used a
+  -- So no answer of his is changed by an addition that is not for him, where a tape is stored in as many bytes as its codes take.
+  pub unheard-addition : Sized st → (l : Listener) (buffer : List ℕ) (used : ℕ) → Bytes buffer → (a : Addition)
+      → UnheardAddition st l buffer used a
   unfolding usedAfter
   unheard-addition sized l buffer used b a kept not-his = of (judge st (bookIn buffer used) (bytes-in buffer used b)) where
     left : AsBefore buffer a → AnswerAlike st l buffer used (a .after) (usedAfter (a .answer) used)
     left k = rw (k .answer, k .after) (alike l buffer used buffer used (λ n old. (refl, refl)))
 
-    next : (fs : List Phrase) → Sound st (bookIn buffer used) fs → Next st buffer fs a → AnswerAlike st l buffer used (a .after) (usedAfter (a .answer) used)
+    next : (fs : List Phrase) → Sound st (bookIn buffer used) fs → Next st buffer fs a
+        → AnswerAlike st l buffer used (a .after) (usedAfter (a .answer) used)
     next fs s (asBefore k) = left k
-    next fs s (oneMore k r z t) = rw r (silence l buffer used (a .after) k (record { both = record { phrases = fs; phrases₂ = fs ++ (added st a ∷ []); sound = s; sound₂ = t }; same = not-for-him l (added st a) fs not-his }))
+    next fs s (oneMore k r z t) =
+        let both : BothSound st (bookIn buffer used) (bookIn (a .after) k) =
+        record { phrases = fs; phrases₂ = fs ++ (added st a ∷ []); sound = s; sound₂ = t } in
+        rw r (silence l buffer used (a .after) k (record { both = both; same = not-for-him l (added st a) fs not-his }))
 
     of : Judged st (bookIn buffer used) → AnswerAlike st l buffer used (a .after) (usedAfter (a .answer) used)
     of (isSound fs s e) = next fs s (sound-next st kept s sized)

@@ -1,4 +1,4 @@
--- The phrase book (paper 02, slips 6 and 7): lists of sets, of books, of lookups and of additions, proved by computing the definitions.
+-- The phrase book (paper 02, requests 6 and 7): lists of sets, of books, of lookups and of additions, proved by computing the definitions.
 -- Assumes nothing.
 use Prim.Native.Nat.{ℕ}
 use Prim.Native.String as text
@@ -28,14 +28,16 @@ hearers set = (mayHear Pump set, mayHear Road set, mayHear Dispatch set)
 
 -- nobody, each alone, all; bits 3 to 7, and those with road's
 pub sets-right : map hearers (0 ∷ 1 ∷ 2 ∷ 4 ∷ 7 ∷ 248 ∷ 250 ∷ [])
-    ≡ ((false, false, false) ∷ (true, false, false) ∷ (false, true, false) ∷ (false, false, true) ∷ (true, true, true) ∷ (false, false, false) ∷ (false, true, false) ∷ [])
+    ≡ ((false, false, false) ∷ (true, false, false) ∷ (false, true, false) ∷ (false, false, true)
+    ∷ (true, true, true) ∷ (false, false, false) ∷ (false, true, false) ∷ [])
 unfolding everything
 sets-right = refl
 
 abbrev phrase : ℕ → ℕ → List ℕ → Phrase
 phrase n set t = record { number = n; set = set; count = length t; stored = bookStorage .store t }
 
--- two records: number 1 for pump crews and dispatch, with the tape of дуб, and 770, which is 3 * 256 + 2, for road crews, with a tape of one code; its set has bits 3 to 7, too
+-- two records: number 1 for pump crews and dispatch, with the tape of дуб, and 770, which is 3 * 256 + 2, for road crews, with a tape of
+-- one code; its set has bits 3 to 7, too
 unfoldable pub first : List ℕ
 first = 82 ∷ 159 ∷ 1 ∷ 0 ∷ 5 ∷ 3 ∷ 0 ∷ 24 ∷ 6 ∷ 39 ∷ []
 
@@ -54,8 +56,9 @@ pub record Example : Type 0 where
   pub book : List ℕ
   pub reading : Reading
 
--- Sound books: none, two, the first number 0, a tape of no code, the last number there is. Then 15: cut short by the last byte, in the head, a byte after the last record, either byte of the mark wrong, a record of slip 6, a length that
--- is one too large or has its bytes exchanged. Then 16: equal, smaller. At one place 15 before 16, and else the smallest place.
+-- Sound books: none, two, the first number 0, a tape of no code, the last number there is. Then 15: cut short by the last byte, in the
+-- head, a byte after the last record, either byte of the mark wrong, a record of request 6, a length that is one too large or has its bytes
+-- exchanged. Then 16: equal, smaller. At one place 15 before 16, and else the smallest place.
 unfoldable pub examples : List Example
 examples =
     (record { book = []; reading = holds [] }) ∷
@@ -93,14 +96,17 @@ pub record Lookup : Type 0 where
   pub place : Located
 
 abbrev heardAt : Listener → List ℕ → ℕ → ℕ → List ℕ → ℕ → Lookup
-heardAt l buffer used n t start = record { listener = l; buffer = buffer; used = used; number = n; told = found.Tape; tape = t; place = located.At start (length t) }
+heardAt l buffer used n t start =
+    record { listener = l; buffer = buffer; used = used; number = n; told = found.Tape; tape = t; place = located.At start (length t) }
 
 abbrev refusedAt : Listener → List ℕ → ℕ → ℕ → ℕ → ℕ → Lookup
 refusedAt l buffer used n k p =
-    record { listener = l; buffer = buffer; used = used; number = n; told = found.Refused (refusal k p); tape = 9 ∷ []; place = located.Refused (refusal k p) }
+    let r = refusal k p in
+    record { listener = l; buffer = buffer; used = used; number = n; told = found.Refused r; tape = 9 ∷ []; place = located.Refused r }
 
--- Each record by each listener, and a number that is not there, which gets the same answer as one that is not for him. Bytes after the used count, which are no part of the book; a count above the buffer's length. 15 and 16 before 17, for a
--- record that is found before the book turns out to be damaged, for one that is not for this listener, and for none.
+-- Each record by each listener, and a number that is not there, which gets the same answer as one that is not for him. Bytes after the used
+-- count, which are no part of the book; a count above the buffer's length. 15 and 16 before 17, for a record that is found before the book
+-- turns out to be damaged, for one that is not for this listener, and for none.
 unfoldable pub lookups : List Lookup
 lookups =
     heardAt Pump (first ++ second) 18 1 (24 ∷ 6 ∷ 39 ∷ []) 7 ∷
@@ -122,15 +128,18 @@ lookups =
 abbrev readingOf : Lookup → Reading
 readingOf l = readBook bookStorage (bookIn (l .buffer) (l .used))
 
-pub told-right : map (λ (l : Lookup). findAnswer bookStorage (l .listener) (readingOf l) (l .number)) lookups ≡ map (λ (l : Lookup). l .told) lookups
+pub told-right : map (λ (l : Lookup). findAnswer bookStorage (l .listener) (readingOf l) (l .number)) lookups
+    ≡ map (λ (l : Lookup). l .told) lookups
 unfolding everything lookups first second
 told-right = refl
 
-pub tapes-right : map (λ (l : Lookup). tapeAfter bookStorage (l .listener) (readingOf l) (l .number) (9 ∷ [])) lookups ≡ map (λ (l : Lookup). l .tape) lookups
+pub tapes-right : map (λ (l : Lookup). tapeAfter bookStorage (l .listener) (readingOf l) (l .number) (9 ∷ [])) lookups
+    ≡ map (λ (l : Lookup). l .tape) lookups
 unfolding everything lookups first second
 tapes-right = refl
 
-pub places-right : map (λ (l : Lookup). locateAnswer (l .listener) (readingOf l) (l .number)) lookups ≡ map (λ (l : Lookup). l .place) lookups
+pub places-right : map (λ (l : Lookup). locateAnswer (l .listener) (readingOf l) (l .number)) lookups
+    ≡ map (λ (l : Lookup). l .place) lookups
 unfolding everything lookups first second
 places-right = refl
 
@@ -146,13 +155,18 @@ pub record Added : Type 0 where
   pub after : List ℕ
 
 abbrev adds : List ℕ → ℕ → ℕ → ℕ → text.String → ℕ → List ℕ → Added
-adds buffer used n set m size after = record { listener = Dispatch; buffer = buffer; used = used; number = n; set = set; message = m; answer = answer.Written size 0; after = after }
+adds buffer used n set m size after =
+    let r = answer.Written size 0 in
+    record { listener = Dispatch; buffer = buffer; used = used; number = n; set = set; message = m; answer = r; after = after }
 
 abbrev refuses : Listener → List ℕ → ℕ → ℕ → text.String → ℕ → ℕ → Added
-refuses l buffer used n m k p = record { listener = l; buffer = buffer; used = used; number = n; set = 5; message = m; answer = answer.Refused (refusal k p); after = buffer }
+refuses l buffer used n m k p =
+    let r = answer.Refused (refusal k p) in
+    record { listener = l; buffer = buffer; used = used; number = n; set = 5; message = m; answer = r; after = buffer }
 
--- To an empty book with just room, with a byte more, and with a byte less. To a book, whose last bytes stay; a count above the buffer's length. A number that is equal to the last, below it, and any after 65535. Then the
--- order: 17 before the message's refusal, before the book's and before all others; the message's refusal before the book's, 15 before 16 at the end, and 11 last.
+-- To an empty book with just room, with a byte more, and with a byte less. To a book, whose last bytes stay; a count above the buffer's
+-- length. A number that is equal to the last, below it, and any after 65535. Then the order: 17 before the message's refusal, before the
+-- book's and before all others; the message's refusal before the book's, 15 before 16 at the end, and 11 last.
 unfoldable pub additions : List Added
 additions =
     adds (7 ∷ 7 ∷ 7 ∷ 7 ∷ 7 ∷ 7 ∷ 7 ∷ 7 ∷ 7 ∷ 7 ∷ []) 0 1 5 "ду*б" 10 first ∷

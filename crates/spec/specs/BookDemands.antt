@@ -1,6 +1,6 @@
--- What holds of a phrase book (paper 02, requests 6 and 7) in any storage: of one lookup or addition
--- (`book-demands` of crate laws proves it), of a list of additions (`additions-kept`), and that a
--- listener learns nothing of what is not for him (`silence`, and for one addition
+-- What holds of a phrase book (paper 02, requests 6 and 7) in any storage: of one lookup or
+-- addition (`book-demands` of crate laws proves it), of a list of additions (`additions-kept`), and
+-- that a listener learns nothing of what is not for him (`silence`, and for one addition
 -- `unheard-addition`). What holds in the plain storage besides, `plain-demands` and
 -- `additions-located`, comes last.
 -- Assumes nothing: these are definitions.
@@ -16,8 +16,8 @@ use Rattle.spec.specs.Listeners.{mayHear, mayWrite}
 use Rattle.spec.specs.Tape.{tape}
 use Rattle.spec.specs.Book.{Phrase, Storage, plain, recordOf, records, bookIn, search, tapeOf}
 use Rattle.spec.specs.Book.{heard, told, handed, FindPromise, leastAfter, NewPhrase, phraseOf}
-use Rattle.spec.specs.Book.{withAddition, AddPromise, Fits, RisingFrom, Sound, startOf, placed}
-use Rattle.spec.specs.Book.{toldOf, partAt, LocatePromise}
+use Rattle.spec.specs.Book.{withAddition, AddPromise, Fits, RisingFrom, Sound, startOf}
+use Rattle.spec.specs.Book.{placed, toldOf, partAt, LocatePromise}
 use Rattle.spec.specs.declared.Listener.{Listener}
 use Rattle.spec.specs.declared.Answer.{Answer}
 use Rattle.spec.specs.declared.Answer.the-variants.{Written, Refused}
@@ -172,8 +172,8 @@ module _ (st : Storage) where
         → AddPromise st l buffer used x buffer′ r
         → take (length (bookIn buffer used)) buffer′ ≡ bookIn buffer used
 
-  -- An addition to this buffer and used count: its number has two bytes and its set one, and it keeps
-  -- its promise.
+  -- An addition to this buffer and used count: its number has two bytes and its set one, and it
+  -- keeps its promise.
   pub record AddedTo (buffer : List ℕ) (used : ℕ) (a : Addition) : Type 0 where
     pub number : a .phrase .number < 65536
     pub set : a .phrase .set < 256
@@ -232,14 +232,14 @@ module _ (st : Storage) where
     pub both : BothSound book book₂
     pub same : (n : ℕ) (t : List ℕ) → IsFor l (both .phrases) n t ↔ IsFor l (both .phrases₂) n t
 
-  -- Request 7, the law of silence, which the field calls noninterference. Two sound books that agree
-  -- in what a listener may hear answer him alike, whatever else they hold, whatever else is in the
-  -- sets, and wherever the records stand. It is one theorem for pump crews, road crews and dispatch.
-  -- An answer is what is handed back: a refusal's number and place, or the tape's bytes. Where in
-  -- the book these stand is no part of it. What it does not cover: 15 and 16, which tell of the
-  -- state of the whole book, so both must be sound; time, since a lookup goes through every record,
-  -- and takes a few instructions more for a phrase that is not for him than for one that is not
-  -- there; and the start that a caller in C is told, who has the whole book at hand.
+  -- Request 7, the law of silence, which the field calls noninterference. Two sound books that
+  -- agree in what a listener may hear answer him alike, whatever else they hold, whatever else is
+  -- in the sets, and wherever the records stand. It is one theorem for pump crews, road crews and
+  -- dispatch. An answer is what is handed back: a refusal's number and place, or the tape's bytes.
+  -- Where in the book these stand is no part of it. What it does not cover: 15 and 16, which tell
+  -- of the state of the whole book, so both must be sound; time, since a lookup goes through every
+  -- record, and takes a few instructions more for a phrase that is not for him than for one that is
+  -- not there; and the start that a caller in C is told, who has the whole book at hand.
   abbrev pub Silence : Listener → List ℕ → ℕ → List ℕ → ℕ → Type 0
   Silence l buffer used buffer₂ used₂ =
       AgreeFor l (bookIn buffer used) (bookIn buffer₂ used₂)

@@ -1,7 +1,7 @@
 -- The walk over the book tells where the tape stands.
 use Rattle.laws.proofs.Kit.{_≡_, sym, _∙_, arith, length-take-le, needs}
-use Rattle.spec.specs.{Book.bookStorage, Book.readBook, Book.bookIn, Book.locateAnswer, declared.Answer.the-variants.Written}
-use Rattle.spec.specs.Book.{Bytes}
+use Rattle.spec.specs.Book.{bookStorage, readBook, Bytes, bookIn, locateAnswer}
+use Rattle.spec.specs.declared.Answer.the-variants.{Written}
 use Rattle.laws.proofs.{Book.bytes-in, Lookup.locate-promised}
 use Rattle.book.specs.{Walking.walkedOf, Walking.PlaceIn, Walking.toldAt}
 use Rattle.book.proofs.Walks.{told-walked, walked-unsound}
@@ -9,7 +9,9 @@ use Rattle.book.proofs.lookup.locate.Statement.{statement}
 use Rattle.book.proofs.lookup.locate.Tie as tie
 
 -- what was walked over is the book
-walked : (c : tie.After-walk) → let s = c .before .before .before .before in c .walk .result ≡ walkedOf (readBook bookStorage (bookIn (s .args .buffer .now) (s .args .used))) (s .args .wanted)
+walked : (c : tie.After-walk) → let s = c .before .before .before .before in
+    let book = bookIn (s .args .buffer .now) (s .args .used) in
+    c .walk .result ≡ walkedOf (readBook bookStorage book) (s .args .wanted)
 walked c = let b = c .before .before in rw (← b .book-end .ensures .book) (c .walk .ensures)
 
 -- in a buffer of bytes
@@ -19,11 +21,14 @@ known c j = omega (arith, c .before .before .before .shared-slice-known .given j
 -- and what it comes to tells the listener what he must be told
 told : (c : tie.After-place) → let s = c .before .before .before .before .before .before in
     let book = bookIn (s .args .buffer .now) (s .args .used) in
-    PlaceIn book (c .place .given .0 .1 .0) × (toldAt (s .args .listener) book (c .place .given .0 .1 .0) ≡ locateAnswer (s .args .listener) (readBook bookStorage book) (s .args .wanted))
+    let place = c .place .given .0 .1 .0 in
+    PlaceIn book place
+    × (toldAt (s .args .listener) book place ≡ locateAnswer (s .args .listener) (readBook bookStorage book) (s .args .wanted))
 told c =
     let w = c .before .before in
     let s = w .before .before .before .before in
-    told-walked (s .args .listener) (bookIn (s .args .buffer .now) (s .args .used)) (s .args .wanted) (bytes-in (s .args .buffer .now) (s .args .used) (known w)) (sym (walked w) ∙ c .place .given .1)
+    let bytes = bytes-in (s .args .buffer .now) (s .args .used) (known w) in
+    told-walked (s .args .listener) (bookIn (s .args .buffer .now) (s .args .used)) (s .args .wanted) bytes (sym (walked w) ∙ c .place .given .1)
 
 pub locate-spec : {M : Type 1} → statement M
 locate-spec =
@@ -38,4 +43,6 @@ locate-spec =
     let d = c .before .before in
     let w = d .before .before in
     locate-promised _ _ _ _ (known w) (c .tell .ensures ∙ rw (w .before .before .book-end .ensures .book) (told d .1)))
-    (λ c. let w = c .before .before .before in locate-promised _ _ _ _ (known w) (sym (walked-unsound _ _ _ 0 (Written 0 0) (sym (walked w) ∙ c .before .r .given .1) .0))))
+    (λ c.
+    let w = c .before .before .before in
+    locate-promised _ _ _ _ (known w) (sym (walked-unsound _ _ _ 0 (Written 0 0) (sym (walked w) ∙ c .before .r .given .1) .0))))

@@ -13,18 +13,24 @@ abbrev μ-loop : tie.MeasureT-loop
 μ-loop book wanted i₀ s₀ i s = length book - i
 
 -- a record stands at the place,
-there : (c : tie.Then1 Inv-loop μ-loop) → let l = c .before .before in Stands bookStorage (drop (l .loop .i) (l .before .before .args .book .now))
+there : (c : tie.Then1 Inv-loop μ-loop) → let l = c .before .before in
+    Stands bookStorage (drop (l .loop .i) (l .before .before .args .book .now))
 there c = record-stands bookStorage _ (sym (c .before .is-record .ensures) ∙ c .if1 .taken)
 
 -- within the book,
-inside : (c : tie.Then1 Inv-loop μ-loop) → let l = c .before .before in l .loop .i + spanIn bookStorage (drop (l .loop .i) (l .before .before .args .book .now)) ≤ length (l .before .before .args .book .now)
+inside : (c : tie.Then1 Inv-loop μ-loop) → let l = c .before .before in
+    let book = l .before .before .args .book .now in
+    l .loop .i + spanIn bookStorage (drop (l .loop .i) book) ≤ length book
 inside c =
     let l = c .before .before in
     omega (arith, l .loop .inv .inside, there c .whole, length-drop (l .loop .i) (l .before .before .args .book .now))
 
 -- and this is its number
-number-there : (c : tie.After-pair-at Inv-loop μ-loop) → let l = c .before .before .before in c .pair-at .result ≡ numberIn (drop (l .loop .i) (l .before .before .args .book .now))
-number-there c = let l = c .before .before .before in c .pair-at .ensures .0 ∙ pair-behind (l .before .before .args .book .now) (l .loop .i) numberPlace
+number-there : (c : tie.After-pair-at Inv-loop μ-loop) → let l = c .before .before .before in
+    c .pair-at .result ≡ numberIn (drop (l .loop .i) (l .before .before .args .book .now))
+number-there c =
+    let l = c .before .before .before in
+    c .pair-at .ensures .0 ∙ pair-behind (l .before .before .args .book .now) (l .loop .i) numberPlace
 
 pub walk-spec : {M : Type 1} → statement M
 walk-spec =
@@ -40,6 +46,7 @@ walk-spec =
     (λ c. omega (arith, c .record-end .ensures, inside (c .before .before .before .before .before)))
     (λ c.
     let p = c .before .before .before .before in
-    going-more (p .before .before .before .loop .inv) (there (p .before)) (number-there p) (c .record-end .ensures) (c .before .before .if2 .left) (c .before .note .ensures))
+    going-more (p .before .before .before .loop .inv) (there (p .before)) (number-there p) (c .record-end .ensures)
+    (c .before .before .if2 .left) (c .before .note .ensures))
     (λ c. let r = c .before .before in going-15 (r .before .loop .inv) (c .if3 .taken) (sym (r .is-record .ensures) ∙ c .before .if1 .left))
     (λ c. going-all (c .before .before .before .loop .inv) (c .if3 .left)))
