@@ -1,12 +1,12 @@
 -- The list of additions in C: each call is an addition, and the caller's count is the used count after it, since no refusal has number 0.
-use Rattle.laws.proofs.Kit.{ℕ, _≤_, _≡_, refl, sym, _∙_, cond, List, [], _∷_, arith, eqb, ne-eqb}
+use Rattle.laws.proofs.Kit.{ℕ, _≡_, refl, cond, List, [], _∷_, arith, eqb, ne-eqb}
 use Rattle.spec.specs.Answers.{numberOf, lengthOf, outputAfter}
-use Rattle.spec.specs.Book.{Phrase, bookStorage, NewPhrase, phraseOf, afterListener, withAddition, addAnswer, AddPromise}
-use Rattle.spec.specs.BookDemands.{Addition, AddedTo, usedAfter, addedBy, OneByOne, lastBuffer, lastUsed, accepted}
+use Rattle.spec.specs.Book.{Phrase, bookStorage, NewPhrase, phraseOf, afterListener, addAnswer, AddPromise}
+use Rattle.spec.specs.BookDemands.{Addition, usedAfter, addedBy, OneByOne, lastBuffer, lastUsed, accepted}
 use Rattle.spec.specs.{declared.Listener.Listener, declared.Listener.the-variants.Pump, declared.Answer.Answer}
 use Rattle.spec.specs.{declared.Answer.the-variants.Written, declared.Answer.the-variants.Refused}
 use Rattle.laws.proofs.Additions.{Numbered, add-numbered, additions-located}
-use Rattle.capi.specs.Said.{SaidAdded, named, AddsFor, Call, CalledOn, isAccepted, countAfter, CallByCall, bufferAfterAll}
+use Rattle.capi.specs.Said.{SaidAdded, named, AddsFor, Call, countAfter, CallByCall, bufferAfterAll}
 use Rattle.capi.specs.Said.{countAfterAll, acceptedCalls, AdditionsInC}
 use Rattle.capi.specs.{declared.GovorunAdded.GovorunAdded, declared.Named.Named, declared.Named.the-variants.Known}
 use Rattle.capi.specs.{declared.Named.the-variants.Other}

@@ -2,7 +2,7 @@
 -- records of some rising phrases and then their end or the first place of a refusal. Of the storage nothing is asked.
 use Rattle.laws.proofs.Kit.{ℕ, zero, suc, _+_, _-_, _*_, _/_, _%_, _<_, _≤_, _≡_, refl, sym, ap, _∙_, true, false, not, _&&_}
 use Rattle.laws.proofs.Kit.{true≢false, false≢true, _⊎_, inl, inr, ⊎-elim, List, [], _∷_, _++_, append-assoc, append-nil, arith, eqb}
-use Rattle.laws.proofs.Kit.{leb, length, take, drop, getD, length-append, length-drop, take-append-drop, take-at, drop-at, getD-drop}
+use Rattle.laws.proofs.Kit.{leb, length, take, drop, length-append, length-drop, take-append-drop, take-at, drop-at, getD-drop}
 use Rattle.laws.proofs.Kit.{getD-take, List·getD-eq-default, drop-drop, length-take, length-take-le, eqb-true, eq-eqb, leb-true}
 use Rattle.laws.proofs.Kit.{le-leb, lt-leb}
 use Rattle.spec.specs.Book.{Phrase, Storage, recordMark, twoBytes, headOf, recordOf, records, headSize, numberIn, setIn, lengthIn, spanIn}
