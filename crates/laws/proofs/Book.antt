@@ -196,7 +196,8 @@ module _ (st : Storage) where
   read-all [] place least rest h = let e : place + 0 ≡ place = omega arith in rw e refl
   read-all (f ∷ fs) place least rest h =
       let here = recordOf st f in
-      let e : place + length (here ++ records st fs) ≡ place + length here + length (records st fs) = omega (arith, length-append here (records st fs)) in
+      let all = length-append here (records st fs) in
+      let e : place + length (here ++ records st fs) ≡ place + length here + length (records st fs) = omega (arith, all) in
       rw (append-assoc here (records st fs) rest, e)
       (read-one place least f (records st fs ++ rest) (h .0) (h .1)
       ∙ ap (f then_) (read-all fs (place + length here) (suc (f .number)) rest (h .2)))

@@ -28,7 +28,8 @@ told c =
     let w = c .before .before in
     let s = w .before .before .before .before in
     let bytes = bytes-in (s .args .buffer .now) (s .args .used) (known w) in
-    told-walked (s .args .listener) (bookIn (s .args .buffer .now) (s .args .used)) (s .args .wanted) bytes (sym (walked w) ∙ c .place .given .1)
+    let found = sym (walked w) ∙ c .place .given .1 in
+    told-walked (s .args .listener) (bookIn (s .args .buffer .now) (s .args .used)) (s .args .wanted) bytes found
 
 pub locate-spec : {M : Type 1} → statement M
 locate-spec =
