@@ -11,7 +11,7 @@ use Rattle.spec.specs.{declared.Answer.the-variants.Written, declared.Answer.th
 use Rattle.laws.proofs.{Classes.either, Accepted.accepted-counts, Book.record-size, Promises.promised, Promises.promised-short}
 use Rattle.laws.proofs.Promises.{promised-written}
 use Rattle.laws.specs.Putting.{Put}
-use Rattle.book.specs.Walking.{EndOf}
+use Rattle.records.specs.Walking.{EndOf}
 
 -- a refusal, or what is answered where there is none
 abbrev unlessRefused : Answer → Answer → Answer

@@ -1,7 +1,7 @@
 -- The check's tables by their rules: each entry is what specs/Steps.antt says, by one computation over all of them.
-use Rattle.laws.proofs.Kit.{ℕ, zero, suc, _+_, _-_, _*_, _/_, _%_, _<_, _≤_, _≡_, refl, _∙_, true, false, cond, List, map, arith, eqb, leb, getD}
+use Rattle.laws.proofs.Kit.{ℕ, _+_, _-_, _*_, _/_, _%_, _<_, _≤_, _≡_, refl, true, cond, List, map, arith, eqb, leb, getD}
 use Rattle.laws.proofs.Kit.{eqb-true, eqb-false, leb-true}
-use Rattle.letters.specs.Classes.{classOf, classCount, classAt, isBreakClass, isConsonantClass, isSignClass, elidedAt, silentAt}
+use Rattle.letters.specs.Classes.{classCount, classAt, isBreakClass, isConsonantClass, isSignClass, elidedAt, silentAt}
 use Rattle.message.specs.Steps.{isSoftSignKind, isSignKind, nextKind, faultIn, widthIn, namesIn, askIn, stopIn, packed, pairs, kindAt, widthAt, nameUnit, askUnit, stopUnit}
 use Rattle.letters.proofs.{Silent.class-spoken, Silent.before-spoken, Tabulated.tabulate-at}
 use Rattle.message.proofs.Computed.{everything}

@@ -3,7 +3,6 @@
 -- than its contract says is not proved.
 -- Assumes nothing: these are definitions.
 use Prim.Native.Nat.{ℕ}
-use mathlib.Core.List.{List, [], _∷_}
 
 -- Paper 01, 'Turned-away messages'
 -- no bytes

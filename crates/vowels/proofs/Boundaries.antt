@@ -5,7 +5,7 @@ use Rattle.spec.specs.Alphabet.{«ь»}
 use Rattle.spec.specs.Letters.{small, isBreak, isGap, isMark}
 use Rattle.spec.specs.{Vowels.initial, Vowels.hardEnd}
 use Rattle.letters.specs.Classes.{classOf, gapClass, pauseClass, softSignClass, isBreakClass, byteBefore}
-use Rattle.letters.specs.Places.{Steady, ByteTells}
+use Rattle.letters.specs.Places.{Steady}
 use Rattle.letters.proofs.Bytes.{by-class, not-both, vowel-break, vowel-mark}
 use Rattle.letters.proofs.{Before.ClassesAlike, Before.classes-alike, Computed.everything}
 use Rattle.laws.proofs.Classes.{cond-by, either, below-same}

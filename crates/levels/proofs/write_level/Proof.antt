@@ -5,7 +5,7 @@ use mir.Syntax.{w32}
 use mir.Val.{ofZ}
 use Rattle.spec.specs.SpokenLevels.{bytes, numberWords, levelWords}
 use Rattle.spec.proofs.Computed.{everything}
-use Rattle.numerals.specs.Placing.{Room, Adds}
+use Rattle.numerals.specs.Placing.{Room}
 use Rattle.levels.specs.LevelParts.{signWords, partWords}
 use Rattle.numerals.proofs.Placed.{room-first, room-next, adds-both}
 use Rattle.levels.proofs.LevelParts.{level-room, level-put, sign-words, parts-words}

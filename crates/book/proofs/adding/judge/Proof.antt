@@ -1,7 +1,7 @@
 -- The walk's refusal is answered, then a number that is not above the last.
 use Rattle.laws.proofs.Kit.{sym, _∙_, refl, le-leb, lt-leb, needs}
 use Rattle.spec.specs.declared.Listener.the-variants.{Dispatch}
-use Rattle.book.proofs.Walks.{walked-sound, walked-unsound}
+use Rattle.book.proofs.Told.{walked-sound, walked-unsound}
 use Rattle.book.proofs.adding.judge.Statement.{statement}
 use Rattle.book.proofs.adding.judge.Tie as tie
 

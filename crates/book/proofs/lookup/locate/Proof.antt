@@ -3,8 +3,9 @@ use Rattle.laws.proofs.Kit.{_≡_, sym, _∙_, arith, length-take-le, needs}
 use Rattle.spec.specs.Book.{bookStorage, readBook, Bytes, bookIn, locateAnswer}
 use Rattle.spec.specs.declared.Answer.the-variants.{Written}
 use Rattle.laws.proofs.{Book.bytes-in, Lookup.locate-promised}
-use Rattle.book.specs.{Walking.walkedOf, Walking.PlaceIn, Walking.toldAt}
-use Rattle.book.proofs.Walks.{told-walked, walked-unsound}
+use Rattle.records.specs.Walking.{walkedOf}
+use Rattle.book.specs.Entries.{PlaceIn, toldAt}
+use Rattle.book.proofs.Told.{told-walked, walked-unsound}
 use Rattle.book.proofs.lookup.locate.Statement.{statement}
 use Rattle.book.proofs.lookup.locate.Tie as tie
 

@@ -2,8 +2,8 @@
 use Rattle.laws.proofs.Kit.{_≡_, sym, _∙_, length-take-le, needs}
 use Rattle.spec.specs.Book.{bookStorage, readBook, bookIn}
 use Rattle.spec.specs.{declared.Listener.the-variants.Dispatch, declared.Answer.the-variants.Written}
-use Rattle.book.specs.{Walking.walkedOf}
-use Rattle.book.proofs.Walks.{walked-sound, walked-unsound}
+use Rattle.records.specs.Walking.{walkedOf}
+use Rattle.book.proofs.Told.{walked-sound, walked-unsound}
 use Rattle.book.proofs.lookup.refuse.Statement.{statement}
 use Rattle.book.proofs.lookup.refuse.Tie as tie
 

@@ -1,7 +1,7 @@
 -- At the book's end there is nothing to tell; and else the record's own head tells.
 use Rattle.laws.proofs.Kit.{_+_, _≤_, _∙_, refl, sym, arith, length, getD-drop, le-leb, lt-leb, needs}
 use Rattle.spec.specs.Book.{headSize, setPlace, lengthPlace}
-use Rattle.book.proofs.Walks.{pair-behind}
+use Rattle.records.proofs.Walks.{pair-behind}
 use Rattle.book.proofs.lookup.tell.Statement.{statement}
 use Rattle.book.proofs.lookup.tell.Tie as tie
 

@@ -1,6 +1,5 @@
 -- The class tells a break; where it is none, the place is not the first and the byte before it is a byte of the message.
 use Rattle.laws.proofs.Kit.{_<_, _≡_, sym, ap, _∙_, true, false, true≢false, arith, needs}
-use Rattle.letters.specs.Classes.{isBreakClass}
 use Rattle.letters.proofs.Before.{before-at}
 use Rattle.vowels.specs.{VowelSounds.letterBefore, declared.LetterBefore.the-variants.Byte}
 use Rattle.vowels.proofs.Boundaries.{past-start}

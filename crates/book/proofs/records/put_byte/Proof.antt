@@ -1,8 +1,0 @@
--- A store puts one byte.
-use Rattle.laws.proofs.Kit.{needs}
-use Rattle.laws.proofs.Putting.{put-at}
-use Rattle.book.proofs.records.put_byte.Statement.{statement}
-use Rattle.book.proofs.records.put_byte.Tie as tie
-
-pub put-byte-spec : {M : Type 1} → statement M
-put-byte-spec = tie.close (tie.spec (λ c. search needs) (λ c. search needs) (λ c. search needs) (λ c. put-at (c .args .out .now) (c .args .i) (c .args .b) (c .pre)))
