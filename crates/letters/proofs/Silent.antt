@@ -6,7 +6,7 @@ use Rattle.spec.specs.Alphabet.{pause, «д», «з», «к», «н», «р», 
 use Rattle.spec.specs.Letters.{read, firstWord, firstByte, small, hardOnly, paired, softOnly, isMark, isBreak, isConsonant}
 use Rattle.spec.specs.Elision.{secondByte, elides, elidesT, elidesD, elidesAmong}
 use Rattle.spec.specs.Tables.{among}
-use Rattle.letters.specs.Classes.{classOf, pairedClass, letterAt, byteBefore, elidedAt}
+use Rattle.letters.specs.Classes.{classOf, pairedClass, tOrDClass, letterAt, byteBefore, elidedAt}
 use Rattle.letters.specs.Places.{lastAt, wordAt, letterOf, Steady, consonantsAndSigns, Alike}
 use Rattle.letters.proofs.Before.{alike-same, alike-break, byte-tells}
 use Rattle.laws.proofs.Elided.{other-stays}
@@ -32,9 +32,9 @@ alike-elides p q b c c′ d d′ f g h =
         by false e = rw (← g .each x i, e)
 
 -- a byte of another class than т and д is not elided
-pub class-spoken : (m : List ℕ) (i : ℕ) → getD m i 0 < 256 → (classOf (getD m i 0) ≡ 8 → ⊥) → elidedAt m i ≡ false
+pub class-spoken : (m : List ℕ) (i : ℕ) → getD m i 0 < 256 → (classOf (getD m i 0) ≡ tOrDClass → ⊥) → elidedAt m i ≡ false
 unfolding elidedAt letterAt
-class-spoken m i h n = other-stays _ (small (getD m i 0)) _ _ (by-class (getD m i 0) h .silent ∙ ne-eqb (classOf (getD m i 0)) 8 n)
+class-spoken m i h n = other-stays _ (small (getD m i 0)) _ _ (by-class (getD m i 0) h .silent ∙ ne-eqb (classOf (getD m i 0)) tOrDClass n)
 
 -- the letters after which т and д are elided
 abbrev beforeSilent : List ℕ
@@ -48,16 +48,16 @@ after-spoken p b c d e = simp (no «с» refl, no «н» refl, no «р» refl, n
     no : (x : ℕ) → among beforeSilent x ≡ true → eqb p x ≡ false
     no x i = among-none beforeSilent p x e i
 
--- all of them are of class 7
+-- all of them are paired, and neither т nor д
 class-before : (b : ℕ) → b < 256 → not (eqb (classOf b) pairedClass) ≡ true → among beforeSilent (small b) ≡ false
 unfolding everything
 class-before b = not-both (λ x. not (eqb (classOf x) pairedClass)) (λ x. among beforeSilent (small x)) b refl
 
--- so a byte after another class than 7, or first, is not elided
-pub before-spoken : (m : List ℕ) (i : ℕ) → ((j : ℕ) → getD m j 0 < 256) → ((j : ℕ) → i ≡ suc j → classOf (getD m j 0) ≡ 7 → ⊥) → elidedAt m i ≡ false
+-- so a byte after another class, or first, is not elided
+pub before-spoken : (m : List ℕ) (i : ℕ) → ((j : ℕ) → getD m j 0 < 256) → ((j : ℕ) → i ≡ suc j → classOf (getD m j 0) ≡ pairedClass → ⊥) → elidedAt m i ≡ false
 unfolding among elidedAt byteBefore letterAt small
 before-spoken m zero h n = after-spoken (small pause) _ _ _ refl
-before-spoken m (suc i) h n = after-spoken (small (getD m i 0)) _ _ _ (class-before (getD m i 0) (h i) (rw (ne-eqb (classOf (getD m i 0)) 7 (n i refl))))
+before-spoken m (suc i) h n = after-spoken (small (getD m i 0)) _ _ _ (class-before (getD m i 0) (h i) (rw (ne-eqb (classOf (getD m i 0)) pairedClass (n i refl))))
 
 module _ (m : List ℕ) (steady : Steady m) where
   -- no mark stands after a consonant

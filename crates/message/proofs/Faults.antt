@@ -2,8 +2,10 @@
 use Rattle.laws.proofs.Kit.{ℕ, zero, suc, _*_, _<_, _≤_, _≡_, refl, sym, _∙_, ⊎-elim, Bool, true, false, cond, _&&_, _||_, not, and-false, or-assoc, or-comm, false≢true, List, [], _∷_, arith, eqb, length, getD, drop, drop-cons, drop-length, eqb-true, ne-eqb}
 use Rattle.spec.specs.Refusals.{vowelByte, signByte, hardSignByte, first, none, adjacent, vowelSign, lettersBefore, row3, row4, row5, row6, row7, row8, row9, row10, rows, firstFit, faultAt, beforeAt, refusal, checkOf}
 use Rattle.spec.specs.{Letters.isMark, Letters.isBreak, declared.Checked.the-variants.Accepted, declared.Checked.the-variants.Refused}
+use Rattle.spec.specs.Numbers.{unknownByte, misplacedBreak, misplacedMark, signFirst, signAfterSign, consonantAfterHardSign, vowelSignVowel}
+use Rattle.spec.specs.Numbers.{longWord, messageMax, wordMax}
 use Rattle.letters.specs.Classes.{classOf, classCount, isBreakClass, isSignClass, isConsonantClass, isVowelClass, isLetterClass, classAt}
-use Rattle.letters.specs.Classes.{markClass}
+use Rattle.letters.specs.Classes.{markClass, hardSignClass}
 use Rattle.message.specs.Steps.{isVowelKind, isHardSignKind, isVowelSignKind, isSignKind, nextKind, faultIn, kindAt, codesTo, namesTo, lettersAt, faultHere}
 use Rattle.laws.proofs.Accepted.{countsOf, ClearAt, fault-clear, first-refused, passes-accepted}
 use Rattle.laws.proofs.Classes.{refuted, below-or, pairs-same}
@@ -23,14 +25,14 @@ answers k = isBreakClass k ∷ isVowelClass k ∷ isSignKind k ∷ isHardSignKin
 -- what the next kind answers after a byte of class c, by that class and the kind before; a mark, told by t, is passed over
 abbrev after : Bool → ℕ → ℕ → List Bool
 after t k c =
-    isBreakClass c ∷ isVowelClass c ∷ cond t (isSignKind k) (isSignClass c) ∷ cond t (isHardSignKind k) (eqb c 4) ∷ cond t (isVowelSignKind k) (isSignClass c && isVowelKind k)
+    isBreakClass c ∷ isVowelClass c ∷ cond t (isSignKind k) (isSignClass c) ∷ cond t (isHardSignKind k) (eqb c hardSignClass) ∷ cond t (isVowelSignKind k) (isSignClass c && isVowelKind k)
     ∷ cond t (isVowelClass k) (isVowelClass c) ∷ []
 
 -- it does, where there is no fault
-next-answers : (k c : ℕ) → k < 16 → c < classCount → faultIn k c ≡ 0 → after (eqb c 1) k c ≡ answers (nextKind k c)
+next-answers : (k c : ℕ) → k < 16 → c < classCount → faultIn k c ≡ 0 → after (eqb c markClass) k c ≡ answers (nextKind k c)
 unfolding everything
 next-answers k c h l e =
-    rw e at (pairs-same (λ k c. cond (eqb (faultIn k c) 0) (after (eqb c 1) k c) []) (λ k c. cond (eqb (faultIn k c) 0) (answers (nextKind k c)) []) 16 classCount k c refl h l)
+    rw e at (pairs-same (λ k c. cond (eqb (faultIn k c) 0) (after (eqb c markClass) k c) []) (λ k c. cond (eqb (faultIn k c) 0) (answers (nextKind k c)) []) 16 classCount k c refl h l)
 
 -- a vowel right before is no mark, so it is the adjacent letter
 vowel-adjacent : (before : List ℕ) → first vowelByte before ≡ true → adjacent before ≡ before
@@ -55,18 +57,18 @@ told-more before k b h c t f = by (isMark b) refl (rw (← c .mark) at (next-ans
 -- the rows by kind and class: last, nothing stands after; full, the word has 64 letters
 abbrev faultBy : Bool → Bool → ℕ → ℕ → ℕ
 faultBy last full k c =
-    cond (not (isLetterClass c || (eqb c 1 || isBreakClass c))) 3
-    (cond (isBreakClass c && (last || isBreakClass k)) 4
-    (cond (eqb c 1 && not (isVowelClass k)) 5
-    (cond (isSignClass c && isBreakClass k) 6
-    (cond (isSignClass c && isSignKind k) 7
-    (cond (isConsonantClass c && isHardSignKind k) 8
-    (cond (isVowelClass c && isVowelSignKind k) 9
-    (cond (isLetterClass c && full) 10 0)))))))
+    cond (not (isLetterClass c || (eqb c markClass || isBreakClass c))) unknownByte
+    (cond (isBreakClass c && (last || isBreakClass k)) misplacedBreak
+    (cond (eqb c markClass && not (isVowelClass k)) misplacedMark
+    (cond (isSignClass c && isBreakClass k) signFirst
+    (cond (isSignClass c && isSignKind k) signAfterSign
+    (cond (isConsonantClass c && isHardSignKind k) consonantAfterHardSign
+    (cond (isVowelClass c && isVowelSignKind k) vowelSignVowel
+    (cond (isLetterClass c && full) longWord 0)))))))
 
 -- the walk's fault; then the 65th letter; then a break last
 abbrev faultOf : Bool → Bool → ℕ → ℕ → ℕ
-faultOf last full k c = let f = cond (eqb (faultIn k c) 0) (cond (isLetterClass c && full) 10 0) (faultIn k c) in cond (eqb f 0) (cond (isBreakClass c && last) 4 0) f
+faultOf last full k c = let f = cond (eqb (faultIn k c) 0) (cond (isLetterClass c && full) longWord 0) (faultIn k c) in cond (eqb f 0) (cond (isBreakClass c && last) misplacedBreak 0) f
 
 -- the two agree
 fault-same : (last full : Bool) (k c : ℕ) → k < 16 → c < classCount → faultBy last full k c ≡ faultOf last full k c
@@ -78,11 +80,11 @@ fault-same false false k c h l = pairs-same (faultBy false false) (faultOf false
 
 -- a byte without a fault here has no number of the table of steps, and is no 65th letter
 pub here-clear : (m : List ℕ) (i : ℕ) → faultHere m i ≡ 0
-    → (faultIn (kindAt m i) (classOf (getD m i 0)) ≡ 0) × ((isLetterClass (classOf (getD m i 0)) && eqb (lettersAt m i) 64) ≡ false)
+    → (faultIn (kindAt m i) (classOf (getD m i 0)) ≡ 0) × ((isLetterClass (classOf (getD m i 0)) && eqb (lettersAt m i) wordMax) ≡ false)
 unfolding faultHere
-here-clear m i e = by (faultIn (kindAt m i) (classOf (getD m i 0))) (isLetterClass (classOf (getD m i 0)) && eqb (lettersAt m i) 64) e
+here-clear m i e = by (faultIn (kindAt m i) (classOf (getD m i 0))) (isLetterClass (classOf (getD m i 0)) && eqb (lettersAt m i) wordMax) e
   where
-    by : (f : ℕ) (u : Bool) → cond (eqb f 0) (cond u 10 0) f ≡ 0 → (f ≡ 0) × (u ≡ false)
+    by : (f : ℕ) (u : Bool) → cond (eqb f 0) (cond u longWord 0) f ≡ 0 → (f ≡ 0) × (u ≡ false)
     by zero true z = absurd (omega arith)
     by zero false z = (refl, refl)
     by (suc f) u z = absurd (omega (arith, rw (ne-eqb (suc f) 0 (λ q. omega arith)) at z))
@@ -121,16 +123,16 @@ module _ (m : List ℕ) (bytes : (j : ℕ) → getD m j 0 < 256) where
 
   -- the paper's fault is then the one here, or that of a break last
   fault-paper : (i : ℕ) → ((j : ℕ) → j < i → faultHere m j ≡ 0)
-      → faultAt (beforeAt m i) (getD m i 0) (drop (suc i) m) ≡ cond (eqb (faultHere m i) 0) (cond (isBreakClass (classAt m i) && none (drop (suc i) m)) 4 0) (faultHere m i)
+      → faultAt (beforeAt m i) (getD m i 0) (drop (suc i) m) ≡ cond (eqb (faultHere m i) 0) (cond (isBreakClass (classAt m i) && none (drop (suc i) m)) misplacedBreak 0) (faultHere m i)
   unfolding faultHere faultAt firstFit rows row3 row4 row5 row6 row7 row8 row9 row10
   fault-paper i c =
       let x = beforeAt m i in
       let y = none (drop (suc i) m) in
       let b = by-class (getD m i 0) (bytes i) in
       let t = told-at i c in
-      let e : faultAt x (getD m i 0) (drop (suc i) m) ≡ faultBy y (eqb (lettersAt m i) 64) (kindAt m i) (classAt m i) =
+      let e : faultAt x (getD m i 0) (drop (suc i) m) ≡ faultBy y (eqb (lettersAt m i) wordMax) (kindAt m i) (classAt m i) =
       rw (or-comm y (first isBreak x), ← or-assoc (none x) (first isBreak x) y, or-comm (none x || first isBreak x) y, letters-at i) (cc) in
-      e ∙ fault-same y (eqb (lettersAt m i) 64) (kindAt m i) (classAt m i) (kind-small i) (b .class)
+      e ∙ fault-same y (eqb (lettersAt m i) wordMax) (kindAt m i) (classAt m i) (kind-small i) (b .class)
 
   -- so a byte that is passed is clear, but for a break last
   passed : (i : ℕ) → ((j : ℕ) → j < suc i → faultHere m j ≡ 0) → (isBreakClass (classAt m i) && none (drop (suc i) m)) ≡ false → ClearAt m i
@@ -142,18 +144,18 @@ module _ (m : List ℕ) (bytes : (j : ℕ) → getD m j 0 < 256) where
   passed-over i h c = passed i c (rw (drop-cons m (suc i) 0 h, and-false (isBreakClass (classAt m i))))
 
   -- a fault is the check's answer, where no byte before has one
-  pub seen-fault : (i n : ℕ) → i < length m → length m ≤ 4096 → ((j : ℕ) → j < i → faultHere m j ≡ 0) → faultHere m i ≡ n → (n ≡ 0 → ⊥) → Refused (refusal n i) ≡ checkOf m
+  pub seen-fault : (i n : ℕ) → i < length m → length m ≤ messageMax → ((j : ℕ) → j < i → faultHere m j ≡ 0) → faultHere m i ≡ n → (n ≡ 0 → ⊥) → Refused (refusal n i) ≡ checkOf m
   seen-fault i n h l c e z = sym (first-refused m l i h (λ j q. passed-over j (omega arith) (λ k r. c k (omega arith))) n (fault-paper i c ∙ rw (e, ne-eqb n 0 z)) z)
 
   -- The whole message, of suc i bytes, is passed.
-  module _ (i : ℕ) (size : length m ≡ suc i) (short : length m ≤ 4096) (clear : (j : ℕ) → j < length m → faultHere m j ≡ 0) where
+  module _ (i : ℕ) (size : length m ≡ suc i) (short : length m ≤ messageMax) (clear : (j : ℕ) → j < length m → faultHere m j ≡ 0) where
     -- a break last is refused
-    pub last-refused : isBreakClass (kindAt m (length m)) ≡ true → checkOf m ≡ Refused (refusal 4 i)
+    pub last-refused : isBreakClass (kindAt m (length m)) ≡ true → checkOf m ≡ Refused (refusal misplacedBreak i)
     unfolding none kindAt
     last-refused b =
         let d : drop (suc i) m ≡ [] = rw (← size) (drop-length m) in
         let k : isBreakClass (classAt m i) ≡ true = sym (entry-at i .break) ∙ rw size at b in
-        first-refused m short i (omega arith) (λ j q. passed-over j (omega arith) (λ k r. clear k (omega arith))) 4
+        first-refused m short i (omega arith) (λ j q. passed-over j (omega arith) (λ k r. clear k (omega arith))) misplacedBreak
         (fault-paper i (λ k r. clear k (omega arith)) ∙ rw (clear i (omega arith), k, d)) (omega arith)
 
     -- any other message is accepted

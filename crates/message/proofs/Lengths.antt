@@ -7,6 +7,7 @@ use Rattle.spec.specs.Syllables.{coverAfter, incomplete}
 use Rattle.spec.specs.Counting.{soundCount, codesLeft, namesLeft, codeCountFrom, nameCountFrom, codeCount, nameCount}
 use Rattle.spec.specs.Refusals.{vowelByte, signByte}
 use Rattle.spec.specs.{Alphabet.«ь», Elision.elides, Vowels.bare, Vowels.glides, declared.Cover.the-variants.Bare, declared.Cover.the-variants.Covered}
+use Rattle.letters.specs.Classes.{markClass, vowelOClass, iotatedClass, vowelIClass}
 use Rattle.letters.specs.Classes.{classOf, classCount, isBreakClass, isSignClass, isConsonantClass, isLetterClass}
 use Rattle.message.specs.Steps.{isSignKind, isSoftSignKind, kindAt, widthIn, widthAt, codesTo, namesIn, namesTo, tailNames}
 use Rattle.letters.specs.Places.{lastAt, wordAt, letterOf, Steady}
@@ -24,7 +25,7 @@ heard k g y s e i o = cond s 0 (cond ((e && (bare (cond (k || g) Covered Bare) |
 
 -- the same by kind and class
 abbrev heardBy : ℕ → ℕ → ℕ
-heardBy k c = heard (isConsonantClass k) (isSignKind k) (isSoftSignKind k) (isSignClass c) (eqb c 12) (eqb c 13) (eqb c 11)
+heardBy k c = heard (isConsonantClass k) (isSignKind k) (isSoftSignKind k) (isSignClass c) (eqb c iotatedClass) (eqb c vowelIClass) (eqb c vowelOClass)
 
 -- and as many are counted
 heard-counted : (k c : ℕ) → k < 16 → c < classCount → isLetterClass c ≡ true → heardBy k c ≡ widthIn k c
@@ -86,7 +87,7 @@ module _ (m : List ℕ) (steady : Steady m) where
   width-mark : (i k : ℕ) → isMark (getD m i 0) ≡ true → widthAt m i k ≡ 0
   unfolding widthAt widthIn
   width-mark i k e =
-      let c : classOf (getD m i 0) ≡ 1 = eqb-true _ _ (sym (by-class (getD m i 0) (steady .bytes i) .mark) ∙ e) in
+      let c : classOf (getD m i 0) ≡ markClass = eqb-true _ _ (sym (by-class (getD m i 0) (steady .bytes i) .mark) ∙ e) in
       rw (class-spoken m i (steady .bytes i) (λ q. omega (arith, c, q)), c)
 
   -- a letter as many as it makes

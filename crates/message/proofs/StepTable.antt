@@ -1,6 +1,7 @@
 -- The check's tables by their rules: each entry is what specs/Steps.antt says, by one computation over all of them.
 use Rattle.laws.proofs.Kit.{ℕ, _+_, _-_, _*_, _/_, _%_, _<_, _≤_, _≡_, refl, true, cond, List, map, arith, eqb, leb, getD}
 use Rattle.laws.proofs.Kit.{eqb-true, eqb-false, leb-true}
+use Rattle.letters.specs.Classes.{softSignClass, pairedClass, tOrDClass}
 use Rattle.letters.specs.Classes.{classCount, classAt, isBreakClass, isConsonantClass, isSignClass, elidedAt, silentAt}
 use Rattle.message.specs.Steps.{isSoftSignKind, isSignKind, nextKind, faultIn, widthIn, namesIn, askIn, stopIn, packed, pairs, kindAt, widthAt, nameUnit, askUnit, stopUnit}
 use Rattle.letters.proofs.{Silent.class-spoken, Silent.before-spoken, Tabulated.tabulate-at}
@@ -19,7 +20,7 @@ pub record Entry (k c : ℕ) : Type 0 where
   pub break : isBreakClass (nextKind k c) ≡ isBreakClass c
   pub consonant : isConsonantClass (nextKind k c) ≡ isConsonantClass c
   pub sign : isSignKind (nextKind k c) ≡ isSignClass c
-  pub softSign : isSoftSignKind (nextKind k c) ≡ eqb c 5
+  pub softSign : isSoftSignKind (nextKind k c) ≡ eqb c softSignClass
 
 -- every entry that is read is so, by one computation each
 pub entry-holds : (k c : ℕ) → k < 16 → c < classCount → Entry k c
@@ -35,7 +36,7 @@ entry-holds k c h l = record {
   break = pairs-same (λ x y. isBreakClass (nextKind x y)) (λ x y. isBreakClass y) 16 classCount k c refl h l;
   consonant = pairs-same (λ x y. isConsonantClass (nextKind x y)) (λ x y. isConsonantClass y) 16 classCount k c refl h l;
   sign = pairs-same (λ x y. isSignKind (nextKind x y)) (λ x y. isSignClass y) 16 classCount k c refl h l;
-  softSign = pairs-same (λ x y. isSoftSignKind (nextKind x y)) (λ x y. eqb y 5) 16 classCount k c refl h l;
+  softSign = pairs-same (λ x y. isSoftSignKind (nextKind x y)) (λ x y. eqb y softSignClass) 16 classCount k c refl h l;
 }
   where
     most : (f : ℕ → ℕ → ℕ) (n : ℕ) → map (λ x. map (λ y. leb (f x y) n) (below classCount)) (below 16) ≡ map (λ x. map (λ y. true) (below classCount)) (below 16) → f k c ≤ n
@@ -72,7 +73,8 @@ pub silent-asks : (m : List ℕ) (i : ℕ) → ((j : ℕ) → getD m j 0 < 256)
     → (silentAt m i ≤ askIn (kindAt m i) (classAt m i)) × (widthAt m i (kindAt m i) + silentAt m i ≡ widthIn (kindAt m i) (classAt m i))
 unfolding askIn widthIn widthAt kindAt nextKind
 silent-asks m i bytes = either (elidedAt m i) (λ e.
-    let c = eqb-true (classAt m i) 8 (only-where _ _ (λ q. class-spoken m i (bytes i) (eqb-false (classAt m i) 8 q)) e) in
-    let k = eqb-true (kindAt m i) 7 (only-where _ _ (λ q. before-spoken m i bytes (λ j z y. eqb-false (kindAt m i) 7 q (rw (z, y)))) e) in
+    let c = eqb-true (classAt m i) tOrDClass (only-where _ _ (λ q. class-spoken m i (bytes i) (eqb-false (classAt m i) tOrDClass q)) e) in
+    let k = eqb-true (kindAt m i) pairedClass
+    (only-where _ _ (λ q. before-spoken m i bytes (λ j z y. eqb-false (kindAt m i) pairedClass q (rw (z, y)))) e) in
     rw (e, k, c) (omega arith, omega arith))
     (λ e. rw e (omega arith, omega arith))

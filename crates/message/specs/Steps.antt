@@ -7,7 +7,7 @@ use mathlib.Core.List.{List}
 use lib.Dec.{eqb}
 use lib.ListN.{length, getD}
 use Rattle.spec.specs.Numbers.{unknownByte, misplacedBreak, misplacedMark, signFirst, signAfterSign}
-use Rattle.spec.specs.Numbers.{consonantAfterHardSign, vowelSignVowel, messageMax}
+use Rattle.spec.specs.Numbers.{consonantAfterHardSign, vowelSignVowel, longWord, messageMax, wordMax}
 use Rattle.spec.specs.Letters.{between}
 use Rattle.spec.specs.Refusals.{refusal}
 use Rattle.spec.specs.declared.Checked.{Checked}
@@ -16,7 +16,7 @@ use Rattle.message.specs.declared.Seen.{Seen}
 use Rattle.message.specs.declared.Step.{Step}
 use Rattle.message.specs.declared.Step.the-variants.{Fault, Next}
 use Rattle.letters.specs.Classes.{classOf, isBreakClass, isSignClass, isConsonantClass, isVowelClass, isLetterClass, classAt, tabulate, classes, elidedAt, silentAt}
-use Rattle.letters.specs.Classes.{markClass, hardSignClass, softSignClass, pairedClass, tOrDClass, plainVowelClass, vowelOClass, iotatedClass, vowelIClass}
+use Rattle.letters.specs.Classes.{markClass, gapClass, hardSignClass, softSignClass, pairedClass, tOrDClass, plainVowelClass, vowelOClass, iotatedClass, vowelIClass}
 
 -- The kind of what stands before a byte: the class of the byte before (a gap's where there is none),
 -- or one of two more for ъ and for ь after a vowel.
@@ -99,7 +99,7 @@ pairs = tabulate (λ j. packed (j / 16) (j % 16)) 0 256
 
 -- the kind of what stands before place i
 unfoldable pub kindAt : List ℕ → ℕ → ℕ
-kindAt m zero = 2
+kindAt m zero = gapClass
 kindAt m (suc i) = nextKind (kindAt m i) (classOf (getD m i 0))
 
 -- how many codes the byte at place i makes after kind k
@@ -127,7 +127,7 @@ unfoldable pub faultHere : List ℕ → ℕ → ℕ
 faultHere m i =
     let c = classOf (getD m i 0) in
     let f = faultIn (kindAt m i) c in
-    cond (eqb f 0) (cond (isLetterClass c && eqb (lettersAt m i) 64) 10 0) f
+    cond (eqb f 0) (cond (isLetterClass c && eqb (lettersAt m i) wordMax) longWord 0) f
 
 -- What the check has seen is true: the message is of bytes, and not too many, no byte before its place has a fault, its kind is the one there, and its sum has the codes and the names of the bytes before. Its limit is as many places
 -- after `from` as the word lacks letters there to have 64, so before it no letter is a 65th.
@@ -139,7 +139,7 @@ pub record Sees (m : List ℕ) (s : Seen) : Type 0 where
   pub kind : s .kind ≡ kindAt m (s .at)
   pub sum : s .sum ≡ codesTo m (s .at) + nameUnit * namesTo m (s .at)
   pub from : s .from ≤ s .at
-  pub limit : lettersAt m (s .from) + s .limit ≡ s .from + 64
+  pub limit : lettersAt m (s .from) + s .limit ≡ s .from + wordMax
 
 -- The two tables are lent.
 pub record Tables (t s : List ℕ) : Type 0 where
@@ -174,7 +174,7 @@ pub record Goes (m t s : List ℕ) (seen : Seen) (to : ℕ) : Type 0 where
 pub record Counted (m : List ℕ) (i : ℕ) (s : Seen) : Type 0 where
   pub sees : Sees m s
   pub place : s .at ≡ i
-  pub full : s .limit ≤ s .at → lettersAt m (s .at) ≡ 64
+  pub full : s .limit ≤ s .at → lettersAt m (s .at) ≡ wordMax
 
 -- The check begins: there is a byte, and not too many.
 pub record Begins (m t s : List ℕ) : Type 0 where
@@ -196,5 +196,5 @@ Judged m s (Next r) = Sees m r × (s .at < r .at)
 -- the end of a message of n bytes: a break last is a fault, and a word's last syllable may be incomplete
 abbrev pub finishOf : ℕ → Seen → Checked
 finishOf n s =
-    cond (isBreakClass (s .kind)) (Refused (refusal 4 (n - 1)))
+    cond (isBreakClass (s .kind)) (Refused (refusal misplacedBreak (n - 1)))
     (Accepted (record { codes = s .sum % nameUnit; names = s .sum / nameUnit + tailNames (s .kind) }))

@@ -4,7 +4,7 @@ use Rattle.spec.specs.Letters.{small, firstByte, isBreak, isGap, isMark}
 use Rattle.spec.specs.Codes.{J, markOf, isSoundCode, isSound}
 use Rattle.spec.specs.{Phones.softens, Refusals.vowelByte, Refusals.signByte, Refusals.consonantByte, declared.Level.Level}
 use Rattle.letters.specs.Classes.{classes, classOf, isBreakClass, isSignClass, isConsonantClass, isVowelClass, isSofteningClass, elidedAt}
-use Rattle.letters.specs.Classes.{pauseClass}
+use Rattle.letters.specs.Classes.{pauseClass, softSignClass}
 use Rattle.letters.specs.Places.{Steady, letterOf, wordAt}
 use Rattle.letters.proofs.Left.{mark-within, word-letter, word-mark, word-break, word-end}
 use Rattle.letters.proofs.{Bytes.by-class, Computed.everything, Silent.class-spoken, Silent.elided-at}
@@ -160,12 +160,12 @@ module _ {m out : List ℕ} {i : ℕ} {r : Right} (a : Ready m out i r) where
       }
 
 -- of the signs only ь softens
-spelt-sign : {m out : List ℕ} {i c : ℕ} {r : Right} → ReadyFor isSignClass m out i c r → Spelt (getD m i 0) true false (eqb c 5)
+spelt-sign : {m out : List ℕ} {i c : ℕ} {r : Right} → ReadyFor isSignClass m out i c r → Spelt (getD m i 0) true false (eqb c softSignClass)
 unfolding everything
 spelt-sign a = spelt-by a true false (λ x. eqb x 5) refl
 
 -- they are not heard
-pub sign-steps : {m out : List ℕ} {i c seen : ℕ} {r : Right} {l : LevelRun} → ReadyFor isSignClass m out i c r → seen ≡ r .sound % 64 + cond (eqb c 5) 64 0 → l ≡ stepOver (r .levels) (getD m i 0)
+pub sign-steps : {m out : List ℕ} {i c seen : ℕ} {r : Right} {l : LevelRun} → ReadyFor isSignClass m out i c r → seen ≡ r .sound % 64 + cond (eqb c softSignClass) 64 0 → l ≡ stepOver (r .levels) (getD m i 0)
     → Stepped m out out i r (record { at = r .at; sound = seen; levels = l })
 sign-steps {m} {i = i} a = silent-steps (a .ready) (spelt-sign a) (codes-sign m (a .ready .steady) i (a .ready .within) (spelt-sign a))
 
@@ -183,7 +183,7 @@ module _ {m out : List ℕ} {i c : ℕ} {r : Right} (a : ReadyFor isBreakClass m
   break-looks e l = rw l (break-due m (a .ready .steady) i (a .ready .within) (a .ready .stands .levels) breaks e)
 
   -- it has put it, and left of it stands another word
-  pub break-steps : {out′ : List ℕ} {at sound : ℕ} {l q : LevelRun} (pause : Bool) → eqb c 3 ≡ pause
+  pub break-steps : {out′ : List ℕ} {at sound : ℕ} {l q : LevelRun} (pause : Bool) → eqb c pauseClass ≡ pause
       → sound ≡ cond (not pause && voicesOver (followingBy (r .sound % 64))) 57 0
       → l ≡ stepOver (r .levels) (getD m i 0) → Looked m i l q → Put (cond pause 63 0 ∷ []) out out′ (r .at) at
       → Stepped m out out′ i r (record { at = at; sound = sound; levels = q })

@@ -1,13 +1,13 @@
--- Only т and д can be silent, and only after a consonant of class 7.
+-- Only т and д can be silent, and only after a paired consonant that is neither.
 use Rattle.laws.proofs.Kit.{ℕ, _<_, _≡_, sym, _∙_, false, List, getD, needs}
-use Rattle.letters.specs.Classes.{byteBefore, elidedAt}
+use Rattle.letters.specs.Classes.{pairedClass, byteBefore, elidedAt}
 use Rattle.letters.proofs.Silent.{class-spoken, before-spoken}
 use Rattle.stress.specs.Before.{classBefore}
 use Rattle.transcriber.proofs.tape.is_silent.Statement.{statement}
 use Rattle.transcriber.proofs.tape.is_silent.Tie as tie
 
--- a byte after another class than 7 is heard
-after-others : (m : List ℕ) (i : ℕ) → ((j : ℕ) → getD m j 0 < 256) → (classBefore m i ≡ 7 → ⊥) → elidedAt m i ≡ false
+-- a byte after another class is heard
+after-others : (m : List ℕ) (i : ℕ) → ((j : ℕ) → getD m j 0 < 256) → (classBefore m i ≡ pairedClass → ⊥) → elidedAt m i ≡ false
 unfolding byteBefore
 after-others m i h n = before-spoken m i h (λ j e k. n (rw (e, k)))
 
