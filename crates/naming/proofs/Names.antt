@@ -5,11 +5,11 @@ use Rattle.spec.specs.Letters.{Letter, Message, last, more, putLetter, read, fi
 use Rattle.spec.specs.Syllables.{Facts, factsOf, namesFrom, incomplete, nameOf, syllableOf}
 use Rattle.spec.specs.Tape.{namesOf, names, wordNames}
 use Rattle.spec.specs.{Elision.elide, Refusals.vowelByte}
-use Rattle.letters.specs.Places.{wordAt, letterOf, Steady}
+use Rattle.letters.specs.Places.{lastAt, wordAt, letterOf, Steady}
 use Rattle.letters.proofs.Left.{read-letter, read-mark, read-break, read-end}
 use Rattle.letters.proofs.Bytes.{vowel-break, vowel-mark}
 use Rattle.laws.proofs.{Classes.cond-app, Classes.either, Elided.names-elide}
-use Rattle.stress.specs.Places.{Left, leftAt, factsAt, syllableAt}
+use Rattle.stress.specs.Places.{Left, leftAt, lastButOneAt, hardAt, factsAt, syllableAt}
 use Rattle.naming.specs.Names.{tailNamesOf, namesAt}
 use Rattle.stress.proofs.Left.{start, afterLetter, left-letter, left-mark, left-break}
 use Rattle.stress.proofs.Whole.{whole-within, whole-first, whole-after}
@@ -31,11 +31,11 @@ module _ (l : Left) (facts : Facts) (x : Letter) where
 module _ (m : List ℕ) (steady : Steady m) where
   -- the names from the first place on are all of them
   pub names-start : namesAt m 0 ≡ names m
-  unfolding namesAt names leftAt wordAt
+  unfolding namesAt names lastAt lastButOneAt hardAt wordAt
   names-start = rw (whole-first m) (sym (start-names false (read m)))
 
   -- at the end only an incomplete syllable is left to name
-  pub names-end : namesAt m (length m) ≡ incomplete (leftAt m (length m) .p)
+  pub names-end : namesAt m (length m) ≡ incomplete (lastAt m (length m))
   unfolding namesAt tailNamesOf namesFrom
   names-end = rw (read-end m)
 
@@ -60,8 +60,8 @@ module _ (m : List ℕ) (steady : Steady m) where
       (λ k. rw v at (names-letter i h b k))
 
   -- at a break an incomplete syllable is named
-  pub names-break : (i : ℕ) → i < length m → isBreak (getD m i 0) ≡ true → namesAt m i ≡ incomplete (leftAt m i .p) ++ namesAt m (suc i)
+  pub names-break : (i : ℕ) → i < length m → isBreak (getD m i 0) ≡ true → namesAt m i ≡ incomplete (lastAt m i) ++ namesAt m (suc i)
   unfolding namesAt tailNamesOf namesFrom wordAt
   names-break i h b =
       rw (read-break m i h b, left-break m i h b, whole-after m i b)
-      (ap (λ (t : List ℕ). incomplete (leftAt m i .p) ++ t) (start-names _ (read (drop (suc i) m))))
+      (ap (λ (t : List ℕ). incomplete (lastAt m i) ++ t) (start-names _ (read (drop (suc i) m))))

@@ -1,11 +1,11 @@
 -- The naming's walk from the right: each byte settles the names that the definition gives it, and what stands right of it is told by what stood right of the next one.
 use Rattle.laws.proofs.Kit.{ℕ, suc, _<_, _≡_, refl, ap, _∙_, Bool, true, false, List, [], _∷_, _++_, arith, length, getD}
 use Rattle.spec.specs.{Letters.isBreak, Refusals.vowelByte, Syllables.incomplete, Syllables.nameOf, declared.Level.Level}
-use Rattle.letters.specs.{Classes.classOf, Classes.isVowelClass, Places.Steady}
+use Rattle.letters.specs.{Classes.classOf, Classes.isVowelClass, Places.lastAt, Places.Steady}
 use Rattle.letters.proofs.Bytes.{by-class, vowel-break}
 use Rattle.laws.proofs.Putting.{put-none, put-length, put-again}
 use Rattle.laws.specs.Putting.{Put}
-use Rattle.stress.specs.{Places.leftAt, declared.LevelRun.LevelRun, Before.classBefore, Before.syllableBy}
+use Rattle.stress.specs.{declared.LevelRun.LevelRun, Before.classBefore, Before.syllableBy}
 use Rattle.naming.specs.Names.{namesAt, namePiece, NameReady, Named, NamesDue, WordEnd}
 use Rattle.naming.specs.declared.NameState.{NameState}
 use Rattle.stress.specs.Levels.{countedBy, numbered, endRun, stepOver, Looked, LevelsAt}
@@ -55,7 +55,7 @@ module _ {m out : List ℕ} {i : ℕ} {v : NameState} (ready : NameReady m out i
     word-ends = record { within = omega (arith, ready .within); steady = ready .steady; room = rw b at (ready .room); place = ready .place }
 
     -- it puts the name of an incomplete syllable
-    pub named-break : {out′ : List ℕ} {at : ℕ} {q : LevelRun} → Put (incomplete (leftAt m i .p)) out out′ (v .at) at → Looked m i (stepOver (v .levels) (getD m i 0)) q
+    pub named-break : {out′ : List ℕ} {at : ℕ} {q : LevelRun} → Put (incomplete (lastAt m i)) out out′ (v .at) at → Looked m i (stepOver (v .levels) (getD m i 0)) q
         → Named m out out′ i v (record { at = at; levels = q })
     unfolding namePiece
     named-break p a = record { stands = levels-break m (ready .steady) i (ready .within) (ready .stands) b a; put = rw b p }
@@ -78,7 +78,7 @@ module _ {m out : List ℕ} {n : ℕ} (due : NamesDue m out n) where
 
   -- where the walk begins
   pub naming-none : {out′ : List ℕ} {at : ℕ} {q : LevelRun} → Looked m (length m) (endRun 0 0 false) q
-      → Put (incomplete (leftAt m (length m) .p)) out out′ n at
+      → Put (incomplete (lastAt m (length m))) out out′ n at
       → Writing (λ j. LevelsAt m j q) m (namesAt m) (namePiece m) n out′ out′ n (length m) at
   naming-none e p =
       let y = due .steady in

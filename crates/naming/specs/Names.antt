@@ -11,7 +11,7 @@ use Rattle.stress.specs.Places.{Left, leftAt, factsAt, syllableAt}
 use mathlib.Core.Path.{_≡_}
 use mathlib.Core.Bool.{true, cond}
 use Rattle.spec.specs.Refusals.{vowelByte}
-use Rattle.letters.specs.Places.{Steady}
+use Rattle.letters.specs.Places.{lastAt, Steady}
 use Rattle.letters.specs.Classes.{classOf, isVowelClass}
 use Rattle.stress.specs.Levels.{LevelsAt}
 use Rattle.naming.specs.declared.NameState.{NameState}
@@ -29,7 +29,7 @@ namesAt m i = tailNamesOf (leftAt m i) (factsAt m i) (read (drop i m))
 -- word before
 unfoldable pub namePiece : List ℕ → ℕ → List ℕ
 namePiece m i =
-    cond (isBreak (getD m i 0)) (incomplete (leftAt m i .p))
+    cond (isBreak (getD m i 0)) (incomplete (lastAt m i))
     (cond (vowelByte (getD m i 0)) (nameOf (syllableAt m i) ∷ []) [])
 
 -- the walk that writes the names
@@ -48,7 +48,7 @@ pub record VowelNamed (m out : List ℕ) (i : ℕ) (v : NameState) : Type 0 wher
 pub record WordEnd (m out : List ℕ) (i at : ℕ) : Type 0 where
   pub within : i ≤ length m
   pub steady : Steady m
-  pub room : length (incomplete (leftAt m i .p)) ≤ at
+  pub room : length (incomplete (lastAt m i)) ≤ at
   pub place : at ≤ length out
 
 -- all n names of m may be written at the start of the output

@@ -1,18 +1,11 @@
--- The left context of a place is the letters of the word before it and the boundary there, carried from the left: its last letter is the
--- one that the check goes by. A letter, a mark and a break each change it in one way.
-use Rattle.laws.proofs.Kit.{ℕ, zero, suc, _<_, _≡_, refl, sym, _∙_, Bool, true, false, cond, _&&_, _||_, not, List, [], _∷_, length, getD}
+-- The left context of a place is the letters of the word before it and the boundary there, carried from the left. A letter, a mark and a
+-- break each change it in one way.
+use Rattle.laws.proofs.Kit.{ℕ, suc, _<_, _≡_, refl, sym, _∙_, Bool, true, false, cond, _&&_, _||_, not, List, [], _∷_, length, getD}
 use Rattle.spec.specs.Letters.{Letter, more, putLetter, read, firstWord, small, isMark, isBreak, isGap, beginsWithMark}
 use Rattle.spec.specs.{Syllables.hasMark, Vowels.hardEnd}
-use Rattle.laws.proofs.Classes.{cond-app}
 use Rattle.letters.specs.Places.{lastAt, letterOf}
 use Rattle.letters.proofs.Left.{mark-within, word-put}
-use Rattle.stress.specs.Places.{Left, stepLeft, leftAt, markFrom}
-
--- its last letter
-pub left-last : (m : List ℕ) (i : ℕ) → leftAt m i .p ≡ lastAt m i
-unfolding leftAt stepLeft lastAt
-left-last m zero = refl
-left-last m (suc i) = simp (cond-app (λ (l : Left). l .p), left-last m i)
+use Rattle.stress.specs.Places.{lastButOneAt, hardAt, Left, leftAt, markFrom}
 
 -- the left context at the start of a word
 abbrev pub start : Bool → Left
@@ -25,18 +18,18 @@ afterLetter x l = record { p = x .byte; q = l .p; hard = false }
 module _ (m : List ℕ) (i : ℕ) (h : i < length m) where
   -- a letter becomes the last one
   pub left-letter : isBreak (getD m i 0) ≡ false → isMark (getD m i 0) ≡ false → leftAt m (suc i) ≡ afterLetter (letterOf m i) (leftAt m i)
-  unfolding leftAt stepLeft letterOf
+  unfolding lastAt lastButOneAt hardAt letterOf
   left-letter b k = rw (b, k)
 
   -- a mark changes nothing
   pub left-mark : isMark (getD m i 0) ≡ true → leftAt m (suc i) ≡ leftAt m i
-  unfolding leftAt stepLeft
+  unfolding lastAt lastButOneAt hardAt
   left-mark k = rw (mark-within (getD m i 0) k, k)
 
   -- a break leaves only whether it is a hard boundary
   pub left-break : isBreak (getD m i 0) ≡ true
-      → leftAt m (suc i) ≡ record { p = 0; q = 0; hard = isGap (getD m i 0) && hardEnd (leftAt m i .q) (leftAt m i .p) }
-  unfolding leftAt stepLeft
+      → leftAt m (suc i) ≡ record { p = 0; q = 0; hard = isGap (getD m i 0) && hardEnd (lastButOneAt m i) (lastAt m i) }
+  unfolding lastAt lastButOneAt hardAt
   left-break b = rw b
 
 -- the marks of the first word are those of its letters, but for a mark at its start

@@ -8,13 +8,12 @@ use Rattle.spec.specs.Syllables.{coverAfter, incomplete, syllableOf}
 use Rattle.spec.specs.Refusals.{signByte, consonantByte}
 use Rattle.letters.specs.Classes.{classOf, pauseClass, isBreakClass, isSignClass, isCoveringClass, isVowelClass}
 use Rattle.letters.specs.Classes.{markClass, gapClass, hardSignClass, softSignClass, plainVowelClass, vowelIClass, byteBefore}
-use Rattle.letters.specs.Places.{Steady, ByteTells}
+use Rattle.letters.specs.Places.{lastAt, Steady}
 use Rattle.letters.proofs.Bytes.{ByClass, by-class}
 use Rattle.letters.proofs.{Before.classes-alike, Before.byte-tells, Computed.everything}
 use Rattle.stress.specs.Before.{classBefore, syllableBy}
 use Rattle.stress.specs.Levels.{levelAt}
-use Rattle.stress.specs.Places.{leftAt, syllableAt}
-use Rattle.stress.proofs.Left.{left-last}
+use Rattle.stress.specs.Places.{syllableAt}
 
 -- a number between two others
 pub between-true : (lo hi c : ℕ) → lo ≤ c → c ≤ hi → between lo hi c ≡ true
@@ -43,31 +42,27 @@ unfolding everything byteBefore
 start-class m = refl
 
 module _ (m : List ℕ) (steady : Steady m) where
-  -- the byte before a place, and the last letter of the word there, which it tells
-  pub left-told : (i : ℕ) → i ≤ length m → ByteTells (byteBefore m i) (leftAt m i .p)
-  left-told i h = rw (left-last m i) (byte-tells m steady i h)
-
-  -- that byte by its class
+  -- the byte before a place by its class
   pub before-class : (i : ℕ) → ByClass (byteBefore m i)
   unfolding byteBefore
   before-class zero = by-class pause (omega arith)
   before-class (suc i) = by-class (getD m i 0) (steady .bytes i)
 
-  -- what the class tells of that letter
+  -- what the class tells of the last letter of the word
   pub record ClassTells (i : ℕ) : Type 0 where
-    pub covers : (isConsonant (leftAt m i .p) || isSign (leftAt m i .p)) ≡ isCoveringClass (classBefore m i)
-    pub sign : isSign (leftAt m i .p) ≡ isSignClass (classBefore m i)
-    pub softSign : eqb (leftAt m i .p) «ь» ≡ eqb (classBefore m i) softSignClass
+    pub covers : (isConsonant (lastAt m i) || isSign (lastAt m i)) ≡ isCoveringClass (classBefore m i)
+    pub sign : isSign (lastAt m i) ≡ isSignClass (classBefore m i)
+    pub softSign : eqb (lastAt m i) «ь» ≡ eqb (classBefore m i) softSignClass
 
   pub class-tells : (i : ℕ) → i ≤ length m → ClassTells i
   unfolding signByte consonantByte
   class-tells i h =
-      let a = classes-alike (left-told i h .letter) in
+      let a = classes-alike (byte-tells m steady i h .letter) in
       let c = before-class i in
       record { covers = rw (a .consonant, a .sign) (c .covers); sign = a .sign ∙ c .sign; softSign = a .softSign ∙ c .softSign }
 
   -- whether a syllable is left incomplete after it
-  pub incomplete-raw : (i : ℕ) → i ≤ length m → incomplete (leftAt m i .p) ≡ cond (isCoveringClass (classBefore m i)) (7 ∷ []) []
+  pub incomplete-raw : (i : ℕ) → i ≤ length m → incomplete (lastAt m i) ≡ cond (isCoveringClass (classBefore m i)) (7 ∷ []) []
   unfolding incomplete
   incomplete-raw i h = rw (class-tells i h .covers)
 

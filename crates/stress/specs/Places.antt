@@ -6,27 +6,36 @@ use Prim.Native.Nat.{ℕ, zero, suc}
 use mathlib.Core.Bool.{Bool, false, cond, _&&_, _||_, not}
 use mathlib.Core.List.{List, [], _∷_, _++_}
 use lib.ListN.{getD, drop}
-use Rattle.spec.specs.Letters.{Letter, small, isMark, isBreak, isGap}
+use Rattle.spec.specs.Letters.{Letter, isMark, isBreak, isGap}
 use Rattle.spec.specs.Syllables.{Facts, factsOf, syllableOf}
 use Rattle.spec.specs.Vowels.{hardEnd}
-use Rattle.letters.specs.Places.{wordAt, letterOf}
+use Rattle.letters.specs.Places.{lastAt, wordAt, letterOf}
 use Rattle.spec.specs.declared.Syllable.{Syllable}
 
--- what the bytes before a place say: the last letter of the word, the one before it (0 for none),
--- and whether a hard boundary stands right before the place
+-- the letter before the last one of the word before place i; 0 for none
+unfoldable pub lastButOneAt : List ℕ → ℕ → ℕ
+lastButOneAt m zero = 0
+lastButOneAt m (suc i) =
+    let b = getD m i 0 in
+    cond (isBreak b) 0 (cond (isMark b) (lastButOneAt m i) (lastAt m i))
+
+-- does a hard boundary stand right before place i?
+unfoldable pub hardAt : List ℕ → ℕ → Bool
+hardAt m zero = false
+hardAt m (suc i) =
+    let b = getD m i 0 in
+    cond (isBreak b) (isGap b && hardEnd (lastButOneAt m i) (lastAt m i))
+    (cond (isMark b) (hardAt m i) false)
+
+-- what the bytes before a place say: the last letter of the word, the one before it, and whether a
+-- hard boundary stands right before the place
 pub record Left : Type 0 where
   pub p : ℕ
   pub q : ℕ
   pub hard : Bool
 
-unfoldable pub stepLeft : ℕ → Left → Left
-stepLeft b l =
-    cond (isBreak b) (record { p = 0; q = 0; hard = isGap b && hardEnd (l .q) (l .p) })
-    (cond (isMark b) l (record { p = small b; q = l .p; hard = false }))
-
-unfoldable pub leftAt : List ℕ → ℕ → Left
-leftAt m zero = record { p = 0; q = 0; hard = false }
-leftAt m (suc i) = stepLeft (getD m i 0) (leftAt m i)
+abbrev pub leftAt : List ℕ → ℕ → Left
+leftAt m i = record { p = lastAt m i; q = lastButOneAt m i; hard = hardAt m i }
 
 -- is there a mark among the bytes of this word before place i, or from there on?
 unfoldable pub markBefore : List ℕ → ℕ → Bool
@@ -57,4 +66,4 @@ factsAt m i = factsOf (wholeAt m i)
 
 -- the syllable of the vowel at place i
 abbrev pub syllableAt : List ℕ → ℕ → Syllable
-syllableAt m i = syllableOf (factsAt m i) (leftAt m i .p) (letterOf m i) (wordAt m (suc i))
+syllableAt m i = syllableOf (factsAt m i) (lastAt m i) (letterOf m i) (wordAt m (suc i))

@@ -5,10 +5,10 @@ use Rattle.spec.specs.Syllables.{Facts, factsOf}
 use Rattle.spec.specs.Voicing.{voices}
 use Rattle.spec.specs.Tape.{segment, sounds, tape}
 use Rattle.spec.specs.{Codes.markOf, Vowels.endsHardFrom, Vowels.endsHard}
-use Rattle.letters.specs.Places.{wordAt, letterOf, Steady}
+use Rattle.letters.specs.Places.{lastAt, wordAt, letterOf, Steady}
 use Rattle.letters.proofs.Left.{mark-within, word-put, read-letter, read-mark, read-break, read-end}
 use Rattle.laws.proofs.Stretch.{voices-over}
-use Rattle.stress.specs.Places.{Left, leftAt, factsAt}
+use Rattle.stress.specs.Places.{Left, leftAt, lastButOneAt, hardAt, factsAt}
 use Rattle.transcriber.specs.Places.{tailTape, tailNext, tailWord, tapeAt, followingAt, codesAt}
 use Rattle.transcriber.specs.Fused.{letterCodes, fusedFrom}
 use Rattle.consonants.specs.Following.{followingEnd, putBefore, following, voicesOver}
@@ -80,7 +80,7 @@ voices-start hard r =
 module _ (m : List ℕ) (steady : Steady m) where
   -- the whole tape is the tape at the first place
   pub tape-start : tapeAt m 0 ≡ tape m
-  unfolding tapeAt sounds leftAt wordAt
+  unfolding tapeAt sounds lastAt lastButOneAt hardAt wordAt
   tape-start = rw (whole-first m) (sym (start-tape false (read m)))
 
   -- nothing is left at the end
@@ -124,7 +124,11 @@ module _ (m : List ℕ) (steady : Steady m) where
   pub following-break : (i : ℕ) → i < length m → isBreak (getD m i 0) ≡ true
       → followingAt m i ≡ followingEnd (isGap (getD m i 0) && voicesOver (followingAt m (suc i)))
   unfolding followingAt wordAt tailNext tailWord fusedFrom firstWord endsHardFrom
-  following-break i h b = rw (read-break m i h b, left-break m i h b, whole-after m i b, voices-start)
+  following-break i h b =
+      let l = left-break m i h b in
+      let p = ap (λ (x : Left). x .p) l in
+      let hard = ap (λ (x : Left). x .hard) l in
+      rw (read-break m i h b, l, p, hard, whole-after m i b, voices-start)
 
   -- at the end nothing voices
   pub following-end : followingAt m (length m) ≡ followingEnd false

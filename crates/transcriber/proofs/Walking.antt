@@ -5,7 +5,7 @@ use Rattle.spec.specs.Codes.{J, markOf, isSoundCode, isSound}
 use Rattle.spec.specs.{Phones.softens, Refusals.vowelByte, Refusals.signByte, Refusals.consonantByte, declared.Level.Level}
 use Rattle.letters.specs.Classes.{classes, classOf, isBreakClass, isSignClass, isConsonantClass, isVowelClass, isSofteningClass, elidedAt}
 use Rattle.letters.specs.Classes.{pauseClass, softSignClass}
-use Rattle.letters.specs.Places.{Steady, letterOf, wordAt}
+use Rattle.letters.specs.Places.{lastAt, Steady, letterOf, wordAt}
 use Rattle.letters.proofs.Left.{mark-within, word-letter, word-mark, word-break, word-end}
 use Rattle.letters.proofs.{Bytes.by-class, Computed.everything, Silent.class-spoken, Silent.elided-at}
 use Rattle.laws.proofs.{Classes.cond-same, Classes.where-same, Codes.vowel-sound, MarkIndex.sound-range, Putting.put-none, Classes.below}
@@ -14,13 +14,12 @@ use Rattle.consonants.specs.Following.{Following, followingEnd, stepped, putBef
 use Rattle.consonants.specs.Sounds.{consonantCode, Tells, codeBefore, Heard, soundTable}
 use Rattle.vowels.specs.VowelSounds.{vowelCodes, VowelAt, Sung, sungCodes}
 use Rattle.transcriber.specs.{Fused.letterCodes, declared.Right.Right}
-use Rattle.stress.specs.{Places.leftAt, Places.syllableAt, declared.LevelRun.LevelRun}
+use Rattle.stress.specs.{Places.hardAt, Places.syllableAt, declared.LevelRun.LevelRun}
 use Rattle.transcriber.specs.Places.{tapeAt, followingAt, codesAt}
 use Rattle.transcriber.specs.Walk.{Stands, begunOf, pieceAt, Ready, ReadyFor, Stepped}
 use Rattle.stress.specs.Levels.{countedBy, numbered, endRun, stepOver, StepDue, LookDue, Looked}
 use Rattle.vowels.specs.declared.Vowel.{Vowel}
 use Rattle.stress.proofs.Levelling.{levels-found, levels-due, levels-over, break-due, levels-break, levels-end, levels-turn}
-use Rattle.stress.proofs.Left.{left-last}
 use Rattle.consonants.proofs.SoundTable.{code-read}
 use Rattle.transcriber.proofs.Tail.{tape-letter, tape-mark, tape-break}
 use Rattle.transcriber.proofs.Tail.{following-letter, following-mark, following-break, following-end}
@@ -98,7 +97,7 @@ module _ (m : List ℕ) (steady : Steady m) (i : ℕ) (h : i < length m) where
   -- a silent letter puts nothing
   codes-silent : {s v x : Bool} → Spelt (getD m i 0) s v x → elidedAt m i ≡ true → codesAt m i ≡ []
   unfolding codesAt letterCodes letterOf
-  codes-silent p e = rw (left-last m i, elided-at m steady i h (p .break) (p .mark), e)
+  codes-silent p e = rw (elided-at m steady i h (p .break) (p .mark), e)
 
   -- nor does a sign
   codes-sign : {v x : Bool} → Spelt (getD m i 0) true v x → codesAt m i ≡ []
@@ -108,10 +107,10 @@ module _ (m : List ℕ) (steady : Steady m) (i : ℕ) (h : i < length m) where
   -- of those that are heard a vowel puts its sound, and the glide before it where it has one, and a consonant its code
   codes-heard : {v x : Bool} → Spelt (getD m i 0) false v x → elidedAt m i ≡ false
       → codesAt m i
-      ≡ cond v (vowelCodes (leftAt m i .hard) (leftAt m i .p) (small (getD m i 0)) (syllableAt m i))
+      ≡ cond v (vowelCodes (hardAt m i) (lastAt m i) (small (getD m i 0)) (syllableAt m i))
       (consonantCode (small (getD m i 0)) (softens (firstByte (wordAt m (suc i)))) (followingAt m (suc i)) ∷ [])
   unfolding codesAt letterCodes letterOf signByte vowelByte
-  codes-heard p e = rw (left-last m i, elided-at m steady i h (p .break) (p .mark), e, p .sounds, p .sings)
+  codes-heard p e = rw (elided-at m steady i h (p .break) (p .mark), e, p .sounds, p .sings)
 
 module _ {m out : List ℕ} {i : ℕ} {r : Right} (a : Ready m out i r) where
   -- there is room for a letter's codes

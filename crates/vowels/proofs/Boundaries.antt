@@ -1,18 +1,17 @@
 -- The letter before a place and the hard boundary there, told by the two bytes before it: in a steady message they tell of the last two letters
 -- of the word what is asked.
-use Rattle.laws.proofs.Kit.{ℕ, zero, suc, _-_, _<_, _≤_, _≡_, refl, sym, ap, _∙_, true, false, not, List, arith, eqb, length, getD, eqb-true}
+use Rattle.laws.proofs.Kit.{ℕ, zero, suc, _-_, _<_, _≤_, _≡_, refl, sym, ap, _∙_, Bool, true, false, not, List, arith, eqb, length, getD, eqb-true}
 use Rattle.spec.specs.Alphabet.{«ь»}
 use Rattle.spec.specs.Letters.{small, isBreak, isGap, isMark}
 use Rattle.spec.specs.{Vowels.initial, Vowels.hardEnd}
 use Rattle.letters.specs.Classes.{classOf, gapClass, pauseClass, softSignClass, isBreakClass, byteBefore}
-use Rattle.letters.specs.Places.{Steady}
+use Rattle.letters.specs.Places.{lastAt, Steady}
 use Rattle.letters.proofs.Bytes.{by-class, not-both, vowel-break, vowel-mark}
-use Rattle.letters.proofs.{Before.ClassesAlike, Before.classes-alike, Computed.everything}
+use Rattle.letters.proofs.{Before.ClassesAlike, Before.classes-alike, Before.byte-tells, Computed.everything}
 use Rattle.laws.proofs.Classes.{cond-by, either, below-same}
 use Rattle.stress.specs.Before.{classBefore}
-use Rattle.stress.specs.Places.{Left, stepLeft, leftAt}
-use Rattle.stress.proofs.Left.{left-letter}
-use Rattle.stress.proofs.Raw.{start-class, left-told, before-class}
+use Rattle.stress.specs.Places.{lastButOneAt, hardAt}
+use Rattle.stress.proofs.Raw.{start-class, before-class}
 use Rattle.vowels.specs.VowelSounds.{Told, letterBefore, hardBefore}
 use Rattle.vowels.specs.declared.LetterBefore.{LetterBefore}
 use Rattle.vowels.specs.declared.LetterBefore.the-variants.{None, Byte}
@@ -42,48 +41,50 @@ past-start m (suc i) e n = omega arith
 
 module _ (m : List ℕ) (steady : Steady m) where
   -- the letter before is told
-  pub told-at : (i : ℕ) → i ≤ length m → Told (letterBefore m i) (leftAt m i .p)
+  pub told-at : (i : ℕ) → i ≤ length m → Told (letterBefore m i) (lastAt m i)
   unfolding letterBefore initial
   told-at i h =
-      let b = left-told m steady i h in
+      let b = byte-tells m steady i h in
       let c = before-class m steady i .break in
-      cond-by (λ x. Told x (leftAt m i .p)) (isBreakClass (classBefore m i))
-      (λ e. eqb-true (leftAt m i .p) 0 (b .first ∙ c ∙ e))
+      cond-by (λ x. Told x (lastAt m i)) (isBreakClass (classBefore m i))
+      (λ e. eqb-true (lastAt m i) 0 (b .first ∙ c ∙ e))
       (λ e. (c ∙ e, b))
 
   -- the two bytes before a place tell whether the word before it ends hard
   end-raw : (i : ℕ) → i ≤ length m
-      → hardEnd (leftAt m i .q) (leftAt m i .p) ≡ hardEnd (small (byteBefore m (i - 1))) (small (byteBefore m i))
-  unfolding everything leftAt byteBefore
+      → hardEnd (lastButOneAt m i) (lastAt m i) ≡ hardEnd (small (byteBefore m (i - 1))) (small (byteBefore m i))
+  unfolding everything lastAt lastButOneAt byteBefore
   end-raw zero h = refl
   end-raw (suc i) h =
       let b = getD m i 0 in
-      let t = classes-alike (left-told m steady (suc i) h .letter) in
+      let t = classes-alike (byte-tells m steady (suc i) h .letter) in
       let c = by-class b (steady .bytes i) in
       let e : suc i - 1 ≡ i = omega arith in
       rw (t .hardOnly, t .paired, t .softSign, e)
       (either (eqb (small b) «ь»)
       (λ d. let f = eqb-true (classOf b) softSignClass (sym (c .softSign) ∙ d) in
-      rw (left-letter m i h (rw f at (c .break)) (rw f at (c .mark)), classes-alike (left-told m steady i (omega arith) .letter) .hardOnly))
+      let s : isBreak b ≡ false = rw f at (c .break) in
+      let k : isMark b ≡ false = rw f at (c .mark) in
+      rw (s, k, classes-alike (byte-tells m steady i (omega arith) .letter) .hardOnly))
       (λ d. rw d))
 
   -- before a mark stands a vowel, and no boundary
-  mark-soft : (i : ℕ) → i < length m → isMark (getD m i 0) ≡ true → leftAt m i .hard ≡ false
-  unfolding leftAt
+  mark-soft : (i : ℕ) → i < length m → isMark (getD m i 0) ≡ true → hardAt m i ≡ false
+  unfolding hardAt
   mark-soft zero h k = refl
   mark-soft (suc i) h k =
       let v = steady .marks i h k in
       let t = steady .bytes i in
-      rw (left-letter m i (omega arith) (vowel-break _ t v) (vowel-mark _ t v))
+      rw (vowel-break _ t v, vowel-mark _ t v)
 
   -- whether a hard boundary stands before the place
-  pub hard-raw : (i : ℕ) → i ≤ length m → leftAt m i .hard ≡ hardBefore m i
-  unfolding leftAt stepLeft byteBefore hardBefore
+  pub hard-raw : (i : ℕ) → i ≤ length m → hardAt m i ≡ hardBefore m i
+  unfolding hardAt byteBefore hardBefore
   hard-raw zero h = rw (start-class m)
   hard-raw (suc i) h =
       let b = getD m i 0 in
       let t = steady .bytes i in
       let x : suc i - 1 ≡ i = omega arith in
       let y : suc i - 2 ≡ i - 1 = omega arith in
-      let P : Left → Type 0 = λ l. l .hard ≡ hardBefore m (suc i) in
+      let P : Bool → Type 0 = λ t. t ≡ hardBefore m (suc i) in
       cond-by P (isBreak b) (λ s. rw (gap-class b t, end-raw i (omega arith), x, y)) (λ s. cond-by P (isMark b) (λ k. rw (mark-soft i h k, within-gap b t s)) (λ k. rw (within-gap b t s)))

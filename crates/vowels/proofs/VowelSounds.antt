@@ -1,10 +1,10 @@
 -- A vowel's sound and glide by what the code reads off the bytes beside it are those that passes 2 and 3 make of it.
 use Rattle.laws.proofs.Kit.{ℕ, _<_, _≤_, _≡_, List, arith, length, getD}
 use Rattle.spec.specs.{Letters.small, Vowels.glides, declared.Cover.Cover, declared.Level.Level, declared.Syllable.Syllable}
-use Rattle.letters.specs.{Classes.classCount, Classes.classOf, Places.Steady}
+use Rattle.letters.specs.{Classes.classCount, Classes.classOf, Places.lastAt, Places.Steady}
 use Rattle.letters.proofs.Bytes.{by-class}
 use Rattle.stress.specs.Before.{classBefore, syllableBy}
-use Rattle.stress.specs.Places.{leftAt, syllableAt}
+use Rattle.stress.specs.Places.{syllableAt}
 use Rattle.stress.proofs.Raw.{syllable-raw, class-tells}
 use Rattle.vowels.specs.VowelSounds.{glideBy, RowAt, rowOf, VowelAt, Sung}
 use Rattle.vowels.specs.declared.Vowel.{Vowel}
@@ -13,7 +13,7 @@ use Rattle.vowels.proofs.Boundaries.{told-at, hard-raw}
 module _ (m : List ℕ) (steady : Steady m) where
   -- whether a vowel there has a glide
   pub glide-raw : (i : ℕ) → i < length m → (cover : Cover)
-      → glides (leftAt m i .p) cover (small (getD m i 0)) ≡ glideBy (classOf (getD m i 0)) cover (classBefore m i)
+      → glides (lastAt m i) cover (small (getD m i 0)) ≡ glideBy (classOf (getD m i 0)) cover (classBefore m i)
   unfolding glides
   glide-raw i h cover =
       let b = by-class (getD m i 0) (steady .bytes i) in
@@ -33,6 +33,6 @@ module _ {m : List ℕ} {i c : ℕ} {level : Level} (a : VowelAt m i c level) wh
       let h : i ≤ length m = omega (arith, a .within) in
       let z : syllableAt m i ≡ s = rw (y, e, a .level) (syllable-raw m (a .steady) i (a .within)) in
       record {
-        sound = rw (z, hard-raw m (a .steady) i h) (o (leftAt m i .p) (told-at m (a .steady) i h));
+        sound = rw (z, hard-raw m (a .steady) i h) (o (lastAt m i) (told-at m (a .steady) i h));
         glide = rw (z, glide-raw m (a .steady) i (a .within) (s .cover), ← a .class, ← e) g;
       }

@@ -15,9 +15,9 @@ use Rattle.spec.specs.declared.Syllable.{Syllable}
 use Rattle.stress.specs.Before.{classBefore}
 use Rattle.spec.specs.Codes.{J}
 use lib.ListN.{length, getD}
-use Rattle.letters.specs.Places.{Steady, ByteTells}
+use Rattle.letters.specs.Places.{lastAt, Steady, ByteTells}
 use Rattle.spec.specs.declared.Level.{Level}
-use Rattle.stress.specs.Places.{syllableAt, leftAt}
+use Rattle.stress.specs.Places.{syllableAt, hardAt}
 use Rattle.stress.specs.Levels.{levelAt}
 use Rattle.vowels.specs.declared.LetterBefore.{LetterBefore}
 use Rattle.vowels.specs.declared.LetterBefore.the-variants.{None, Byte}
@@ -74,8 +74,8 @@ pub record VowelAt (m : List ℕ) (i c : ℕ) (n : Level) : Type 0 where
 
 -- v is what passes 2 and 3 make of the vowel at place i
 pub record Sung (m : List ℕ) (i : ℕ) (v : Vowel) : Type 0 where
-  pub sound : v .sound ≡ vowelSound (leftAt m i .hard) (leftAt m i .p) (syllableAt m i) (small (getD m i 0))
-  pub glide : v .glide ≡ glides (leftAt m i .p) (syllableAt m i .cover) (small (getD m i 0))
+  pub sound : v .sound ≡ vowelSound (hardAt m i) (lastAt m i) (syllableAt m i) (small (getD m i 0))
+  pub glide : v .glide ≡ glides (lastAt m i) (syllableAt m i .cover) (small (getD m i 0))
 
 abbrev pub sungCodes : Vowel → List ℕ
 sungCodes v = cond (v .glide) (J ∷ v .sound ∷ []) (v .sound ∷ [])
