@@ -1,5 +1,5 @@
 -- The range is asked first; an output of 54 bytes is long enough, and a shorter one is held against the length of the words.
-use Rattle.laws.proofs.Kit.{_<_, _≤_, _≡_, refl, sym, _∙_, ⊎-elim, arith, leb, length, leb-true, leb-false, le-leb, lt-leb, needs}
+use Rattle.laws.proofs.Kit.{_<_, _≤_, _≡_, refl, true, false, ⊎-elim, arith, leb, length, leb-true, leb-false, le-leb, lt-leb, needs}
 use lib.IntN.{natAbs}
 use mir.Syntax.{w32}
 use mir.Val.{toZ, ofZ}
@@ -19,10 +19,16 @@ told : (c : tie.After-is-outside) → c .is-outside .result ≡ leb 10000 (natAb
 told c = rw (same (c .before .before)) at (c .is-outside .ensures)
 
 inside : (c : tie.Else1) → InRange (c .before .before .before .args .level)
-inside c = omega (arith, leb-false 10000 (natAbs (c .before .before .before .args .level)) (sym (told (c .before)) ∙ c .if1 .left))
+inside c =
+    let d = natAbs (c .before .before .before .args .level) in
+    let near : leb 10000 d ≡ false = rw (told (c .before)) at (c .if1 .left) in
+    omega (arith, leb-false 10000 d near)
 
 outside : (c : tie.Then1) → 9999 < natAbs (c .before .before .before .args .level)
-outside c = omega (arith, leb-true 10000 (natAbs (c .before .before .before .args .level)) (sym (told (c .before)) ∙ c .if1 .taken))
+outside c =
+    let d = natAbs (c .before .before .before .args .level) in
+    let far : leb 10000 d ≡ true = rw (told (c .before)) at (c .if1 .taken) in
+    omega (arith, leb-true 10000 d far)
 
 -- how long the words are
 measured : (c : tie.After-measure) → c .measure .result ≡ length (spoken (c .before .before .before .before .before .args .level))
