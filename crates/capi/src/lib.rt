@@ -1,11 +1,15 @@
-// The C interface: include/govorun.h says what each function promises. Each carries its operation's promise on in numbers: four, three for a text of any length or an addition to a book, five for a lookup.
-ghost use Rattle.spec.specs.Answers.{CheckPromise, NamePromise, TranscribePromise, JoinPromise, Carried};
+// The C interface: include/govorun.h says what each function promises. Each carries its operation's
+// promise on in numbers: four, three for a text of any length or an addition to a book, five for a
+// lookup.
+ghost use Rattle.spec.specs.Answers.{CheckPromise, NamePromise, TranscribePromise, JoinPromise};
+ghost use Rattle.spec.specs.Answers.{Carried};
 ghost use Rattle.spec.specs.Editing.{EditPromise};
 ghost use Rattle.spec.specs.Utf8.{ReadPromise, WritePromise};
 ghost use Rattle.spec.specs.SpokenLevels.{LevelPromise};
 ghost use mathlib.Core.Path.{_≡_};
 ghost use Rattle.laws.specs.Bounds.{Small, SmallCheck};
-ghost use Rattle.capi.specs.Said.{Said, Counted, Told, SaidAdded, SaidFound, named, FindsFor, AddsFor};
+ghost use Rattle.capi.specs.Said.{Said, Counted, Told, SaidAdded, SaidFound, named, FindsFor};
+ghost use Rattle.capi.specs.Said.{AddsFor};
 use book::adding::add;
 use book::lookup::locate;
 use book::lookup::refuse;

@@ -8,7 +8,8 @@ use lib.Dec.{ltb}
 use lib.ListN.{length, take, getD}
 use Rattle.spec.specs.Printed.{decimal}
 
--- More was put at place at of the text, and ends at place r; what stood before it stands there still.
+-- More was put at place at of the text, and ends at place r; what stood before it stands there
+-- still.
 pub record Appended (more text text′ : List ℕ) (at r : ℕ) : Type 0 where
   pub place : r ≡ at + length more
   pub bytes : take r text′ ≡ take at text ++ more

@@ -5,7 +5,8 @@ ghost use Rattle.console.specs.Reading.{readOf};
 use crate::Input;
 use libc::STDIN_FILENO;
 
-// Reads until the input ends or the buffer is full. A read that fails is told from the end, so that no part of a text passes for the whole.
+// Reads until the input ends or the buffer is full. A read that fails is told from the end, so that
+// no part of a text passes for the whole.
 pub fn read_input(text: &mut [u8]) -> Input
     ensures { λ r. ⌜ readOf r ≤ length (now (text .exit)) ⌝ }
 {

@@ -1,4 +1,5 @@
--- How the editor's code goes: a word and the breaks behind it at a time, between the breaks at the text's ends.
+-- How the editor's code goes: a word and the breaks behind it at a time, between the breaks at the
+-- text's ends.
 -- Assumes nothing: these are definitions.
 use Prim.Native.Nat.{ℕ, _+_, _-_, _<_, _≤_}
 use mathlib.Core.Path.{_≡_}

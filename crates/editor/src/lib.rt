@@ -1,4 +1,6 @@
-// The editor (paper 02, slip 1). The breaks at the ends are taken off and the last word is found first. So each word before it ends at a break and each run of breaks at a word, and the loops over them ask for no end.
+// The editor (paper 02, slip 1). The breaks at the ends are taken off and the last word is found
+// first. So each word before it ends at a break and each run of breaks at a word, and the loops
+// over them ask for no end.
 ghost use mathlib.Core.Path.{_≡_};
 ghost use mathlib.Core.List.{_∷_};
 ghost use Prim.Native.Nat.{_+_, _<_, _≤_};
@@ -9,7 +11,8 @@ ghost use Rattle.spec.specs.Answers.{within, Promise};
 ghost use Rattle.spec.specs.Editing.{pauseMarks, gapMarks, EditPromise};
 ghost use Rattle.laws.specs.Edited.{breaks, leading, editFrom};
 ghost use Rattle.laws.specs.Putting.{Put};
-ghost use Rattle.editor.specs.Walk.{others, Last, LastWord, EndsInWord, ReadsRun, reads, piece, Goes};
+ghost use Rattle.editor.specs.Walk.{others, Last, LastWord, EndsInWord, ReadsRun, reads};
+ghost use Rattle.editor.specs.Walk.{piece, Goes};
 use spec::Answer;
 use spec::Refusal;
 use spec::alphabet::GAP;
@@ -124,7 +127,8 @@ fn copy_word(text: &[u8], out: &mut [u8]) -> usize
     }
 }
 
-// The run of breaks that the text begins with, a pause if one of them is a pause. A word follows it, so no end is asked for.
+// The run of breaks that the text begins with, a pause if one of them is a pause. A word follows
+// it, so no end is asked for.
 fn read_run(text: &[u8]) -> Run
     requires { ⌜ leading breaks (now text) < length (now text) ⌝ }
     ensures { λ r. ⌜ ReadsRun (now (text .entry)) r ⌝ }
@@ -182,7 +186,8 @@ fn copy_all(text: &[u8], out: &mut [u8])
     }
 }
 
-// How long a text without breaks at its ends is when it is edited. Its last word begins at place last.
+// How long a text without breaks at its ends is when it is edited. Its last word begins at place
+// last.
 fn measure(text: &[u8], last: usize) -> usize
     requires { ⌜ LastWord (now text) last ⌝ }
     ensures { λ r. ⌜ r ≡ length (editFrom 0 (now (text .entry))) ⌝ }
@@ -232,7 +237,8 @@ fn edit_between(text: &[u8], out: &mut [u8]) -> Answer
     Answer::Written { length, live: 0 }
 }
 
-// The editor: writes the edited text at the start of the lent output, or refuses and leaves every byte.
+// The editor: writes the edited text at the start of the lent output, or refuses and leaves every
+// byte.
 pub fn edit(text: &[u8], out: &mut [u8]) -> Answer
     ensures { λ r. ⌜ EditPromise (now (text .entry)) (now (out .entry)) (now (out .exit)) r ⌝ }
 {

@@ -1,4 +1,5 @@
--- How a number is read: exactly where it is in the range of levels, and else as some number outside it.
+-- How a number is read: exactly where it is in the range of levels, and else as some number outside
+-- it.
 -- Assumes nothing: these are definitions.
 use Prim.Native.Nat.{ℕ, _<_, _≤_}
 use mathlib.Core.Path.{_≡_}

@@ -1,4 +1,5 @@
-// What is printed for a level in decimal: the level's refusal, or what the transcriber answers for its words.
+// What is printed for a level in decimal: the level's refusal, or what the transcriber answers for
+// its words.
 ghost use mathlib.Core.Path.{_≡_};
 ghost use mathlib.Core.Bool.{true, _&&_};
 ghost use Prim.Native.Nat.{_≤_};
@@ -7,7 +8,8 @@ ghost use lib.ListN.{length, take};
 ghost use Rattle.io.specs.Counts.{Counts};
 ghost use Rattle.spec.specs.Tape.{tape};
 ghost use Rattle.spec.specs.SpokenLevels.{spoken};
-ghost use Rattle.spec.specs.Printed.{printedAnswer, signLength, areDigits, isDecimal, digitsFrom, levelIn, spokenAnswer, printedLevel};
+ghost use Rattle.spec.specs.Printed.{printedAnswer, signLength, areDigits, isDecimal, digitsFrom};
+ghost use Rattle.spec.specs.Printed.{levelIn, spokenAnswer, printedLevel};
 ghost use Rattle.console.specs.Putting.{Appended};
 ghost use Rattle.gauge.specs.Reading.{Clipped, Like};
 use console::text::TEXT;

@@ -1,4 +1,5 @@
-// The program for levels: all of standard input is a level in decimal, and what is answered for its words is printed.
+// The program for levels: all of standard input is a level in decimal, and what is answered for its
+// words is printed.
 mod level;
 
 use console::Input;

@@ -1,4 +1,5 @@
--- What the joiner's own functions ask for and give: the message and the parts whose tapes are written, where a mark stands, and what a cut changes beside it.
+-- What the joiner's own functions ask for and give: the message and the parts whose tapes are
+-- written, where a mark stands, and what a cut changes beside it.
 -- Assumes nothing: these are definitions.
 use Prim.Native.Nat.{ℕ, suc, _+_, _-_, _*_, _<_, _≤_}
 use mathlib.Core.Path.{_≡_}
@@ -35,7 +36,8 @@ pub record JoinDue (m cuts : List ℕ) (size : ℕ) : Type 0 where
 abbrev pub PutBefore : List ℕ → List ℕ → List ℕ → ℕ → Type 0
 PutBefore codes out out′ at = Put codes out out′ at (at - length codes)
 
--- the part p may be written right before index at of the output, and where no cut changes it its tape stands there
+-- the part p may be written right before index at of the output, and where no cut changes it its
+-- tape stands there
 pub record PartDue (p out : List ℕ) (at : ℕ) (changed : Bool) : Type 0 where
   pub due : TapeDue p out at
   pub stands : changed ≡ false → PutBefore (tape p) out out at
@@ -49,7 +51,8 @@ pub record PartWritten (p : List ℕ) (changed : Bool) (out out′ : List ℕ) (
 abbrev pub outside : ℕ → ℕ → ℕ → Bool
 outside low high b = not (between low high b)
 
--- A look back from index i has passed all down to index j: they fail the test, and an element before j passes it.
+-- A look back from index i has passed all down to index j: they fail the test, and an element
+-- before j passes it.
 pub record Looks (test : ℕ → Bool) (x : List ℕ) (i j : ℕ) : Type 0 where
   pub within : j ≤ length x
   pub least : ℕ
@@ -64,7 +67,8 @@ pub record Whole (m t : List ℕ) (n : ℕ) : Type 0 where
   pub size : n ≤ length t
   pub same : (j : ℕ) → j < n → getD t j 0 ≡ getD (tape m) j 0
 
--- index n is that of the mark of place e, which is a break or the message's end, and the break at place c is not behind it
+-- index n is that of the mark of place e, which is a break or the message's end, and the break at
+-- place c is not behind it
 pub record Reach (m t : List ℕ) (c e n : ℕ) : Type 0 where
   pub whole : Whole m t n
   pub break : isBreak (getD m c 0) ≡ true
@@ -73,7 +77,8 @@ pub record Reach (m t : List ℕ) (c e n : ℕ) : Type 0 where
   pub ends : Ends m e
   pub place : n ≡ markIndex m e
 
--- index at is that of the mark of the break at place c, and on both sides of it stand codes of the whole tape
+-- index at is that of the mark of the break at place c, and on both sides of it stand codes of the
+-- whole tape
 pub record Beside (m t : List ℕ) (c at : ℕ) : Type 0 where
   pub whole : Whole m t (suc (suc at))
   pub some : 0 < at
@@ -81,7 +86,8 @@ pub record Beside (m t : List ℕ) (c at : ℕ) : Type 0 where
   pub within : c < length m
   pub place : at ≡ markIndex m c
 
--- w says which clauses of 'Joints' hold at a cut at place c: (a) changes the code before its mark, (b) the code after it
+-- w says which clauses of 'Joints' hold at a cut at place c: (a) changes the code before its mark,
+-- (b) the code after it
 pub record Changing (m : List ℕ) (c : ℕ) (w : Changes) : Type 0 where
   pub before : w .before ≡ changedBefore m c
   pub after : w .after ≡ changedAfter m (suc c)
@@ -110,7 +116,8 @@ abbrev pub restOf : List ℕ → List ℕ → List ℕ
 restOf m [] = []
 restOf m (c ∷ cuts) = markOf (getD m c 0) ∷ joinedFrom sounds m (suc c) cuts
 
--- All cuts but the first k are passed: before the mark of the last one of them, or the message's end, the whole tape stands in the output, and from there on the second one.
+-- All cuts but the first k are passed: before the mark of the last one of them, or the message's
+-- end, the whole tape stands in the output, and from there on the second one.
 pub record Laid (m cuts : List ℕ) (k : ℕ) (out : List ℕ) (p : Progress) : Type 0 where
   pub valid : Valid m
   pub rising : Rising m cuts

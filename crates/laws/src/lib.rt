@@ -1,1 +1,2 @@
-// Laws only, no code: what the tape of a word, of a stretch of a message and of its parts depends on.
+// Laws only, no code: what the tape of a word, of a stretch of a message and of its parts depends
+// on.

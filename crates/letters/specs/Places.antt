@@ -1,6 +1,6 @@
 -- What stands beside a place of a message: the last letter of the word before it, what the byte
--- before tells of that letter, and the letters of the word from the place on. These are not the paper's words: `proofs/` shows that they agree with
--- them.
+-- before tells of that letter, and the letters of the word from the place on. These are not the
+-- paper's words: `proofs/` shows that they agree with them.
 -- Assumes nothing: these are definitions.
 use Prim.Native.Nat.{ℕ, zero, suc, _<_, _≤_}
 use mathlib.Core.Path.{_≡_}

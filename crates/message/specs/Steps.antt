@@ -1,4 +1,5 @@
--- How the check walks a message: a kind for what stands before a byte, and a table of what a kind and a class come to. These are not the paper's words: `proofs/` shows that they agree with them.
+-- How the check walks a message: a kind for what stands before a byte, and a table of what a kind
+-- and a class come to. These are not the paper's words: `proofs/` shows that they agree with them.
 -- Assumes nothing: these are definitions.
 use Prim.Native.Nat.{ℕ, zero, suc, _+_, _-_, _*_, _/_, _%_, _≤_, _<_}
 use mathlib.Core.Path.{_≡_}
@@ -7,7 +8,8 @@ use mathlib.Core.List.{List}
 use lib.Dec.{eqb}
 use lib.ListN.{length, getD}
 use Rattle.spec.specs.Numbers.{unknownByte, misplacedBreak, misplacedMark, signFirst, signAfterSign}
-use Rattle.spec.specs.Numbers.{consonantAfterHardSign, vowelSignVowel, longWord, messageMax, wordMax}
+use Rattle.spec.specs.Numbers.{consonantAfterHardSign, vowelSignVowel, longWord, messageMax}
+use Rattle.spec.specs.Numbers.{wordMax}
 use Rattle.spec.specs.Letters.{between}
 use Rattle.spec.specs.Refusals.{refusal}
 use Rattle.spec.specs.declared.Checked.{Checked}
@@ -15,11 +17,15 @@ use Rattle.spec.specs.declared.Checked.the-variants.{Accepted, Refused}
 use Rattle.message.specs.declared.Seen.{Seen}
 use Rattle.message.specs.declared.Step.{Step}
 use Rattle.message.specs.declared.Step.the-variants.{Fault, Next}
-use Rattle.letters.specs.Classes.{classOf, isBreakClass, isSignClass, isConsonantClass, isVowelClass, isLetterClass, classAt, tabulate, classes, elidedAt, silentAt}
-use Rattle.letters.specs.Classes.{markClass, gapClass, hardSignClass, softSignClass, pairedClass, tOrDClass, plainVowelClass, vowelOClass, iotatedClass, vowelIClass}
+use Rattle.letters.specs.Classes.{classOf, isBreakClass, isSignClass, isConsonantClass}
+use Rattle.letters.specs.Classes.{isVowelClass, isLetterClass, classAt, tabulate, classes, elidedAt}
+use Rattle.letters.specs.Classes.{silentAt}
+use Rattle.letters.specs.Classes.{markClass, gapClass, hardSignClass, softSignClass, pairedClass}
+use Rattle.letters.specs.Classes.{tOrDClass, plainVowelClass, vowelOClass, iotatedClass}
+use Rattle.letters.specs.Classes.{vowelIClass}
 
--- The kind of what stands before a byte: the class of the byte before (a gap's where there is none),
--- or one of two more for ъ and for ь after a vowel.
+-- The kind of what stands before a byte: the class of the byte before (a gap's where there is
+-- none), or one of two more for ъ and for ь after a vowel.
 abbrev pub hardSignAfterVowel : ℕ
 hardSignAfterVowel = 14
 
@@ -78,7 +84,8 @@ askIn k c = cond (eqb k pairedClass && eqb c tOrDClass) 1 0
 unfoldable pub stopIn : ℕ → ℕ → ℕ
 stopIn k c = cond (eqb (faultIn k c) 0 && eqb (nextKind k c) c) 0 (suc (faultIn k c))
 
--- An entry of the table has its codes as they are, and these for a name, for an ask and for a stop. The names and the codes of a message are added up in the same two places, so they have room for
+-- An entry of the table has its codes as they are, and these for a name, for an ask and for a stop.
+-- The names and the codes of a message are added up in the same two places, so they have room for
 -- 4,096 bytes; there is room for the asks of seven bytes, and stops come last.
 abbrev pub nameUnit : ℕ
 nameUnit = 0x4000
@@ -129,8 +136,10 @@ faultHere m i =
     let f = faultIn (kindAt m i) c in
     cond (eqb f 0) (cond (isLetterClass c && eqb (lettersAt m i) wordMax) longWord 0) f
 
--- What the check has seen is true: the message is of bytes, and not too many, no byte before its place has a fault, its kind is the one there, and its sum has the codes and the names of the bytes before. Its limit is as many places
--- after `from` as the word lacks letters there to have 64, so before it no letter is a 65th.
+-- What the check has seen is true: the message is of bytes, and not too many, no byte before its
+-- place has a fault, its kind is the one there, and its sum has the codes and the names of the
+-- bytes before. Its limit is as many places after `from` as the word lacks letters there to have
+-- 64, so before it no letter is a 65th.
 pub record Sees (m : List ℕ) (s : Seen) : Type 0 where
   pub bytes : (j : ℕ) → getD m j 0 < 256
   pub short : length m ≤ messageMax
@@ -152,7 +161,8 @@ pub record Reads (m t s : List ℕ) (k e : ℕ) : Type 0 where
   pub kind : k < 16
   pub within : e ≤ length m
 
--- the sum of the entries of four bytes from place i on, the first after kind k, and how many codes they lose by elision
+-- the sum of the entries of four bytes from place i on, the first after kind k, and how many codes
+-- they lose by elision
 abbrev pub fourAt : List ℕ → ℕ → ℕ → ℕ
 fourAt m i k = packed k (classAt m i) + packed (classAt m i) (classAt m (i + 1)) + packed (classAt m (i + 1)) (classAt m (i + 2)) + packed (classAt m (i + 2)) (classAt m (i + 3))
 
@@ -170,7 +180,8 @@ pub record Goes (m t s : List ℕ) (seen : Seen) (to : ℕ) : Type 0 where
   pub bytes : FoursTo to (length m)
   pub room : FoursTo to (seen .limit)
 
--- What is seen at place i, with a limit that is not before it: where it is reached the word has 64 letters.
+-- What is seen at place i, with a limit that is not before it: where it is reached the word has 64
+-- letters.
 pub record Counted (m : List ℕ) (i : ℕ) (s : Seen) : Type 0 where
   pub sees : Sees m s
   pub place : s .at ≡ i
@@ -193,7 +204,8 @@ abbrev pub Judged : List ℕ → Seen → Step → Type 0
 Judged m s (Fault n) = (faultHere m (s .at) ≡ n) × (n ≡ 0 → ⊥)
 Judged m s (Next r) = Sees m r × (s .at < r .at)
 
--- the end of a message of n bytes: a break last is a fault, and a word's last syllable may be incomplete
+-- the end of a message of n bytes: a break last is a fault, and a word's last syllable may be
+-- incomplete
 abbrev pub finishOf : ℕ → Seen → Checked
 finishOf n s =
     cond (isBreakClass (s .kind)) (Refused (refusal misplacedBreak (n - 1)))

@@ -1,5 +1,6 @@
--- Paper 01, 'Codes': the byte of each sound, of a gap and of a pause on the tape, and the two sets of sounds that pass 4 goes by.
--- A sound is written as the paper writes it: А* is stressed, А1 and А2 are reduced, Б' is palatalized (the paper's soft). J is the glide.
+-- Paper 01, 'Codes': the byte of each sound, of a gap and of a pause on the tape, and the two sets
+-- of sounds that pass 4 goes by. A sound is written as the paper writes it: А* is stressed, А1 and
+-- А2 are reduced, Б' is palatalized (the paper's soft). J is the glide.
 -- Assumes nothing: these are definitions.
 use Prim.Native.Nat.{ℕ, suc}
 use mathlib.Core.Bool.{Bool, cond, _||_}

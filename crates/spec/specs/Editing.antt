@@ -1,5 +1,6 @@
--- Paper 02, slip 1, plain punctuation: the editor makes of a text with commas and stops the message that is meant.
--- Its steps are the paper's sentences in their order: what each byte becomes, runs of breaks, the two ends.
+-- Paper 02, slip 1, plain punctuation: the editor makes of a text with commas and stops the message
+-- that is meant. Its steps are the paper's sentences in their order: what each byte becomes, runs
+-- of breaks, the two ends.
 -- Assumes nothing: these are definitions.
 use Prim.Native.Nat.{ℕ}
 use mathlib.Core.Path.{_≡_}

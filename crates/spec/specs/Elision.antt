@@ -1,4 +1,5 @@
--- Paper 01, pass 1, silent letters: which т and д of a word are elided. Each is judged by its neighbours as they are written, elided or not.
+-- Paper 01, pass 1, silent letters: which т and д of a word are elided. Each is judged by its
+-- neighbours as they are written, elided or not.
 -- Assumes nothing: these are definitions.
 use Prim.Native.Nat.{ℕ}
 use mathlib.Core.Bool.{Bool, cond, _&&_, _||_}
@@ -12,11 +13,13 @@ unfoldable pub secondByte : List Letter → ℕ
 secondByte [] = 0
 secondByte (l ∷ w) = firstByte w
 
--- Letters in a row, 0 for none. т after p and before c and d: after с before ск or н; after н before ск
+-- Letters in a row, 0 for none. т after p and before c and d: after с before ск or н; after н
+-- before ск
 unfoldable pub elidesT : ℕ → ℕ → ℕ → Bool
 elidesT p c d = (eqb p «с» && (eqb c «с» && eqb d «к» || eqb c «н»)) || (eqb p «н» && (eqb c «с» && eqb d «к»))
 
--- д after p and before c and d: after р before ч or ц; after з before н or ц; after н before ц, с or шт
+-- д after p and before c and d: after р before ч or ц; after з before н or ц; after н before ц, с
+-- or шт
 unfoldable pub elidesD : ℕ → ℕ → ℕ → Bool
 elidesD p c d =
     (eqb p «р» && (eqb c «ч» || eqb c «ц»))

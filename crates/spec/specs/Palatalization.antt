@@ -23,7 +23,8 @@ dentalBefore b c = among dentals b && among (Т' ∷ Д' ∷ С' ∷ З' ∷ Н'
 unfoldable pub nasalBefore : ℕ → ℕ → Bool
 nasalBefore b c = eqb b «н» && among (Ч ∷ Ч1 ∷ Щ ∷ Ж' ∷ []) c
 
--- the other letters of class P: before the palatalized sound that they, or the letter of their pair, would make themselves
+-- the other letters of class P: before the palatalized sound that they, or the letter of their
+-- pair, would make themselves
 unfoldable pub ownBefore : ℕ → ℕ → Bool
 ownBefore b c =
     not (among dentals b)

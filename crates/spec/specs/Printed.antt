@@ -1,4 +1,6 @@
--- Paper 01, 'Joints', the program: the text that it prints for a message, in ASCII. The text that a second program prints for a text in UTF-8, with paper 02's slips 1 and 2 before it; and that a third prints for a level in decimal, with slip 5 before it.
+-- Paper 01, 'Joints', the program: the text that it prints for a message, in ASCII. The text that a
+-- second program prints for a text in UTF-8, with paper 02's slips 1 and 2 before it; and that a
+-- third prints for a level in decimal, with slip 5 before it.
 -- Assumes nothing: these are definitions.
 use Prim.Native.Nat.{ℕ, zero, suc, _+_, _-_, _*_, _/_, _%_}
 use mathlib.Core.Bool.{Bool, true, cond, _&&_, not}
@@ -35,7 +37,8 @@ unfoldable pub printedAnswer : Answer → List ℕ → List ℕ
 printedAnswer (Written n k) codes = printedCodes codes
 printedAnswer (Refused r) codes = ascii "refused " ++ (decimal (r .number) ++ (ascii " at " ++ decimal (r .place)))
 
--- The whole text for a message m: the transcriber's answer, lent two bytes of output for each byte of the longest message, and a newline.
+-- The whole text for a message m: the transcriber's answer, lent two bytes of output for each byte
+-- of the longest message, and a newline.
 unfoldable pub printed : List ℕ → List ℕ
 printed m = printedAnswer (tapeAnswer m 8192) (tape m) ++ ascii "\n"
 
@@ -56,7 +59,8 @@ printedText t =
     cond (leb (length t) 65536)
     (printedAnswer (textAnswer t) (tape (edited (decoded t))) ++ ascii "\n") []
 
--- A level in decimal, in ASCII, where 45 is the minus sign and 48 to 57 are the digits: the text begins with a minus sign or with none,
+-- A level in decimal, in ASCII, where 45 is the minus sign and 48 to 57 are the digits: the text
+-- begins with a minus sign or with none,
 unfoldable pub signLength : List ℕ → ℕ
 signLength [] = 0
 signLength (b ∷ t) = cond (eqb b 45) 1 0

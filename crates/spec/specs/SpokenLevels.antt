@@ -1,4 +1,5 @@
--- Paper 02, slip 5, spoken levels: the Russian words of a level in centimetres, as a message. docs/LEVELS.md has the same table of words.
+-- Paper 02, slip 5, spoken levels: the Russian words of a level in centimetres, as a message.
+-- docs/LEVELS.md has the same table of words.
 -- Assumes nothing: these are definitions.
 use Prim.Native.Nat.{ℕ, zero, suc, _*_, _/_, _%_, _≤_}
 use Prim.Native.Char.{code}
@@ -18,7 +19,8 @@ use Rattle.spec.specs.declared.Answer.{Answer}
 use Rattle.spec.specs.declared.Answer.the-variants.{Refused}
 
 infix 70 _says_
--- the byte of the character with this number, by the table of slip 2; 0, which has no row, where there is none
+-- the byte of the character with this number, by the table of slip 2; 0, which has no row, where
+-- there is none
 unfoldable pub byteNumbered : List Character → ℕ → ℕ
 byteNumbered [] c = 0
 byteNumbered (b is k ∷ rows) c = cond (eqb c k) b (byteNumbered rows c)
@@ -84,7 +86,8 @@ belowHundred n =
 unfoldable pub numberWords : ℕ → List (List ℕ)
 numberWords n = thousands (n / 1000) ++ (wordIn hundreds (n % 1000 / 100 * 100) ++ belowHundred (n % 100))
 
--- the words of a level: zero has its own and no minus; above zero the number's; below it, where negsuc n is -(n + 1), minus first
+-- the words of a level: zero has its own and no minus; above zero the number's; below it, where
+-- negsuc n is -(n + 1), minus first
 unfoldable pub levelWords : ℤ → List (List ℕ)
 levelWords (pos zero) = bytes "но*ль" ∷ []
 levelWords (pos (suc n)) = numberWords (suc n)

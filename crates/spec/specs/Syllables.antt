@@ -1,4 +1,5 @@
--- Paper 01, pass 2: the syllables of a word, and their names. The words here have been through pass 1.
+-- Paper 01, pass 2: the syllables of a word, and their names. The words here have been through pass
+-- 1.
 -- Assumes nothing: these are definitions.
 use Prim.Native.Nat.{ℕ}
 use mathlib.Core.Bool.{Bool, false, cond, _||_, not}
@@ -10,7 +11,8 @@ use Rattle.spec.specs.declared.Level.{Level}
 use Rattle.spec.specs.declared.Level.the-variants.{Stressed, First, Second}
 use Rattle.spec.specs.declared.Syllable.{Syllable}
 
--- a vowel stands alone in its syllable unless a consonant or a sign stands right before it in the word; p is the letter before, 0 at the start
+-- a vowel stands alone in its syllable unless a consonant or a sign stands right before it in the
+-- word; p is the letter before, 0 at the start
 unfoldable pub coverAfter : ℕ → Cover
 coverAfter p = cond (isConsonant p || isSign p) Covered Bare
 
@@ -31,7 +33,8 @@ pub record Facts : Type 0 where
 abbrev pub factsOf : List Letter → Facts
 factsOf w = record { marked = hasMark w }
 
--- the level of the vowel l before w: S, 1, 2 are Stressed, First, Second; where the word has no mark there is no level 2
+-- the level of the vowel l before w: S, 1, 2 are Stressed, First, Second; where the word has no
+-- mark there is no level 2
 unfoldable pub levelOf : Facts → Letter → List Letter → Level
 levelOf facts l w = cond (l .stressed) Stressed (cond (nextStressed w || not (facts .marked)) First Second)
 

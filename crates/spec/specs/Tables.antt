@@ -1,4 +1,5 @@
--- What the tables of the papers are written with: a class is a list of bytes, a table a list of entries, and bytes of ASCII may be quoted.
+-- What the tables of the papers are written with: a class is a list of bytes, a table a list of
+-- entries, and bytes of ASCII may be quoted.
 -- Assumes nothing: these are definitions.
 use Prim.Native.Nat.{ℕ}
 use Prim.Native.Char.{code}

@@ -1,4 +1,5 @@
--- Paper 02, slip 2, texts in UTF-8: the reader turns a text into our bytes, the writer turns an accepted message back.
+-- Paper 02, slip 2, texts in UTF-8: the reader turns a text into our bytes, the writer turns an
+-- accepted message back.
 -- Assumes nothing: these are definitions.
 use Prim.Native.Nat.{ℕ, _+_, _/_, _%_, _<_}
 use mathlib.Core.Path.{_≡_}
@@ -86,7 +87,8 @@ unfoldable pub byteIn : List Character → List ℕ → ℕ
 byteIn [] s = 0
 byteIn (x is c ∷ rows) s = cond (same s (octets c)) x (byteIn rows s)
 
--- both by the whole table: the sequence of a byte, the byte of a sequence, and whether that is one of the table's
+-- both by the whole table: the sequence of a byte, the byte of a sequence, and whether that is one
+-- of the table's
 unfoldable pub sequence : ℕ → List ℕ
 sequence b = sequenceIn characters b
 
@@ -101,7 +103,9 @@ unfoldable pub encoded : List ℕ → List ℕ
 encoded [] = []
 encoded (b ∷ m) = sequence b ++ encoded m
 
--- Slip 2, reading: a text is cut into sequences of the table, each gives its byte, and it ends where none of them begins. They have one octet or two, and none begins another, so there is one way to cut.
+-- Slip 2, reading: a text is cut into sequences of the table, each gives its byte, and it ends
+-- where none of them begins. They have one octet or two, and none begins another, so there is one
+-- way to cut.
 unfoldable pub decoded : List ℕ → List ℕ
 decoded [] = []
 decoded (a ∷ []) = cond (isTaken (a ∷ [])) (byteOf (a ∷ []) ∷ []) []
@@ -126,13 +130,15 @@ pub record RunOf (t m : List ℕ) : Type 0 where
 abbrev pub Readable : List ℕ → Type 0
 Readable t = (m : List ℕ) × RunOf t m
 
--- What number 13 means at place p: up to there the text is such a run, and there it goes on with none of the table's sequences, so what stands there is malformed or means another character.
+-- What number 13 means at place p: up to there the text is such a run, and there it goes on with
+-- none of the table's sequences, so what stands there is malformed or means another character.
 pub record StopsAt (t : List ℕ) (p : ℕ) : Type 0 where
   pub within : p < length t
   pub before : Readable (take p t)
   pub after : (b : ℕ) (rest : List ℕ) → hasRow b ≡ true → drop p t ≢ (sequence b ++ rest)
 
--- The reader, lent an output of this room: number 13 where not all of the text is cut, at the first octet that is left, and then 11.
+-- The reader, lent an output of this room: number 13 where not all of the text is cut, at the first
+-- octet that is left, and then 11.
 unfoldable pub readAnswer : List ℕ → ℕ → Answer
 readAnswer t room = cond (eqb (readTo t) (length t)) (within room (length (decoded t)) 0) (Refused (refusal unreadableText (readTo t)))
 

@@ -1,12 +1,15 @@
--- Paper 01, pass 4, voice: an obstruent (the paper's noise letter) is voiced or voiceless by the sound after it.
+-- Paper 01, pass 4, voice: an obstruent (the paper's noise letter) is voiced or voiceless by the
+-- sound after it.
 -- Assumes nothing: these are definitions.
 use Prim.Native.Nat.{ℕ}
 use mathlib.Core.Bool.{Bool, false, cond}
 use mathlib.Core.List.{List, [], _∷_}
-use Rattle.spec.specs.Alphabet.{«б», «в», «г», «д», «ж», «з», «к», «п», «с», «т», «ф», «х», «ц», «ч», «ш», «щ»}
+use Rattle.spec.specs.Alphabet.{«б», «в», «г», «д», «ж», «з», «к», «п», «с», «т», «ф», «х»}
+use Rattle.spec.specs.Alphabet.{«ц», «ч», «ш», «щ»}
 use Rattle.spec.specs.Tables.{_gives_, entry}
 use Rattle.spec.specs.Letters.{isObstruent}
-use Rattle.spec.specs.Codes.{Б, В, Г, Х1, Д, Ж, Ж', З, К, П, С, Т, Ф, Х, Ц, Ц1, Ч, Ч1, Ш, Щ, isVoicing, isDevoicing}
+use Rattle.spec.specs.Codes.{Б, В, Г, Х1, Д, Ж, Ж', З, К, П, С, Т, Ф, Х, Ц, Ц1, Ч, Ч1, Ш, Щ}
+use Rattle.spec.specs.Codes.{isVoicing, isDevoicing}
 use Rattle.spec.specs.Phones.{Phone}
 
 -- the pairs, voiced: х ц ч щ give Х1 Ц1 Ч1 Ж'
@@ -33,12 +36,14 @@ voicelessCode b =
 pub data Tone : Type 0 where
   voiced voiceless asWritten : Tone
 
--- do these sounds voice an obstruent before them? So it is within a word, over a gap, and at a live joint.
+-- do these sounds voice an obstruent before them? So it is within a word, over a gap, and at a live
+-- joint.
 unfoldable pub voices : List ℕ → Bool
 voices [] = false
 voices (c ∷ t) = isVoicing c
 
--- before the later sounds t of its word; with none, by whether the next word of the phrase voices it
+-- before the later sounds t of its word; with none, by whether the next word of the phrase voices
+-- it
 unfoldable pub toneOf : Bool → List ℕ → Tone
 toneOf next [] = cond next voiced voiceless
 toneOf next (c ∷ t) = cond (voices (c ∷ t)) voiced (cond (isDevoicing c) voiceless asWritten)

@@ -8,7 +8,8 @@ use Rattle.spec.specs.Letters.{between}
 use Rattle.spec.specs.Utf8.{octets, sequence, byteOf}
 use Rattle.letters.specs.Classes.{tabulate}
 
--- what a letter begins with that ends with this octet, but for Ё and ё; a gap, with which none begins, where none ends so
+-- what a letter begins with that ends with this octet, but for Ё and ё; a gap, with which none
+-- begins, where none ends so
 unfoldable pub leadOf : ℕ → ℕ
 leadOf next = cond (between 0x80 0x8F next) 0xD1 (cond (between 0x90 0xBF next) 0xD0 gap)
 
@@ -22,7 +23,8 @@ letterOf c = byteOf (octets (0x400 + c))
 unfoldable pub letters : List ℕ
 letters = tabulate letterOf 0 128
 
--- the two octets of a letter as one number, the first times 256 and the second; 0 where there are not two
+-- the two octets of a letter as one number, the first times 256 and the second; 0 where there are
+-- not two
 unfoldable pub both : List ℕ → ℕ
 both [] = 0
 both (a ∷ []) = 0

@@ -8,7 +8,8 @@ use Rattle.spec.specs.Utf8.{sequence, decoded, readTo}
 use Rattle.utf8.specs.declared.Extent.{Extent}
 use Rattle.utf8.specs.declared.Letter.{Letter}
 
--- A loop over a text stands at place i and has read n bytes: from there on the rest is read, of the octets and of the bytes.
+-- A loop over a text stands at place i and has read n bytes: from there on the rest is read, of the
+-- octets and of the bytes.
 pub record Stands (t : List ℕ) (i n : ℕ) : Type 0 where
   pub within : i ≤ length t
   pub octets : i + readTo (drop i t) ≡ readTo t

@@ -1,4 +1,5 @@
-// The reader (paper 02, slip 2). The text is gone over twice: nothing may be written before all of it is known to be readable and to have room.
+// The reader (paper 02, slip 2). The text is gone over twice: nothing may be written before all of
+// it is known to be readable and to have room.
 ghost use mathlib.Core.Path.{_≡_};
 ghost use Prim.Native.Nat.{_+_, _≤_};
 ghost use lib.ListN.{length};
@@ -26,7 +27,8 @@ fn is_single(b: u8) -> bool
     (b == b'*') | is_break(b)
 }
 
-// How far it is readable where so many octets were read before, which became so many bytes, and at most one is left.
+// How far it is readable where so many octets were read before, which became so many bytes, and at
+// most one is left.
 fn measure_last(text: &[u8], octets: usize, bytes: usize) -> Extent
     requires { ⌜ Stands (now text) octets bytes × (length (now text) ≤ octets + 1) ⌝ }
     ensures { λ r. ⌜ Reaches (now (text .entry)) r ⌝ }
@@ -42,7 +44,8 @@ fn measure_last(text: &[u8], octets: usize, bytes: usize) -> Extent
     Extent { octets, bytes }
 }
 
-// How far the text is readable. The loop stops before the last octet, so that another always follows.
+// How far the text is readable. The loop stops before the last octet, so that another always
+// follows.
 fn measure(text: &[u8], t: &LeadTable) -> Extent
     requires { ⌜ now t ≡ leads ⌝ }
     ensures { λ r. ⌜ Reaches (now (text .entry)) r ⌝ }
@@ -76,7 +79,8 @@ fn measure(text: &[u8], t: &LeadTable) -> Extent
     measure_last(text, i, n)
 }
 
-// Writes the bytes that are read of a text, so many, where there is room for them. Their number ends the loop, so the text's end is not asked for.
+// Writes the bytes that are read of a text, so many, where there is room for them. Their number
+// ends the loop, so the text's end is not asked for.
 fn copy(text: &[u8], bytes: usize, out: &mut [u8], t: &LetterTable)
     requires { ⌜ (now t ≡ letters) × (bytes ≡ length (decoded (now text))) × (bytes ≤ length (now out)) ⌝ }
     ensures { λ _. ⌜ Put (decoded (now (text .entry))) (now (out .entry)) (now (out .exit)) bytes 0 ⌝ }

@@ -1,4 +1,5 @@
-// The tables that reader and writer ask. specs/Tables.antt has their rules, and that these numbers keep them is shown here once; whoever goes over a text makes a copy and lends it.
+// The tables that reader and writer ask. specs/Tables.antt has their rules, and that these numbers
+// keep them is shown here once; whoever goes over a text makes a copy and lends it.
 ghost use mathlib.Core.Path.{_≡_};
 ghost use mathlib.Core.Bool.{true, false};
 ghost use mathlib.Core.List.{[], _∷_};
@@ -23,7 +24,8 @@ pub type LetterTable = [u8; 128];
 
 pub type SequenceTable = [u16; 88];
 
-// What a letter begins with, by the octet that it ends with. Ё and ё are not here: с and Б end like them.
+// What a letter begins with, by the octet that it ends with. Ё and ё are not here: с and Б end like
+// them.
 const LEADS: LeadTable = [
     NO, // 00
     NO, // 01

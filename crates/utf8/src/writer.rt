@@ -1,4 +1,5 @@
-// The writer (paper 02, slip 2). A byte of an accepted message is a letter, of two octets, or stands for itself.
+// The writer (paper 02, slip 2). A byte of an accepted message is a letter, of two octets, or
+// stands for itself.
 ghost use mathlib.Core.Path.{_≡_};
 ghost use mathlib.Core.Bool.{true};
 ghost use Prim.Native.Nat.{_≤_};
@@ -67,7 +68,8 @@ fn write_octets(m: &[u8], out: &mut [u8], t: &SequenceTable) -> usize
     at
 }
 
-// Writes an accepted message. Only an output that is shorter than two octets for each byte can be too short.
+// Writes an accepted message. Only an output that is shorter than two octets for each byte can be
+// too short.
 fn write_accepted(m: &[u8], out: &mut [u8]) -> Answer
     requires { ⌜ NoneFits (now m) ⌝ }
     ensures { λ r. ⌜ Promise (within (length (now (out .entry))) (length (encoded (now (m .entry)))) 0) (encoded (now (m .entry))) (now (out .entry)) (now (out .exit)) r ⌝ }
