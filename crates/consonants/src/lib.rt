@@ -13,10 +13,10 @@ pub mod tables;
 // more where it has none, and then the next word decides how an obstruent sounds.
 pub const VOICELESS_END: usize = 0;
 
-pub const VOICED_END: usize = 57;
+const VOICED_END: usize = 57;
 
 // It is this more where the next letter palatalizes.
-pub const PALATALIZING: usize = 64;
+const PALATALIZING: usize = 64;
 
 // The code of the consonant b, a small letter or a capital, before a sound.
 pub fn consonant_code(b: u8, sound: usize, s: &SoundTable) -> u8

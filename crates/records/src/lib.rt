@@ -33,7 +33,7 @@ pub enum Walked {
 pub const HEAD_SIZE: usize = 7;
 
 // Where in the head the number, the set of listeners and the tape's length stand.
-pub const NUMBER: usize = 2;
+const NUMBER: usize = 2;
 
 pub const SET: usize = 4;
 
@@ -56,7 +56,7 @@ fn is_marked(x: &[u8], i: usize) -> bool
 }
 
 // Where the record at place i ends by its head.
-pub fn record_end(x: &[u8], i: usize) -> usize
+fn record_end(x: &[u8], i: usize) -> usize
     requires { ⌜ i + headSize ≤ length (now x) ⌝ }
     ensures { λ r. ⌜ r ≡ i + spanIn bookStorage (drop i (now (x .entry))) ⌝ }
 {
@@ -64,7 +64,7 @@ pub fn record_end(x: &[u8], i: usize) -> usize
 }
 
 // Does a record stand at place i, with its mark, its head and its whole tape?
-pub fn is_record(x: &[u8], i: usize) -> bool
+fn is_record(x: &[u8], i: usize) -> bool
     requires { ⌜ i ≤ length (now x) ⌝ }
     ensures { λ r. ⌜ r ≡ isRecord bookStorage (drop i (now (x .entry))) ⌝ }
 {

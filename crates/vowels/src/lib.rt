@@ -156,7 +156,7 @@ fn row_i(s: Syllable, before: LetterBefore, hard: bool) -> u8
 
 // The sound of the vowel b, small or capital, of syllable s at place i: an arm for each row. The
 // byte before has class k.
-pub fn vowel_sound(b: u8, s: Syllable, m: &[u8], i: usize, k: usize) -> u8
+fn vowel_sound(b: u8, s: Syllable, m: &[u8], i: usize, k: usize) -> u8
     requires { ⌜ Before (now m) i k ⌝ }
     ensures { λ r. ⌜ RowAt (rowOf (small b)) (now (m .entry)) i s r ⌝ }
 {
