@@ -1,4 +1,5 @@
--- The code's table by its rule: what it gives for a letter and a sound is the letter's code before that sound, by one computation over all of them.
+-- The code's table by its rule: what it gives for a letter and a sound is the letter's code before that sound, by one computation over all
+-- of them.
 use Rattle.laws.proofs.Kit.{ℕ, _+_, _*_, _%_, _<_, _≤_, _≡_, refl, true, cond, not, List, [], _∷_}
 use Rattle.laws.proofs.Kit.{arith, eqb, leb, getD, eqb-true, leb-true}
 use Rattle.laws.proofs.Classes.{below-same, where-same, pairs-same}
@@ -43,14 +44,20 @@ abbrev inRow : ℕ → ℕ → ℕ
 inRow j s = getD soundTable (rowNumber soundTable s * 4 + j) 0
 
 -- is the letter's code, and that of a consonant is a sound
-code-row : (j s : ℕ) → j < 26 → s < 128 → (eqb (inRow j s) (codeBefore (224 + j) s) ∷ cond (isConsonant (224 + j)) (isSound (inRow j s)) true ∷ []) ≡ (true ∷ true ∷ [])
+code-row : (j s : ℕ) → j < 26 → s < 128
+    → (eqb (inRow j s) (codeBefore (224 + j) s) ∷ cond (isConsonant (224 + j)) (isSound (inRow j s)) true ∷ []) ≡ (true ∷ true ∷ [])
 unfolding table
-code-row j s = pairs-same (λ x y. eqb (inRow x y) (codeBefore (224 + x) y) ∷ cond (isConsonant (224 + x)) (isSound (inRow x y)) true ∷ []) (λ _ _. true ∷ true ∷ []) 26 128 j s refl
+code-row j s =
+    pairs-same (λ x y. eqb (inRow x y) (codeBefore (224 + x) y) ∷ cond (isConsonant (224 + x)) (isSound (inRow x y)) true ∷ [])
+    (λ _ _. true ∷ true ∷ []) 26 128 j s refl
 
 -- the small letter of a consonant byte is told by its last five bits
 consonant-letter : (b : ℕ) → b < 256 → consonantByte b ≡ true → (224 + b % 32 ≡ small b) × (leb (b % 32) 25 ≡ true)
 unfolding everything
-consonant-letter b h k = (where-same consonantByte (λ x. 224 + x % 32) small 0 b refl h k, where-same consonantByte (λ x. leb (x % 32) 25) (λ _. true) true b refl h k)
+consonant-letter b h k = (
+  where-same consonantByte (λ x. 224 + x % 32) small 0 b refl h k,
+  where-same consonantByte (λ x. leb (x % 32) 25) (λ _. true) true b refl h k,
+)
 
 -- what the code reads of a consonant b before a sound s
 pub record Read (t : List ℕ) (b s : ℕ) : Type 0 where

@@ -6,7 +6,8 @@ use Rattle.laws.proofs.Kit.{[], _∷_, _++_, append-nil, append-assoc, arith, a
 use Rattle.laws.proofs.Kit.{length-drop, List·getD-append, take-all, take-length, take-at, take-suc, take-take, take-append-le, drop-at}
 use Rattle.laws.proofs.Kit.{drop-length, drop-cons, append-snoc, getD-take, length-take-le}
 use Rattle.spec.specs.Joints.{RisingFrom, joinedFrom, joined, liveCount, markIndex, leastAt}
-use Rattle.spec.specs.{Tape.sounds, Tape.tape, Refusals.checkOf, LevelSteps.levelSteps, Layers.TapePromise, declared.Checked.the-variants.Accepted}
+use Rattle.spec.specs.{Tape.sounds, Tape.tape, Refusals.checkOf, LevelSteps.levelSteps, Layers.TapePromise}
+use Rattle.spec.specs.{declared.Checked.the-variants.Accepted}
 use Rattle.laws.proofs.Parts.{or-false, live-here, mark-there, part-first, first-own}
 use Rattle.laws.specs.{Parts.part, Parts.Begins, Parts.changedAfter, Parts.changedBefore, Parts.Ends}
 use Rattle.laws.proofs.MarkIndex.{Placed, stretch, end-own, placed, own-length, own-codes}

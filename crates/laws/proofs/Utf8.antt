@@ -1,6 +1,11 @@
--- Reading and writing undo each other: a row's octets are read as its byte whatever follows them, and what is read has its row's octets. So a text can be cut in one way only.
-use Rattle.laws.proofs.Kit.{ℕ, _+_, _*_, _<_, _≤_, _≡_, _≢_, refl, sym, ap, _∙_, true, false, cond, true≢false, false≢true, List, [], _∷_, _++_, append-assoc, append-nil, map, arith, eqb, leb, length, take, drop, length-append, take-at, drop-at, take-append-drop, length-take-le, eq-eqb, eqb-true, ne-eqb, leb-true, leb-false, lt-leb, not-true, or-true, and-false}
-use Rattle.spec.specs.Letters.{small, hardOnly, paired, softOnly, signs, plainVowels, softeningVowels, isConsonant, isSign, isVowel, isBreak, isMark}
+-- Reading and writing undo each other: a row's octets are read as its byte whatever follows them, and what is read has its row's octets. So
+-- a text can be cut in one way only.
+use Rattle.laws.proofs.Kit.{ℕ, _+_, _*_, _<_, _≤_, _≡_, _≢_, refl, sym, ap, _∙_, true, false, cond, true≢false, false≢true, List, []}
+use Rattle.laws.proofs.Kit.{_∷_, _++_, append-assoc, append-nil, map, arith, eqb, leb, length, take, drop, length-append, take-at}
+use Rattle.laws.proofs.Kit.{drop-at, take-append-drop, length-take-le, eq-eqb, eqb-true, ne-eqb, leb-true, leb-false, lt-leb}
+use Rattle.laws.proofs.Kit.{not-true, or-true, and-false}
+use Rattle.spec.specs.Letters.{small, hardOnly, paired, softOnly, signs, plainVowels, softeningVowels, isConsonant, isSign, isVowel}
+use Rattle.spec.specs.Letters.{isBreak, isMark}
 use Rattle.spec.specs.Alphabet.{gap, pause, mark}
 use Rattle.spec.specs.Tables.{among, same}
 use Rattle.spec.specs.Refusals.{consonantByte, signByte, vowelByte, letterByte, row3, rows, fitsIn, beforeAt, NoneFits}

@@ -1,8 +1,9 @@
--- What the byte before a place tells of the last letter of the word before it. Only a break and a mark are no letters, and a mark stands right
--- after a vowel; so of a consonant and a sign the byte tells which it is, and that there is none.
+-- What the byte before a place tells of the last letter of the word before it. Only a break and a mark are no letters, and a mark stands
+-- right after a vowel; so of a consonant and a sign the byte tells which it is, and that there is none.
 use Rattle.laws.proofs.Kit.{ℕ, zero, suc, _-_, _<_, _≤_, _≡_, refl, sym, ap, _∙_, true, false, false≢true, List, [], _∷_, _++_, map}
 use Rattle.laws.proofs.Kit.{arith, eqb, length, getD, eqb-true}
-use Rattle.spec.specs.Letters.{small, hardOnly, paired, softOnly, signs, plainVowels, softeningVowels, isMark, isBreak, isVowel, isSign, isConsonant}
+use Rattle.spec.specs.Letters.{small, hardOnly, paired, softOnly, signs, plainVowels, softeningVowels, isMark, isBreak, isVowel, isSign}
+use Rattle.spec.specs.Letters.{isConsonant}
 use Rattle.spec.specs.Letters.{isHardOnly, isPaired, isSoftOnly}
 use Rattle.spec.specs.{Alphabet.mark, Alphabet.pause, Alphabet.«ь», Tables.among, Refusals.vowelByte, Vowels.initial}
 use Rattle.letters.specs.Classes.{classOf, isLetterClass, byteBefore}

@@ -5,17 +5,24 @@ use Rattle.spec.specs.Alphabet.{«д», «и», «о», «т», «ь»}
 use Rattle.spec.specs.Letters.{small, isMark, isBreak, isConsonant}
 use Rattle.spec.specs.Refusals.{vowelByte, signByte, hardSignByte, consonantByte, letterByte}
 use Rattle.spec.specs.{Tables.among, Vowels.iotated}
-use Rattle.letters.specs.Classes.{classOf, classCount, isBreakClass, isSignClass, isConsonantClass, isVowelClass, isLetterClass, isCoveringClass, isTOrD}
+use Rattle.letters.specs.Classes.{classOf, classCount, isBreakClass, isSignClass, isConsonantClass, isVowelClass, isLetterClass}
+use Rattle.letters.specs.Classes.{isCoveringClass, isTOrD}
 use Rattle.letters.specs.Classes.{markClass, hardSignClass, softSignClass, tOrDClass, vowelOClass, iotatedClass, vowelIClass}
 use Rattle.letters.proofs.Computed.{everything}
 
 -- the tests of a byte
 abbrev tests : ℕ → List Bool
-tests b = isMark b ∷ isBreak b ∷ vowelByte b ∷ signByte b ∷ hardSignByte b ∷ eqb (small b) «ь» ∷ consonantByte b ∷ letterByte b ∷ (consonantByte b || signByte b) ∷ among («т» ∷ «д» ∷ []) (small b) ∷ isTOrD b ∷ eqb (small b) «о» ∷ among iotated (small b) ∷ eqb (small b) «и» ∷ true ∷ []
+tests b =
+    isMark b ∷ isBreak b ∷ vowelByte b ∷ signByte b ∷ hardSignByte b ∷ eqb (small b) «ь» ∷ consonantByte b ∷ letterByte b
+    ∷ (consonantByte b || signByte b) ∷ among («т» ∷ «д» ∷ []) (small b) ∷ isTOrD b ∷ eqb (small b) «о» ∷ among iotated (small b)
+    ∷ eqb (small b) «и» ∷ true ∷ []
 
 -- what its class says of them
 abbrev classTests : ℕ → List Bool
-classTests c = eqb c markClass ∷ isBreakClass c ∷ isVowelClass c ∷ isSignClass c ∷ eqb c hardSignClass ∷ eqb c softSignClass ∷ isConsonantClass c ∷ isLetterClass c ∷ isCoveringClass c ∷ eqb c tOrDClass ∷ eqb c tOrDClass ∷ eqb c vowelOClass ∷ eqb c iotatedClass ∷ eqb c vowelIClass ∷ leb (suc c) classCount ∷ []
+classTests c =
+    eqb c markClass ∷ isBreakClass c ∷ isVowelClass c ∷ isSignClass c ∷ eqb c hardSignClass ∷ eqb c softSignClass ∷ isConsonantClass c
+    ∷ isLetterClass c ∷ isCoveringClass c ∷ eqb c tOrDClass ∷ eqb c tOrDClass ∷ eqb c vowelOClass ∷ eqb c iotatedClass
+    ∷ eqb c vowelIClass ∷ leb (suc c) classCount ∷ []
 
 -- the two agree
 tests-same : (b : ℕ) → b < 256 → tests b ≡ classTests (classOf b)
@@ -44,10 +51,27 @@ pub record ByClass (b : ℕ) : Type 0 where
 pub by-class : (b : ℕ) → b < 256 → ByClass b
 by-class b h =
     let e = tests-same b h in
-    record { mark = cc; break = cc; vowel = cc; sign = cc; hardSign = cc; softSign = cc; consonant = cc; letter = cc; covers = cc; silent = cc; tOrD = cc; vowelO = cc; iotatedVowel = cc; vowelI = cc; class = leb-true (suc (classOf b)) classCount (cc) }
+    record {
+      mark = cc;
+      break = cc;
+      vowel = cc;
+      sign = cc;
+      hardSign = cc;
+      softSign = cc;
+      consonant = cc;
+      letter = cc;
+      covers = cc;
+      silent = cc;
+      tOrD = cc;
+      vowelO = cc;
+      iotatedVowel = cc;
+      vowelI = cc;
+      class = leb-true (suc (classOf b)) classCount (cc);
+    }
 
 -- two tests that no byte passes both
-pub not-both : (f g : ℕ → Bool) (b : ℕ) → map (λ x. f x && g x) (below 256) ≡ map (λ _. false) (below 256) → b < 256 → f b ≡ true → g b ≡ false
+pub not-both : (f g : ℕ → Bool) (b : ℕ) → map (λ x. f x && g x) (below 256) ≡ map (λ _. false) (below 256) → b < 256 → f b ≡ true
+    → g b ≡ false
 not-both f g b t h e = rw e at (below-same (λ x. f x && g x) (λ _. false) 256 b t h)
 
 -- a vowel is no break

@@ -133,7 +133,8 @@ byteBefore m (suc i) = getD m i 0
 
 -- is the letter at place i silent, judged by the bytes beside it?
 unfoldable pub elidedAt : List ℕ → ℕ → Bool
-elidedAt m i = elidesAmong (small (byteBefore m i)) (letterAt m i) (letterAt m (i + 1)) (letterAt m (i + 2))
+elidedAt m i =
+    elidesAmong (small (byteBefore m i)) (letterAt m i) (letterAt m (i + 1)) (letterAt m (i + 2))
 
 -- the letters before which one may be elided
 abbrev pub followsElided : ℕ → Bool

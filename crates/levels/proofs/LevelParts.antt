@@ -1,5 +1,6 @@
 -- The words of a level are those of its sign and of its parts, put from the start on.
-use Rattle.laws.proofs.Kit.{ℕ, zero, suc, _*_, _/_, _%_, _<_, _≤_, _≡_, refl, sym, _∙_, true, false, true≢false, false≢true, List, [], _∷_, _++_}
+use Rattle.laws.proofs.Kit.{ℕ, zero, suc, _*_, _/_, _%_, _<_, _≤_, _≡_, refl, sym, _∙_, true, false, true≢false, false≢true, List, [], _∷_}
+use Rattle.laws.proofs.Kit.{_++_}
 use Rattle.laws.proofs.Kit.{arith, length, le-ltb}
 use lib.IntN.{ℤ, pos, negsuc, natAbs}
 use lib.Signed.{ltZ}
@@ -12,12 +13,14 @@ use Rattle.levels.specs.LevelParts.{signWords, Splits, partWords}
 use Rattle.levels.specs.declared.Parts.{Parts}
 
 -- What is spoken of a level with these words: there is room for them from the start on,
-pub level-room : (level : ℤ) (words : List (List ℕ)) {out : List ℕ} → levelWords level ≡ words → length (spoken level) ≤ length out → Room words out 0
+pub level-room : (level : ℤ) (words : List (List ℕ)) {out : List ℕ} → levelWords level ≡ words → length (spoken level) ≤ length out
+    → Room words out 0
 unfolding placed spoken
 level-room level words e h = rw (← e) (record { enough = omega arith })
 
 -- and when they are put it is.
-pub level-put : (level : ℤ) (words : List (List ℕ)) {out out′ : List ℕ} {r : ℕ} → levelWords level ≡ words → Adds words out out′ 0 r → Put (spoken level) out out′ r 0
+pub level-put : (level : ℤ) (words : List (List ℕ)) {out out′ : List ℕ} {r : ℕ} → levelWords level ≡ words → Adds words out out′ 0 r
+    → Put (spoken level) out out′ r 0
 unfolding placed spoken
 level-put level words e p = rw e (p .put)
 

@@ -1,8 +1,10 @@
 -- What the check has seen stays true, over a byte and over any number of bytes that need only be added; at the end it is the answer.
-use Rattle.laws.proofs.Kit.{ℕ, zero, suc, _+_, _-_, _*_, _/_, _%_, _<_, _≤_, _≡_, refl, sym, _∙_, ⊎-elim, Bool, true, false, cond, _&&_, and-false, List, arith, eqb, leb, length, getD, eqb-false, le-leb, lt-leb, eq-eqb, ne-eqb}
+use Rattle.laws.proofs.Kit.{ℕ, zero, suc, _+_, _-_, _*_, _/_, _%_, _<_, _≤_, _≡_, refl, sym, _∙_, ⊎-elim, Bool, true, false, cond, _&&_}
+use Rattle.laws.proofs.Kit.{and-false, List, arith, eqb, leb, length, getD, eqb-false, le-leb, lt-leb, eq-eqb, ne-eqb}
 use Rattle.spec.specs.Refusals.{checkOf}
 use Rattle.letters.specs.Classes.{isBreakClass, isLetterClass, classAt, silentAt}
-use Rattle.message.specs.Steps.{nextKind, faultIn, stopIn, packed, kindAt, codesTo, namesTo, lettersAt, faultHere, Sees, fourAt, silentFour, Counted, finishOf, nameUnit, askUnit, stopUnit}
+use Rattle.message.specs.Steps.{nextKind, faultIn, stopIn, packed, kindAt, codesTo, namesTo, lettersAt, faultHere, Sees, fourAt}
+use Rattle.message.specs.Steps.{silentFour, Counted, finishOf, nameUnit, askUnit, stopUnit}
 use Rattle.message.specs.declared.Seen.{Seen}
 use Rattle.laws.proofs.{Accepted.countsOf, Classes.cond-both, Classes.either, Classes.below-or}
 use Rattle.message.proofs.Faults.{here-clear, kind-small, entry-at, counts-up, last-refused, all-accepted}

@@ -1,12 +1,17 @@
--- The walk of the message check finds the paper's faults: a kind tells all that the rows ask of the bytes before, so a fault goes by kind and class.
-use Rattle.laws.proofs.Kit.{ℕ, zero, suc, _*_, _<_, _≤_, _≡_, refl, sym, _∙_, ⊎-elim, Bool, true, false, cond, _&&_, _||_, not, and-false, or-assoc, or-comm, false≢true, List, [], _∷_, arith, eqb, length, getD, drop, drop-cons, drop-length, eqb-true, ne-eqb}
-use Rattle.spec.specs.Refusals.{vowelByte, signByte, hardSignByte, first, none, adjacent, vowelSign, lettersBefore, row3, row4, row5, row6, row7, row8, row9, row10, rows, firstFit, faultAt, beforeAt, refusal, checkOf}
+-- The walk of the message check finds the paper's faults: a kind tells all that the rows ask of the bytes before, so a fault goes by kind
+-- and class.
+use Rattle.laws.proofs.Kit.{ℕ, zero, suc, _*_, _<_, _≤_, _≡_, refl, sym, _∙_, ⊎-elim, Bool, true, false, cond, _&&_, _||_, not, and-false}
+use Rattle.laws.proofs.Kit.{or-assoc, or-comm, false≢true, List, [], _∷_, arith, eqb, length, getD, drop, drop-cons, drop-length, eqb-true}
+use Rattle.laws.proofs.Kit.{ne-eqb}
+use Rattle.spec.specs.Refusals.{vowelByte, signByte, hardSignByte, first, none, adjacent, vowelSign, lettersBefore, row3, row4, row5, row6}
+use Rattle.spec.specs.Refusals.{row7, row8, row9, row10, rows, firstFit, faultAt, beforeAt, refusal, checkOf}
 use Rattle.spec.specs.{Letters.isMark, Letters.isBreak, declared.Checked.the-variants.Accepted, declared.Checked.the-variants.Refused}
 use Rattle.spec.specs.Numbers.{unknownByte, misplacedBreak, misplacedMark, signFirst, signAfterSign, consonantAfterHardSign, vowelSignVowel}
 use Rattle.spec.specs.Numbers.{longWord, messageMax, wordMax}
 use Rattle.letters.specs.Classes.{classOf, classCount, isBreakClass, isSignClass, isConsonantClass, isVowelClass, isLetterClass, classAt}
 use Rattle.letters.specs.Classes.{markClass, hardSignClass}
-use Rattle.message.specs.Steps.{isVowelKind, isHardSignKind, isVowelSignKind, isSignKind, nextKind, faultIn, kindAt, codesTo, namesTo, lettersAt, faultHere}
+use Rattle.message.specs.Steps.{isVowelKind, isHardSignKind, isVowelSignKind, isSignKind, nextKind, faultIn, kindAt, codesTo, namesTo}
+use Rattle.message.specs.Steps.{lettersAt, faultHere}
 use Rattle.laws.proofs.Accepted.{countsOf, ClearAt, fault-clear, first-refused, passes-accepted}
 use Rattle.laws.proofs.Classes.{refuted, below-or, pairs-same}
 use Rattle.letters.proofs.Bytes.{ByClass, by-class}
@@ -25,14 +30,16 @@ answers k = isBreakClass k ∷ isVowelClass k ∷ isSignKind k ∷ isHardSignKin
 -- what the next kind answers after a byte of class c, by that class and the kind before; a mark, told by t, is passed over
 abbrev after : Bool → ℕ → ℕ → List Bool
 after t k c =
-    isBreakClass c ∷ isVowelClass c ∷ cond t (isSignKind k) (isSignClass c) ∷ cond t (isHardSignKind k) (eqb c hardSignClass) ∷ cond t (isVowelSignKind k) (isSignClass c && isVowelKind k)
+    isBreakClass c ∷ isVowelClass c ∷ cond t (isSignKind k) (isSignClass c) ∷ cond t (isHardSignKind k) (eqb c hardSignClass)
+    ∷ cond t (isVowelSignKind k) (isSignClass c && isVowelKind k)
     ∷ cond t (isVowelClass k) (isVowelClass c) ∷ []
 
 -- it does, where there is no fault
 next-answers : (k c : ℕ) → k < 16 → c < classCount → faultIn k c ≡ 0 → after (eqb c markClass) k c ≡ answers (nextKind k c)
 unfolding everything
 next-answers k c h l e =
-    rw e at (pairs-same (λ k c. cond (eqb (faultIn k c) 0) (after (eqb c markClass) k c) []) (λ k c. cond (eqb (faultIn k c) 0) (answers (nextKind k c)) []) 16 classCount k c refl h l)
+    rw e at (pairs-same (λ k c. cond (eqb (faultIn k c) 0) (after (eqb c markClass) k c) [])
+    (λ k c. cond (eqb (faultIn k c) 0) (answers (nextKind k c)) []) 16 classCount k c refl h l)
 
 -- a vowel right before is no mark, so it is the adjacent letter
 vowel-adjacent : (before : List ℕ) → first vowelByte before ≡ true → adjacent before ≡ before
@@ -41,11 +48,13 @@ vowel-adjacent [] e = refl
 vowel-adjacent (b ∷ before) e = rw (refuted (isMark b) (λ d. false≢true (rw (eqb-true b 42 d) at e)))
 
 -- the kind goes on telling what the rows ask, over a byte without a fault
-told-more : (before : List ℕ) (k b : ℕ) → k < 16 → ByClass b → asked before ≡ answers k → faultIn k (classOf b) ≡ 0 → asked (b ∷ before) ≡ answers (nextKind k (classOf b))
+told-more : (before : List ℕ) (k b : ℕ) → k < 16 → ByClass b → asked before ≡ answers k → faultIn k (classOf b) ≡ 0
+    → asked (b ∷ before) ≡ answers (nextKind k (classOf b))
 unfolding none first adjacent vowelSign nextKind
 told-more before k b h c t f = by (isMark b) refl (rw (← c .mark) at (next-answers k (classOf b) h (c .class) f))
   where
-    by : (u : Bool) → isMark b ≡ u → after u k (classOf b) ≡ answers (nextKind k (classOf b)) → asked (b ∷ before) ≡ answers (nextKind k (classOf b))
+    by : (u : Bool) → isMark b ≡ u → after u k (classOf b) ≡ answers (nextKind k (classOf b))
+        → asked (b ∷ before) ≡ answers (nextKind k (classOf b))
     by true d n =
         let e : classOf b ≡ markClass = eqb-true (classOf b) markClass (sym (c .mark) ∙ d) in
         let w : isVowelKind (nextKind k (classOf b)) ≡ true = rw e in
@@ -68,7 +77,9 @@ faultBy last full k c =
 
 -- the walk's fault; then the 65th letter; then a break last
 abbrev faultOf : Bool → Bool → ℕ → ℕ → ℕ
-faultOf last full k c = let f = cond (eqb (faultIn k c) 0) (cond (isLetterClass c && full) longWord 0) (faultIn k c) in cond (eqb f 0) (cond (isBreakClass c && last) misplacedBreak 0) f
+faultOf last full k c =
+    let f = cond (eqb (faultIn k c) 0) (cond (isLetterClass c && full) longWord 0) (faultIn k c) in
+    cond (eqb f 0) (cond (isBreakClass c && last) misplacedBreak 0) f
 
 -- the two agree
 fault-same : (last full : Bool) (k c : ℕ) → k < 16 → c < classCount → faultBy last full k c ≡ faultOf last full k c
@@ -123,7 +134,8 @@ module _ (m : List ℕ) (bytes : (j : ℕ) → getD m j 0 < 256) where
 
   -- the paper's fault is then the one here, or that of a break last
   fault-paper : (i : ℕ) → ((j : ℕ) → j < i → faultHere m j ≡ 0)
-      → faultAt (beforeAt m i) (getD m i 0) (drop (suc i) m) ≡ cond (eqb (faultHere m i) 0) (cond (isBreakClass (classAt m i) && none (drop (suc i) m)) misplacedBreak 0) (faultHere m i)
+      → faultAt (beforeAt m i) (getD m i 0) (drop (suc i) m)
+      ≡ cond (eqb (faultHere m i) 0) (cond (isBreakClass (classAt m i) && none (drop (suc i) m)) misplacedBreak 0) (faultHere m i)
   unfolding faultHere faultAt firstFit rows row3 row4 row5 row6 row7 row8 row9 row10
   fault-paper i c =
       let x = beforeAt m i in
@@ -144,7 +156,8 @@ module _ (m : List ℕ) (bytes : (j : ℕ) → getD m j 0 < 256) where
   passed-over i h c = passed i c (rw (drop-cons m (suc i) 0 h, and-false (isBreakClass (classAt m i))))
 
   -- a fault is the check's answer, where no byte before has one
-  pub seen-fault : (i n : ℕ) → i < length m → length m ≤ messageMax → ((j : ℕ) → j < i → faultHere m j ≡ 0) → faultHere m i ≡ n → (n ≡ 0 → ⊥) → Refused (refusal n i) ≡ checkOf m
+  pub seen-fault : (i n : ℕ) → i < length m → length m ≤ messageMax → ((j : ℕ) → j < i → faultHere m j ≡ 0) → faultHere m i ≡ n
+      → (n ≡ 0 → ⊥) → Refused (refusal n i) ≡ checkOf m
   seen-fault i n h l c e z = sym (first-refused m l i h (λ j q. passed-over j (omega arith) (λ k r. c k (omega arith))) n (fault-paper i c ∙ rw (e, ne-eqb n 0 z)) z)
 
   -- The whole message, of suc i bytes, is passed.

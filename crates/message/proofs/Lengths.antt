@@ -2,11 +2,13 @@
 -- comes after it, told by its class and the kind before it.
 use Rattle.laws.proofs.Kit.{ℕ, zero, suc, _+_, _<_, _≤_, _≡_, refl, sym, _∙_, Bool, true, false, cond, _&&_, _||_, true≢false, List, []}
 use Rattle.laws.proofs.Kit.{_∷_, arith, eqb, length, getD, drop, eqb-true}
-use Rattle.spec.specs.Letters.{Letter, Message, last, more, putLetter, read, firstWord, small, isMark, isBreak, isVowel, isConsonant, isSign}
+use Rattle.spec.specs.Letters.{Letter, Message, last, more, putLetter, read, firstWord, small, isMark, isBreak, isVowel, isConsonant}
+use Rattle.spec.specs.Letters.{isSign}
 use Rattle.spec.specs.Syllables.{coverAfter, incomplete}
 use Rattle.spec.specs.Counting.{soundCount, codesLeft, namesLeft, codeCountFrom, nameCountFrom, codeCount, nameCount}
 use Rattle.spec.specs.Refusals.{vowelByte, signByte}
-use Rattle.spec.specs.{Alphabet.«ь», Elision.elides, Vowels.bare, Vowels.glides, declared.Cover.the-variants.Bare, declared.Cover.the-variants.Covered}
+use Rattle.spec.specs.{Alphabet.«ь», Elision.elides, Vowels.bare, Vowels.glides, declared.Cover.the-variants.Bare}
+use Rattle.spec.specs.{declared.Cover.the-variants.Covered}
 use Rattle.letters.specs.Classes.{markClass, vowelOClass, iotatedClass, vowelIClass}
 use Rattle.letters.specs.Classes.{classOf, classCount, isBreakClass, isSignClass, isConsonantClass, isLetterClass}
 use Rattle.message.specs.Steps.{isSignKind, isSoftSignKind, kindAt, widthIn, widthAt, codesTo, namesIn, namesTo, tailNames}
@@ -25,7 +27,8 @@ heard k g y s e i o = cond s 0 (cond ((e && (bare (cond (k || g) Covered Bare) |
 
 -- the same by kind and class
 abbrev heardBy : ℕ → ℕ → ℕ
-heardBy k c = heard (isConsonantClass k) (isSignKind k) (isSoftSignKind k) (isSignClass c) (eqb c iotatedClass) (eqb c vowelIClass) (eqb c vowelOClass)
+heardBy k c =
+    heard (isConsonantClass k) (isSignKind k) (isSoftSignKind k) (isSignClass c) (eqb c iotatedClass) (eqb c vowelIClass) (eqb c vowelOClass)
 
 -- and as many are counted
 heard-counted : (k c : ℕ) → k < 16 → c < classCount → isLetterClass c ≡ true → heardBy k c ≡ widthIn k c

@@ -3,7 +3,8 @@ use Rattle.laws.proofs.Kit.{ℕ, _+_, _-_, _*_, _/_, _%_, _<_, _≤_, _≡_, re
 use Rattle.laws.proofs.Kit.{eqb-true, eqb-false, leb-true}
 use Rattle.letters.specs.Classes.{softSignClass, pairedClass, tOrDClass}
 use Rattle.letters.specs.Classes.{classCount, classAt, isBreakClass, isConsonantClass, isSignClass, elidedAt, silentAt}
-use Rattle.message.specs.Steps.{isSoftSignKind, isSignKind, nextKind, faultIn, widthIn, namesIn, askIn, stopIn, packed, pairs, kindAt, widthAt, nameUnit, askUnit, stopUnit}
+use Rattle.message.specs.Steps.{isSoftSignKind, isSignKind, nextKind, faultIn, widthIn, namesIn, askIn, stopIn, packed, pairs, kindAt}
+use Rattle.message.specs.Steps.{widthAt, nameUnit, askUnit, stopUnit}
 use Rattle.letters.proofs.{Silent.class-spoken, Silent.before-spoken, Tabulated.tabulate-at}
 use Rattle.message.proofs.Computed.{everything}
 use Rattle.laws.proofs.{Classes.either, Classes.below, Classes.pairs-same, Elided.only-where}
@@ -68,7 +69,8 @@ pairs-read t k c e h l =
     let r : (0 + (16 * k + c)) % 16 ≡ c = omega arith in
     (omega arith, rw (e, tabulate-at f 0 256 (16 * k + c) (omega arith), q, r), unpacks k c (entry-holds k c h l) .small)
 
--- Only a letter that may be elided is, and it makes one code: so a byte asks where it loses a code, and the codes it makes and the one it loses are those of its class.
+-- Only a letter that may be elided is, and it makes one code: so a byte asks where it loses a code, and the codes it makes and the one it
+-- loses are those of its class.
 pub silent-asks : (m : List ℕ) (i : ℕ) → ((j : ℕ) → getD m j 0 < 256)
     → (silentAt m i ≤ askIn (kindAt m i) (classAt m i)) × (widthAt m i (kindAt m i) + silentAt m i ≡ widthIn (kindAt m i) (classAt m i))
 unfolding askIn widthIn widthAt kindAt nextKind

@@ -1,4 +1,5 @@
--- The naming's walk from the right: each byte settles the names that the definition gives it, and what stands right of it is told by what stood right of the next one.
+-- The naming's walk from the right: each byte settles the names that the definition gives it, and what stands right of it is told by what
+-- stood right of the next one.
 use Rattle.laws.proofs.Kit.{ℕ, suc, _<_, _≡_, refl, ap, _∙_, Bool, true, false, List, [], _∷_, _++_, arith, length, getD}
 use Rattle.spec.specs.{Letters.isBreak, Refusals.vowelByte, Syllables.incomplete, Syllables.nameOf, declared.Level.Level}
 use Rattle.letters.specs.{Classes.classOf, Classes.isVowelClass, Places.lastAt, Places.Steady}
@@ -27,7 +28,8 @@ name-step m steady i h = by (isBreak (getD m i 0)) refl (vowelByte (getD m i 0))
 module _ {m out : List ℕ} {i : ℕ} {v : NameState} (ready : NameReady m out i v) where
   module _ (c : isVowelClass (classOf (getD m i 0)) ≡ true) where
     -- a vowel settles its syllable's name
-    pub vowel-piece : {n : Level} → n ≡ numbered (countedBy (v .levels .since) (v .levels .marked)) → namePiece m i ≡ nameOf (syllableBy (classBefore m i) n) ∷ []
+    pub vowel-piece : {n : Level} → n ≡ numbered (countedBy (v .levels .since) (v .levels .marked))
+        → namePiece m i ≡ nameOf (syllableBy (classBefore m i) n) ∷ []
     unfolding namePiece
     vowel-piece e =
         let k : vowelByte (getD m i 0) ≡ true = by-class (getD m i 0) (ready .steady .bytes i) .vowel ∙ c in
@@ -44,7 +46,8 @@ module _ {m out : List ℕ} {i : ℕ} {v : NameState} (ready : NameReady m out i
   other-piece b k = rw (b, k) (put-none out (v .at))
 
   -- the name is put, and the run goes on over the byte
-  pub named-within : {out′ : List ℕ} {at : ℕ} {q : LevelRun} → isBreak (getD m i 0) ≡ false → q ≡ stepOver (v .levels) (getD m i 0) → Put (namePiece m i) out out′ (v .at) at
+  pub named-within : {out′ : List ℕ} {at : ℕ} {q : LevelRun} → isBreak (getD m i 0) ≡ false → q ≡ stepOver (v .levels) (getD m i 0)
+      → Put (namePiece m i) out out′ (v .at) at
       → Named m out out′ i v (record { at = at; levels = q })
   named-within b e p = record { stands = rw e (levels-over m (ready .steady) i (ready .within) (ready .stands) b); put = p }
 
@@ -55,7 +58,8 @@ module _ {m out : List ℕ} {i : ℕ} {v : NameState} (ready : NameReady m out i
     word-ends = record { within = omega (arith, ready .within); steady = ready .steady; room = rw b at (ready .room); place = ready .place }
 
     -- it puts the name of an incomplete syllable
-    pub named-break : {out′ : List ℕ} {at : ℕ} {q : LevelRun} → Put (incomplete (lastAt m i)) out out′ (v .at) at → Looked m i (stepOver (v .levels) (getD m i 0)) q
+    pub named-break : {out′ : List ℕ} {at : ℕ} {q : LevelRun} → Put (incomplete (lastAt m i)) out out′ (v .at) at
+        → Looked m i (stepOver (v .levels) (getD m i 0)) q
         → Named m out out′ i v (record { at = at; levels = q })
     unfolding namePiece
     named-break p a = record { stands = levels-break m (ready .steady) i (ready .within) (ready .stands) b a; put = rw b p }

@@ -70,7 +70,8 @@ fn name_of(s: Syllable) -> u8
 // The end of a word, at place i: letters after its last vowel are an incomplete syllable.
 fn put_end(m: &[u8], i: usize, at: usize, out: &mut [u8], t: &ClassTable) -> usize
     requires { ⌜ (now t ≡ classes) × WordEnd (now m) (now out) i at ⌝ }
-    ensures { λ r. ⌜ Put (incomplete (lastAt (now (m .entry)) i)) (now (out .entry)) (now (out .exit)) at r ⌝ }
+    ensures { λ r. ⌜ Put (incomplete (lastAt (now (m .entry)) i))
+        (now (out .entry)) (now (out .exit)) at r ⌝ }
 {
     if is_consonant_or_sign(class_before(m, i, t)) {
         return put(out, at, INCOMPLETE);

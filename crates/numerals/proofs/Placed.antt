@@ -1,5 +1,7 @@
--- Words that were put one after the other were put together: after the first the place is no longer the start, so each further one stands behind a gap.
-use Rattle.laws.proofs.Kit.{ℕ, _+_, _<_, _≤_, _≡_, refl, sym, ap, _∙_, Bool, true, false, cond, List, [], _∷_, _++_, append-assoc, append-nil, arith, eqb, length, take, drop, length-append, take-length, ne-eqb}
+-- Words that were put one after the other were put together: after the first the place is no longer the start, so each further one stands
+-- behind a gap.
+use Rattle.laws.proofs.Kit.{ℕ, _+_, _<_, _≤_, _≡_, refl, sym, ap, _∙_, Bool, true, false, cond, List, [], _∷_, _++_, append-assoc}
+use Rattle.laws.proofs.Kit.{append-nil, arith, eqb, length, take, drop, length-append, take-length, ne-eqb}
 use Rattle.spec.specs.Alphabet.{gap}
 use Rattle.spec.specs.SpokenLevels.{Row, _says_, units, feminine, wordIn, afterGaps, spaced}
 use Rattle.laws.proofs.Classes.{cond-same}

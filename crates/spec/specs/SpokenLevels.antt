@@ -123,7 +123,9 @@ InRange level = natAbs level ≤ levelMax
 
 -- The operation, lent an output of this room: number 14 first of all, and then 11.
 unfoldable pub levelAnswer : ℤ → ℕ → Answer
-levelAnswer level room = cond (leb (natAbs level) levelMax) (within room (length (spoken level)) 0) (Refused (refusal levelOutside 0))
+levelAnswer level room =
+    cond (leb (natAbs level) levelMax) (within room (length (spoken level)) 0)
+    (Refused (refusal levelOutside 0))
 
 abbrev pub LevelPromise : ℤ → List ℕ → List ℕ → Answer → Type 0
 LevelPromise level out out′ r = Promise (levelAnswer level (length out)) (spoken level) out out′ r

@@ -140,7 +140,9 @@ pub record StopsAt (t : List ℕ) (p : ℕ) : Type 0 where
 -- The reader, lent an output of this room: number 13 where not all of the text is cut, at the first
 -- octet that is left, and then 11.
 unfoldable pub readAnswer : List ℕ → ℕ → Answer
-readAnswer t room = cond (eqb (readTo t) (length t)) (within room (length (decoded t)) 0) (Refused (refusal unreadableText (readTo t)))
+readAnswer t room =
+    cond (eqb (readTo t) (length t)) (within room (length (decoded t)) 0)
+    (Refused (refusal unreadableText (readTo t)))
 
 -- The writer: numbers 1 to 10, and then 11.
 unfoldable pub writeAnswer : List ℕ → ℕ → Answer

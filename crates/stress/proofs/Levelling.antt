@@ -33,7 +33,8 @@ level-nearly zero marked = refl
 level-nearly (suc zero) marked = refl
 level-nearly (suc (suc n)) marked = refl
 
-level-since : (stressed ahead marked : Bool) → numbered (countedBy (sinceBy stressed ahead) marked) ≡ cond stressed Stressed (cond (ahead || not marked) First Second)
+level-since : (stressed ahead marked : Bool)
+    → numbered (countedBy (sinceBy stressed ahead) marked) ≡ cond stressed Stressed (cond (ahead || not marked) First Second)
 level-since true ahead marked = refl
 level-since false true marked = refl
 level-since false false true = refl
@@ -50,7 +51,8 @@ nearly-more (suc (suc n)) true ahead e = omega (arith, e)
 nearly-more (suc (suc n)) false ahead e = refl
 
 -- the step goes by what the byte is
-pub step-by : (P : LevelRun → Type 0) (s : LevelRun) (b : ℕ) → (vowelByte b ≡ true → P (overVowel s)) → (isMark b ≡ true → P (overMark s)) → (isBreak b ≡ true → P (overBreak s))
+pub step-by : (P : LevelRun → Type 0) (s : LevelRun) (b : ℕ) → (vowelByte b ≡ true → P (overVowel s)) → (isMark b ≡ true → P (overMark s))
+    → (isBreak b ≡ true → P (overBreak s))
     → (isBreak b ≡ false → isMark b ≡ false → vowelByte b ≡ false → P (overLetter s)) → P (stepOver s b)
 step-by P s b vowel mark break letter =
     either (vowelByte b) (λ v. rw v (vowel v)) (λ v. either (isMark b) (λ k. rw (v, k) (mark k)) (λ k. either (isBreak b) (λ x. rw (v, k, x) (break x)) (λ x. rw (v, k, x) (letter x k v))))
@@ -80,7 +82,8 @@ unfolding backTo
 ends-within m i b = rw b (omega arith)
 
 -- there is room for a step
-pub levels-due : {t m : List ℕ} {i : ℕ} {s : LevelRun} → t ≡ classes → Steady m → i < length m → LevelsAt m (suc i) s → StepDue t s (getD m i 0)
+pub levels-due : {t m : List ℕ} {i : ℕ} {s : LevelRun} → t ≡ classes → Steady m → i < length m → LevelsAt m (suc i) s
+    → StepDue t s (getD m i 0)
 levels-due {m = m} {i} e steady h l = record {
   table = e;
   named = steady .named i h;

@@ -1,5 +1,5 @@
--- What the code reads off the byte before a place is what the left context of the place says: in a steady message the byte and its class tell
--- of the last letter of the word what is asked.
+-- What the code reads off the byte before a place is what the left context of the place says: in a steady message the byte and its class
+-- tell of the last letter of the word what is asked.
 use Rattle.laws.proofs.Kit.{ℕ, zero, suc, _<_, _≤_, _≡_, refl, sym, _∙_, true, false, true≢false, cond, _||_, List, [], _∷_}
 use Rattle.laws.proofs.Kit.{arith, eqb, length, getD, eq-eqb, le-leb}
 use Rattle.spec.specs.Alphabet.{pause, «ь»}

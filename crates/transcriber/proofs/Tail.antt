@@ -1,5 +1,7 @@
--- The tape from a place on: what the byte there puts before what comes after it. A place's tape is what the walk from the right has written when it stands there.
-use Rattle.laws.proofs.Kit.{ℕ, suc, _<_, _≡_, refl, sym, ap, Bool, true, false, _&&_, List, [], _∷_, _++_, append-assoc, append-nil, length, getD, drop}
+-- The tape from a place on: what the byte there puts before what comes after it. A place's tape is what the walk from the right has written
+-- when it stands there.
+use Rattle.laws.proofs.Kit.{ℕ, suc, _<_, _≡_, refl, sym, ap, Bool, true, false, _&&_, List, [], _∷_, _++_, append-assoc, append-nil, length}
+use Rattle.laws.proofs.Kit.{getD, drop}
 use Rattle.spec.specs.Letters.{Letter, Message, last, more, putLetter, read, firstWord, isMark, isBreak, isGap}
 use Rattle.spec.specs.Syllables.{Facts, factsOf}
 use Rattle.spec.specs.Voicing.{voices}

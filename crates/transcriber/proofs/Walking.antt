@@ -89,7 +89,8 @@ module _ (m : List ℕ) (steady : Steady m) (i : ℕ) (h : i < length m) where
   unfolding pieceAt
   piece-step = by (isBreak (getD m i 0)) refl (isMark (getD m i 0)) refl
     where
-      by : (s : Bool) → isBreak (getD m i 0) ≡ s → (k : Bool) → isMark (getD m i 0) ≡ k → tapeAt m i ≡ cond s (markOf (getD m i 0) ∷ []) (cond k [] (codesAt m i)) ++ tapeAt m (suc i)
+      by : (s : Bool) → isBreak (getD m i 0) ≡ s → (k : Bool) → isMark (getD m i 0) ≡ k
+          → tapeAt m i ≡ cond s (markOf (getD m i 0) ∷ []) (cond k [] (codesAt m i)) ++ tapeAt m (suc i)
       by true s k e = tape-break m steady i h s
       by false s true e = tape-mark m steady i h e
       by false s false e = tape-letter m steady i h s e
@@ -139,12 +140,14 @@ module _ {m out : List ℕ} {i : ℕ} {r : Right} (a : Ready m out i r) where
       }
 
   -- a letter that is not heard puts nothing
-  silent-steps : {s x : Bool} {seen : ℕ} {l : LevelRun} → Spelt (getD m i 0) s false x → codesAt m i ≡ [] → seen ≡ r .sound % 64 + cond x 64 0 → l ≡ stepOver (r .levels) (getD m i 0)
+  silent-steps : {s x : Bool} {seen : ℕ} {l : LevelRun} → Spelt (getD m i 0) s false x → codesAt m i ≡ []
+      → seen ≡ r .sound % 64 + cond x 64 0 → l ≡ stepOver (r .levels) (getD m i 0)
       → Stepped m out out i r (record { at = r .at; sound = seen; levels = l })
   silent-steps {x = x} p e n l = rw n (letter-steps p e (tells-over x (a .stands .sound)) l (put-none out (r .at)))
 
   -- nor does a mark
-  pub mark-steps : {l : LevelRun} → isMark (getD m i 0) ≡ true → l ≡ stepOver (r .levels) (getD m i 0) → Stepped m out out i r (record { at = r .at; sound = r .sound; levels = l })
+  pub mark-steps : {l : LevelRun} → isMark (getD m i 0) ≡ true → l ≡ stepOver (r .levels) (getD m i 0)
+      → Stepped m out out i r (record { at = r .at; sound = r .sound; levels = l })
   unfolding pieceAt
   mark-steps k l =
       let y = a .steady in
@@ -164,7 +167,8 @@ unfolding everything
 spelt-sign a = spelt-by a true false (λ x. eqb x 5) refl
 
 -- they are not heard
-pub sign-steps : {m out : List ℕ} {i c seen : ℕ} {r : Right} {l : LevelRun} → ReadyFor isSignClass m out i c r → seen ≡ r .sound % 64 + cond (eqb c softSignClass) 64 0 → l ≡ stepOver (r .levels) (getD m i 0)
+pub sign-steps : {m out : List ℕ} {i c seen : ℕ} {r : Right} {l : LevelRun} → ReadyFor isSignClass m out i c r
+    → seen ≡ r .sound % 64 + cond (eqb c softSignClass) 64 0 → l ≡ stepOver (r .levels) (getD m i 0)
     → Stepped m out out i r (record { at = r .at; sound = seen; levels = l })
 sign-steps {m} {i = i} a = silent-steps (a .ready) (spelt-sign a) (codes-sign m (a .ready .steady) i (a .ready .within) (spelt-sign a))
 
@@ -233,7 +237,8 @@ module _ {m out : List ℕ} {i c : ℕ} {r : Right} (a : ReadyFor isConsonantCla
     consonant-room = letter-room (a .ready) spelt codes
 
     -- and which is what stands right of the letter before
-    pub consonant-steps : {out′ : List ℕ} {at : ℕ} {l : LevelRun} → l ≡ stepOver (r .levels) (getD m i 0) → Put (code ∷ []) out out′ (r .at) at
+    pub consonant-steps : {out′ : List ℕ} {at : ℕ} {l : LevelRun} → l ≡ stepOver (r .levels) (getD m i 0)
+        → Put (code ∷ []) out out′ (r .at) at
         → Stepped m out out′ i r (record { at = at; sound = code; levels = l })
     consonant-steps l q =
         let x : isSound code ≡ true = rw coded (code-read soundTable (getD m i 0) (r .sound) refl (a .ready .steady .bytes i) consonant-before .sound) in
@@ -275,8 +280,10 @@ module _ {m out : List ℕ} {i c : ℕ} {r : Right} (a : ReadyFor isVowelClass m
         by true = tells-sound J soft _ refl
         by false = tells-sound (v .sound) soft f (rw (s .sound) (vowel-sound _ _ _ (small (getD m i 0)) (vowel-spelt .sings)))
 
-    pub vowel-steps : {out′ : List ℕ} {at first seen : ℕ} {l : LevelRun} → first ≡ cond (v .glide) J (v .sound) → seen ≡ first + cond (isSofteningClass c) 64 0
-        → l ≡ stepOver (r .levels) (getD m i 0) → Put (sungCodes v) out out′ (r .at) at → Stepped m out out′ i r (record { at = at; sound = seen; levels = l })
+    pub vowel-steps : {out′ : List ℕ} {at first seen : ℕ} {l : LevelRun} → first ≡ cond (v .glide) J (v .sound)
+        → seen ≡ first + cond (isSofteningClass c) 64 0
+        → l ≡ stepOver (r .levels) (getD m i 0) → Put (sungCodes v) out out′ (r .at) at
+        → Stepped m out out′ i r (record { at = at; sound = seen; levels = l })
     vowel-steps f e l q = letter-steps (a .ready) vowel-spelt sung-codes (rw (e, f) (first-tells _ _)) l q
 
 -- what stands right of the message's end

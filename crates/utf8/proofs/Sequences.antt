@@ -1,5 +1,7 @@
--- What the reader's and the writer's tests of octets tell: each is one computation over the 256 octets, since all letters begin with D0 or D1.
-use Rattle.laws.proofs.Kit.{ℕ, _+_, _*_, _-_, _/_, _%_, _<_, _≤_, _≡_, refl, sym, _∙_, Bool, true, false, cond, _&&_, _||_, and-false, true≢false, List, [], _∷_, arith, eqb, leb, eqb-true, leb-true, le-leb, lt-leb, and-eq-true-iff, getD}
+-- What the reader's and the writer's tests of octets tell: each is one computation over the 256 octets, since all letters begin with D0 or
+-- D1.
+use Rattle.laws.proofs.Kit.{ℕ, _+_, _*_, _-_, _/_, _%_, _<_, _≤_, _≡_, refl, sym, _∙_, Bool, true, false, cond, _&&_, _||_, and-false}
+use Rattle.laws.proofs.Kit.{true≢false, List, [], _∷_, arith, eqb, leb, eqb-true, leb-true, le-leb, lt-leb, and-eq-true-iff, getD}
 use Rattle.spec.specs.Alphabet.{gap, mark}
 use Rattle.spec.specs.Letters.{between}
 use Rattle.spec.specs.Tables.{among}

@@ -1,6 +1,7 @@
--- The letter before a place and the hard boundary there, told by the two bytes before it: in a steady message they tell of the last two letters
--- of the word what is asked.
-use Rattle.laws.proofs.Kit.{ℕ, zero, suc, _-_, _<_, _≤_, _≡_, refl, sym, ap, _∙_, Bool, true, false, not, List, arith, eqb, length, getD, eqb-true}
+-- The letter before a place and the hard boundary there, told by the two bytes before it: in a steady message they tell of the last two
+-- letters of the word what is asked.
+use Rattle.laws.proofs.Kit.{ℕ, zero, suc, _-_, _<_, _≤_, _≡_, refl, sym, ap, _∙_, Bool, true, false, not, List, arith, eqb, length, getD}
+use Rattle.laws.proofs.Kit.{eqb-true}
 use Rattle.spec.specs.Alphabet.{«ь»}
 use Rattle.spec.specs.Letters.{small, isBreak, isGap, isMark}
 use Rattle.spec.specs.{Vowels.initial, Vowels.hardEnd}

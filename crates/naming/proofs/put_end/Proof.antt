@@ -8,7 +8,8 @@ use Rattle.naming.proofs.put_end.Statement.{statement}
 use Rattle.naming.proofs.put_end.Tie as tie
 
 -- the names that are put
-tail : (c : tie.After-is-consonant-or-sign) → let s = c .before .before .before .before in incomplete (lastAt (s .args .m .now) (s .args .i)) ≡ cond (c .is-consonant-or-sign .result) (7 ∷ []) []
+tail : (c : tie.After-is-consonant-or-sign)
+    → let s = c .before .before .before .before in incomplete (lastAt (s .args .m .now) (s .args .i)) ≡ cond (c .is-consonant-or-sign .result) (7 ∷ []) []
 tail c =
     let s = c .before .before .before .before in
     rw (c .is-consonant-or-sign .ensures, c .before .class-before .ensures) (incomplete-raw (s .args .m .now) (s .pre .1 .steady) (s .args .i) (s .pre .1 .within))

@@ -1,7 +1,10 @@
--- The vowels that palatalize have a glide after a sign, which covers the syllable, and е ё ю я in a bare one; of the others о has one, after ь.
-use Rattle.laws.proofs.Kit.{ℕ, _<_, _≤_, _≡_, ap, _&&_, _||_, false, true≢false, and-false, and-true, or-comm, or-false, eqb, leb, eqb-true, eqb-false, ne-eqb, leb-false, lt-leb, arith, needs}
+-- The vowels that palatalize have a glide after a sign, which covers the syllable, and е ё ю я in a bare one; of the others о has one,
+-- after ь.
+use Rattle.laws.proofs.Kit.{ℕ, _<_, _≤_, _≡_, ap, _&&_, _||_, false, true≢false, and-false, and-true, or-comm, or-false, eqb, leb, eqb-true}
+use Rattle.laws.proofs.Kit.{eqb-false, ne-eqb, leb-false, lt-leb, arith, needs}
 use Rattle.laws.proofs.Classes.{either}
-use Rattle.letters.specs.Classes.{hardSignClass, softSignClass, softOnlyClass, vowelOClass, iotatedClass, vowelIClass, classCount, isSignClass}
+use Rattle.letters.specs.Classes.{hardSignClass, softSignClass, softOnlyClass, vowelOClass, iotatedClass, vowelIClass, classCount}
+use Rattle.letters.specs.Classes.{isSignClass}
 use Rattle.spec.specs.{Vowels.bare, declared.Cover.Cover, declared.Cover.the-variants.Bare}
 use Rattle.stress.specs.Before.{coverClass}
 use Rattle.vowels.specs.VowelSounds.{glideBy}
@@ -13,7 +16,8 @@ plain : (c : ℕ) (cover : Cover) (k : ℕ) → c < iotatedClass → glideBy c c
 plain c cover k h = rw (ne-eqb c iotatedClass (λ e. omega (arith, h, e)), ne-eqb c vowelIClass (λ e. omega (arith, h, e)))
 
 -- one that does
-palatal : (c : ℕ) (cover : Cover) (k : ℕ) → iotatedClass ≤ c → c < classCount → glideBy c cover k ≡ (isSignClass k || (eqb c iotatedClass && bare cover))
+palatal : (c : ℕ) (cover : Cover) (k : ℕ) → iotatedClass ≤ c → c < classCount
+    → glideBy c cover k ≡ (isSignClass k || (eqb c iotatedClass && bare cover))
 palatal c cover k h l = either (eqb c iotatedClass)
     (λ e. rw (eqb-true c iotatedClass e, or-false (bare cover || isSignClass k)) (or-comm (bare cover) (isSignClass k)))
     (λ e. let d : c ≡ vowelIClass = omega (arith, eqb-false c iotatedClass e) in rw d)

@@ -17,7 +17,8 @@ same b h =
     record { each = λ x i. among-same (eqb (foldOf b)) (eqb (small b)) l x e i }
 
 -- so the rules say the same
-folds : (c : tie.After-fold-case) → let a = c .before .args in elidesAmong (foldOf (a .p)) (foldOf (a .b)) (foldOf (a .c)) (foldOf (a .d)) ≡ elidesAmong (small (a .p)) (small (a .b)) (small (a .c)) (small (a .d))
+folds : (c : tie.After-fold-case)
+    → let a = c .before .args in elidesAmong (foldOf (a .p)) (foldOf (a .b)) (foldOf (a .c)) (foldOf (a .d)) ≡ elidesAmong (small (a .p)) (small (a .b)) (small (a .c)) (small (a .d))
 unfolding everything
 folds c =
     let a = c .before .args in
