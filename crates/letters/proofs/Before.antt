@@ -21,11 +21,11 @@ before-at m i h = let e : suc (i - 1) ≡ i = omega arith in ap (byteBefore m) e
 pub alike-same : (p : ℕ) → Alike p p
 alike-same p = record { each = λ x h. refl }
 
--- two that are neither consonants nor signs are alike
-pub alike-none : (p q : ℕ) → among consonantsAndSigns p ≡ false → among consonantsAndSigns q ≡ false → Alike p q
+-- two letters that are neither consonants nor signs are alike
+alike-none : (p q : ℕ) → among consonantsAndSigns p ≡ false → among consonantsAndSigns q ≡ false → Alike p q
 alike-none p q n o = record { each = λ x h. among-none consonantsAndSigns p x n h ∙ sym (among-none consonantsAndSigns q x o h) }
 
--- so are no letter and the byte of a break
+-- no letter and the byte of a break are alike
 pub alike-break : (b : ℕ) → isBreak b ≡ true → Alike 0 (small b)
 unfolding everything
 alike-break b s = alike-none 0 (small b) refl (break-both (λ x. among consonantsAndSigns (small x) ≡ false) refl refl b s)
@@ -36,7 +36,7 @@ unfolding among
 alike-among a [] e = refl
 alike-among a (x ∷ l) e = rw (a .each x (cc), alike-among a l (cc))
 
--- none of these does
+-- two letters that none of these classes tells apart
 pub record ClassesAlike (p q : ℕ) : Type 0 where
   pub hardOnly : isHardOnly p ≡ isHardOnly q
   pub paired : isPaired p ≡ isPaired q
@@ -45,7 +45,7 @@ pub record ClassesAlike (p q : ℕ) : Type 0 where
   pub sign : isSign p ≡ isSign q
   pub softSign : eqb p «ь» ≡ eqb q «ь»
 
--- of letters that are alike
+-- alike letters are such
 pub classes-alike : {p q : ℕ} → Alike p q → ClassesAlike p q
 unfolding everything
 classes-alike a = record {
@@ -75,7 +75,7 @@ mark-tells b q k v =
 
 module _ (m : List ℕ) (steady : Steady m) where
   -- the letter before a mark is a vowel
-  pub vowel-before : (i : ℕ) → i < length m → isMark (getD m i 0) ≡ true → isVowel (lastAt m i) ≡ true
+  vowel-before : (i : ℕ) → i < length m → isMark (getD m i 0) ≡ true → isVowel (lastAt m i) ≡ true
   unfolding vowelByte
   vowel-before zero h k = absurd (false≢true (sym (steady .first) ∙ k))
   vowel-before (suc i) h k =

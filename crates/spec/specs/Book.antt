@@ -51,13 +51,13 @@ bookStorage = plain
 abbrev pub Sized : Storage → Type 0
 Sized st = (t : List ℕ) → length (st .store t) ≡ st .size (length t)
 
--- What does not depend on the storage comes first. Request 6, the record, as request 7 has it. A
--- number or a count: two bytes, low byte first
+-- What does not depend on the storage comes first. Request 6, the record: a number or a count is
+-- two bytes, low byte first.
 unfoldable pub twoBytes : ℕ → List ℕ
 twoBytes n = n % 256 ∷ n / 256 ∷ []
 
--- and the same read back, from bytes x that begin where a record should. How long the head is, and
--- where in it number, set and the tape's length stand
+-- Request 6, the record read back from bytes x that begin where a record should: how long its head
+-- is, and where in the head number, set and the tape's length stand.
 abbrev pub headSize : ℕ
 headSize = 7
 
@@ -116,12 +116,13 @@ unfoldable pub search : List Phrase → ℕ → Search
 search [] n = none
 search (f ∷ fs) n = cond (eqb (f .number) n) (entry f) (search fs n)
 
--- Request 7: what a listener may hear of it, a tape or nothing
+-- Request 7: what a listener may hear of what stands under a number, a tape or nothing.
 pub data Heard : Type 0 where
   nothing : Heard
   aloud : List ℕ → Heard
 
--- what is told of it, and what is handed back: the tape, and else what was there before
+-- What a lookup tells where this is heard, and what it hands back: the tape, and else what was
+-- there before.
 unfoldable pub told : Heard → Found
 told nothing = found.Refused withheld
 told (aloud t) = found.Tape
@@ -160,24 +161,25 @@ pub record NewPhrase : Type 0 where
 
 -- A book in a storage.
 module _ (st : Storage) where
-  -- Request 6, the record, as request 7 has it. Its mark
+  -- Request 6, the mark of a record; the second byte tells the storage.
   unfoldable pub recordMark : List ℕ
   recordMark = 82 ∷ st .mark ∷ []
 
-  -- mark, number, the set as it was given, and how many codes the tape has
+  -- The head of a record: mark, number, the set as it was given (request 7), and how many codes the
+  -- tape has.
   unfoldable pub headOf : ℕ → ℕ → ℕ → List ℕ
   headOf number set count = recordMark ++ (twoBytes number ++ (set ∷ twoBytes count))
 
-  -- and then the bytes that the tape is stored as
+  -- A record: its head, and then the bytes that the tape is stored as.
   unfoldable pub recordOf : Phrase → List ℕ
   recordOf f = headOf (f .number) (f .set) (f .count) ++ f .stored
 
-  -- records one after the other
+  -- The records of phrases, one after the other.
   unfoldable pub records : List Phrase → List ℕ
   records [] = []
   records (f ∷ fs) = recordOf f ++ records fs
 
-  -- The same read back: the bytes of the record, and the phrase that it holds
+  -- How many bytes the record at the start of x has, and the phrase that it holds.
   abbrev pub spanIn : List ℕ → ℕ
   spanIn x = headSize + st .size (lengthIn x)
 
@@ -218,7 +220,7 @@ module _ (st : Storage) where
   unfoldable pub readBook : List ℕ → Reading
   readBook book = readFrom 0 0 0 book
 
-  -- Request 6, the lookup: where in the book the record under a number begins
+  -- Request 6, the lookup: where in the book the record under a number begins.
   unfoldable pub recordAt : List Phrase → ℕ → ℕ
   recordAt [] n = 0
   recordAt (f ∷ fs) n = cond (eqb (f .number) n) 0 (length (recordOf f) + recordAt fs n)
@@ -227,13 +229,13 @@ module _ (st : Storage) where
   abbrev pub tapeOf : Phrase → List ℕ
   tapeOf f = st .codes (f .count) (f .stored)
 
-  -- Request 7: a listener hears it where he is in its set, and nothing alike where there is none
-  -- and where he is not in its set
+  -- Request 7: a listener hears the phrase under a number where he is in its set, and nothing alike
+  -- where there is none and where he is not in its set.
   unfoldable pub heard : Listener → Search → Heard
   heard l none = nothing
   heard l (entry f) = cond (mayHear l (f .set)) (aloud (tapeOf f)) nothing
 
-  -- so 17 comes after the book's own refusals
+  -- A lookup's answer: the book's own refusals come before 17.
   unfoldable pub findAnswer : Listener → Reading → ℕ → Found
   findAnswer l (holds fs) n = told (heard l (search fs n))
   findAnswer l (unsound r) n = found.Refused r
@@ -296,7 +298,7 @@ module _ (st : Storage) where
     pub rising : RisingFrom 0 fs
 
 -- The lookup told by where the tape stands in the buffer. This is for the plain storage alone,
--- where the bytes behind a record's head are the tape itself. The tape begins there
+-- where the bytes behind a record's head are the tape itself. Where the tape begins:
 abbrev pub startOf : List Phrase → ℕ → ℕ
 startOf fs n = recordAt plain fs n + headSize
 
@@ -308,12 +310,12 @@ unfoldable pub locateAnswer : Listener → Reading → ℕ → Located
 locateAnswer l (holds fs) n = placed (startOf fs n) (heard plain l (search fs n))
 locateAnswer l (unsound r) n = located.Refused r
 
--- what that tells without the place
+-- what such a lookup tells without the place
 unfoldable pub toldOf : Located → Found
 toldOf (located.At start n) = found.Tape
 toldOf (located.Refused r) = found.Refused r
 
--- the bytes of the buffer that it tells of, and where they end
+-- the bytes of the buffer that such a lookup tells of, and where they end
 unfoldable pub partAt : Located → List ℕ → List ℕ
 partAt (located.At start n) buffer = take n (drop start buffer)
 partAt (located.Refused r) buffer = []
