@@ -14,7 +14,6 @@
  */
 #include "baseline.h"
 
-#include <stdbool.h>
 #include <string.h>
 
 enum { MAX_BYTES = 4096, MAX_LETTERS = 64 };
@@ -43,8 +42,11 @@ enum { CONSONANT, VOWEL, STRESS_MARK, SIGN, WORD_BREAK };
 /* What a vowel finds before it; a mark counts as the vowel that it stands after. The signs are told apart for о, which has a glide after ь. */
 enum { INITIAL, AFTER_VOWEL, AFTER_HARD_SIGN, AFTER_SOFT_SIGN, AFTER_Q, AFTER_T, AFTER_P, PRECEDERS };
 
-/* Rows of the table of vowels. */
-enum { ROW_A, ROW_O, ROW_U, ROW_Y, ROW_E, ROW_IE, ROW_YO, ROW_YU, ROW_YA, ROW_I, ROWS };
+/* Rows of the table of vowels. Those of а, е and я have another in edition 2. */
+enum {
+    ROW_A, ROW_O, ROW_U, ROW_Y, ROW_E, ROW_IE, ROW_YO, ROW_YU, ROW_YA, ROW_I,
+    ROW_A_NEWER, ROW_IE_NEWER, ROW_YA_NEWER, ROWS
+};
 
 /* What a sound makes of the obstruent (noise letter) before it. */
 enum { AS_WRITTEN, VOICED, VOICELESS };
@@ -59,7 +61,9 @@ enum {
 };
 
 struct symbol {
-    uint8_t sound[3]; /* by the voice asked for: a consonant's hard code; what a break asks for in turn; a vowel's row is in [0] */
+    /* By the voice asked for: a consonant's hard code; what a break asks for in turn. Of a vowel
+     * its row in edition 1, and then that in edition 2 twice: no voice is asked of it. */
+    uint8_t sound[3];
     uint8_t column;
     uint8_t kind;
     uint8_t before;  /* what a vowel right after this byte finds */
@@ -67,8 +71,10 @@ struct symbol {
 };
 
 #define CASES(letter, ...) [letter] = __VA_ARGS__, [(letter) - 0x20] = __VA_ARGS__
-#define VOWEL_1(letter, row, column) CASES(letter, {{row}, column, VOWEL, AFTER_VOWEL, NONE})
-#define VOWEL_2(letter, row, column) CASES(letter, {{row}, column, VOWEL, AFTER_VOWEL, ALL})
+#define VOWEL_1(letter, row, newer, column) \
+    CASES(letter, {{row, newer, newer}, column, VOWEL, AFTER_VOWEL, NONE})
+#define VOWEL_2(letter, row, newer, column) \
+    CASES(letter, {{row, newer, newer}, column, VOWEL, AFTER_VOWEL, ALL})
 #define NOISE(letter, written, voiced, voiceless, before, group) \
     CASES(letter, {{written, voiced, voiceless}, OTHER, CONSONANT, before, group})
 #define NOISE_SZ(letter, written) CASES(letter, {{written, Z, S}, SZNR, CONSONANT, AFTER_P, DENTAL})
@@ -104,11 +110,13 @@ static const struct {
     uint8_t names[LEVELS][PRECEDERS];
 } tables = {
     .symbols = {
-        VOWEL_1(A, ROW_A, PLAIN_VOWEL), VOWEL_1(O, ROW_O, VOWEL_O), VOWEL_1(U, ROW_U, PLAIN_VOWEL), VOWEL_1(YERU, ROW_Y, PLAIN_VOWEL),
-        VOWEL_1(E, ROW_E, PLAIN_VOWEL),
-        VOWEL_2(IE, ROW_IE, SOFT_VOWEL), VOWEL_2(YU, ROW_YU, SOFT_VOWEL), VOWEL_2(YA, ROW_YA, SOFT_VOWEL), VOWEL_2(I, ROW_I, VOWEL_I),
-        [YO]         = {{ROW_YO}, SOFT_VOWEL, VOWEL, AFTER_VOWEL, ALL},
-        [CAPITAL_YO] = {{ROW_YO}, SOFT_VOWEL, VOWEL, AFTER_VOWEL, ALL},
+        VOWEL_1(A, ROW_A, ROW_A_NEWER, PLAIN_VOWEL), VOWEL_1(O, ROW_O, ROW_O, VOWEL_O),
+        VOWEL_1(U, ROW_U, ROW_U, PLAIN_VOWEL),       VOWEL_1(YERU, ROW_Y, ROW_Y, PLAIN_VOWEL),
+        VOWEL_1(E, ROW_E, ROW_E, PLAIN_VOWEL),       VOWEL_2(IE, ROW_IE, ROW_IE_NEWER, SOFT_VOWEL),
+        VOWEL_2(YU, ROW_YU, ROW_YU, SOFT_VOWEL),     VOWEL_2(YA, ROW_YA, ROW_YA_NEWER, SOFT_VOWEL),
+        VOWEL_2(I, ROW_I, ROW_I, VOWEL_I),
+        [YO]         = {{ROW_YO, ROW_YO, ROW_YO}, SOFT_VOWEL, VOWEL, AFTER_VOWEL, ALL},
+        [CAPITAL_YO] = {{ROW_YO, ROW_YO, ROW_YO}, SOFT_VOWEL, VOWEL, AFTER_VOWEL, ALL},
         NOISE(BE,  B,  B, P, AFTER_P, BP),      NOISE(PE,  P,  B, P, AFTER_P, BP),
         NOISE(VE,  V,  V, F, AFTER_P, VF),      NOISE(EF,  F,  V, F, AFTER_P, VF),
         NOISE(GHE, G,  G, K, AFTER_P, GK),      NOISE(KA,  K,  G, K, AFTER_P, GK),
@@ -154,6 +162,18 @@ static const struct {
         [ROW_YU] = {JOT(U_S, U_1, U_1), JOT(U_S, U_1, U_1), JOT(U_S, U_1, U_1), JOT(U_S, U_1, U_1), SND(U_S, U_1, U_1), SND(U_S, U_1, U_1), SND(U_S, U_1, U_1)},
         [ROW_YA] = {JOT(A_S, E_1, E_1), JOT(A_S, E_1, E_2), JOT(A_S, E_1, E_2), JOT(A_S, E_1, E_2), SND(A_S, E_1, E_2), SND(A_S, E_1, E_2), SND(A_S, E_1, E_2)},
         [ROW_I]  = {SND(I_S, I_1, I_1), SND(I_S, I_1, I_1), JOT(I_S, I_1, I_1), JOT(I_S, I_1, I_1), SND(I_S, I_1, I_1), SND(Y_S, Y_1, Y_1), SND(I_S, I_1, I_1)},
+        [ROW_A_NEWER] = {
+            SND(A_S, A_1, A_1), SND(A_S, A_1, A_2), SND(A_S, A_1, A_2), SND(A_S, A_1, A_2),
+            SND(A_S, I_1, E_2), SND(A_S, A_1, A_2), SND(A_S, A_1, A_2),
+        },
+        [ROW_IE_NEWER] = {
+            JOT(E_S, I_1, I_1), JOT(E_S, I_1, E_2), JOT(E_S, I_1, E_2), JOT(E_S, I_1, E_2),
+            SND(E_S, I_1, E_2), SND(E_S, Y_1, A_2), SND(E_S, I_1, E_2),
+        },
+        [ROW_YA_NEWER] = {
+            JOT(A_S, I_1, I_1), JOT(A_S, I_1, E_2), JOT(A_S, I_1, E_2), JOT(A_S, I_1, E_2),
+            SND(A_S, I_1, E_2), SND(A_S, I_1, E_2), SND(A_S, I_1, E_2),
+        },
     },
     .level_before = {[LEVEL_S] = LEVEL_1, [LEVEL_1] = LEVEL_2, [LEVEL_2] = LEVEL_2, [LEVEL_1_UNMARKED] = LEVEL_1_UNMARKED},
     .names = { /* a syllable is bare if its vowel is initial or after a vowel */
@@ -369,10 +389,18 @@ static bool hard_boundary(const uint8_t *p)
 }
 
 /*
- * By itself gcc puts in line only what is small or has one caller. The second pass has two, the joiner and the addition to a book, and left
- * to gcc every tape would take more instructions than before there were books. The walk over a book has two callers as well.
+ * By itself gcc puts in line only what is small or has one caller. The second pass has four, the
+ * joiner and the addition to a book in either edition, and left to gcc every tape would take more
+ * instructions than before there were books. So have the functions that it calls at a break. The
+ * walk over a book has two callers.
  */
 #define IN_LINE __attribute__((always_inline)) static inline
+
+/*
+ * What has the second pass in line is apart from its callers, once for each edition. An edition
+ * that is an argument, or the arguments of an addition, would leave that pass too few registers.
+ */
+#define APART __attribute__((noinline)) static
 
 /* Whether the gap at p changes the first sound of the word after it: и, and э without a mark, sound ы at a hard boundary. */
 IN_LINE bool changes_opening(const uint8_t *p, const uint8_t *end)
@@ -384,14 +412,15 @@ IN_LINE bool changes_opening(const uint8_t *p, const uint8_t *end)
 }
 
 /* Whether the last letter before p, signs passed over, is an obstruent. */
-static bool ends_in_obstruent(const uint8_t *p)
+IN_LINE bool ends_in_obstruent(const uint8_t *p)
 {
     const struct symbol *last = &tables.symbols[tables.symbols[p[-1]].kind == SIGN ? p[-2] : p[-1]];
     return last->sound[VOICED] != last->sound[VOICELESS];
 }
 
 /* What the first sound of a word asks for, where what comes after the word asks for this voice. */
-static uint32_t voice_through(const uint8_t *msg, const uint8_t *word, const uint8_t *word_end, const uint8_t *end, uint32_t voice)
+IN_LINE uint32_t voice_through(const uint8_t *msg, const uint8_t *word, const uint8_t *word_end,
+                               const uint8_t *end, uint32_t voice)
 {
     for (const uint8_t *p = word_end; p != word; p--) {
         const struct symbol *symbol = &tables.symbols[p[-1]];
@@ -442,8 +471,12 @@ IN_LINE uint32_t take_break(struct joints *joints, const uint8_t *p, uint32_t vo
     return joints->voice;
 }
 
-/* Writes the tape of an accepted message cut at these places so that it ends at w, and counts the live cuts. */
-IN_LINE uint32_t write_tape(const uint8_t *msg, const uint8_t *end, const size_t *cuts, size_t n, uint8_t *w)
+/*
+ * Writes the tape of an accepted message in an edition, cut at these places, so that it ends at w,
+ * and counts the live cuts.
+ */
+IN_LINE uint32_t write_tape(bool newer, const uint8_t *msg, const uint8_t *end, const size_t *cuts,
+                            size_t n, uint8_t *w)
 {
     struct joints joints = {msg, end, cuts, n, end, VOICELESS, VOICELESS, 0};
     size_t voice = VOICELESS, level = NOT_KNOWN;
@@ -469,7 +502,7 @@ IN_LINE uint32_t write_tape(const uint8_t *msg, const uint8_t *end, const size_t
             } else if (level == NOT_KNOWN) {
                 level = last_level(msg, p);
             }
-            uint8_t sound = tables.vowels[symbol->sound[0]][before(msg, p)][level];
+            uint8_t sound = tables.vowels[symbol->sound[newer]][before(msg, p)][level];
             if (sound & J) {
                 *--w = sound ^ J;
                 *--w = GLIDE;
@@ -492,7 +525,7 @@ IN_LINE uint32_t write_tape(const uint8_t *msg, const uint8_t *end, const size_t
 }
 
 /* The index of the first cut that is no break's place or not above the one before, or n. */
-static size_t first_bad_cut(const uint8_t *msg, size_t len, const size_t *cuts, size_t n)
+IN_LINE size_t first_bad_cut(const uint8_t *msg, size_t len, const size_t *cuts, size_t n)
 {
     size_t lowest = 0;
     for (size_t i = 0; i < n; i++) {
@@ -503,7 +536,8 @@ static size_t first_bad_cut(const uint8_t *msg, size_t len, const size_t *cuts, 
     return n;
 }
 
-baseline_answer baseline_join(const uint8_t *msg, size_t len, const size_t *cuts, size_t n, uint8_t *out, size_t cap)
+IN_LINE baseline_answer join(bool newer, const uint8_t *msg, size_t len, const size_t *cuts,
+                             size_t n, uint8_t *out, size_t cap)
 {
     baseline_counts counts = baseline_check(msg, len);
     if (counts.number)
@@ -513,13 +547,36 @@ baseline_answer baseline_join(const uint8_t *msg, size_t len, const size_t *cuts
         return refused(12, (uint32_t)bad);
     if (counts.codes > cap)
         return refused(11, counts.codes);
-    uint32_t live = write_tape(msg, msg + len, cuts, n, out + counts.codes);
+    uint32_t live = write_tape(newer, msg, msg + len, cuts, n, out + counts.codes);
     return (baseline_answer){.length = counts.codes, .live = live};
 }
 
-baseline_answer baseline_transcribe(const uint8_t *msg, size_t len, uint8_t *out, size_t cap)
+APART baseline_answer join_present(const uint8_t *msg, size_t len, const size_t *cuts, size_t n,
+                                   uint8_t *out, size_t cap)
 {
-    return baseline_join(msg, len, NULL, 0, out, cap);
+    return join(false, msg, len, cuts, n, out, cap);
+}
+
+APART baseline_answer join_newer(const uint8_t *msg, size_t len, const size_t *cuts, size_t n,
+                                 uint8_t *out, size_t cap)
+{
+    return join(true, msg, len, cuts, n, out, cap);
+}
+
+baseline_answer baseline_join(bool newer, const uint8_t *msg, size_t len, const size_t *cuts,
+                              size_t n, uint8_t *out, size_t cap)
+{
+    if (newer)
+        return join_newer(msg, len, cuts, n, out, cap);
+    return join_present(msg, len, cuts, n, out, cap);
+}
+
+baseline_answer baseline_transcribe(bool newer, const uint8_t *msg, size_t len, uint8_t *out,
+                                    size_t cap)
+{
+    if (newer)
+        return join_newer(msg, len, NULL, 0, out, cap);
+    return join_present(msg, len, NULL, 0, out, cap);
 }
 
 #define TO_GAP   {true, GAP}
@@ -926,21 +983,34 @@ static baseline_added not_added(uint32_t number, size_t place)
 }
 
 /*
- * Writes a record with the tape of an accepted message, which has so many codes; the tape goes to where it is to stay, behind the head.
- * Not in line: beside the arguments of the addition there were too few registers for the second pass.
+ * Writes a record with the tape of an accepted message in an edition, which has so many codes; the
+ * tape goes to where it is to stay, behind the head.
  */
-__attribute__((noinline))
-static void write_record(uint32_t phrase, uint8_t set, const uint8_t *msg, size_t len, uint32_t codes, uint8_t *w)
+IN_LINE void write_record(bool newer, uint32_t phrase, uint8_t set, const uint8_t *msg, size_t len,
+                          uint32_t codes, uint8_t *w)
 {
     w = write_two_bytes(RECORD_MARK, w);
     w = write_two_bytes(phrase, w);
     *w++ = set;
     w = write_two_bytes(codes, w);
-    write_tape(msg, msg + len, NULL, 0, w + codes);
+    write_tape(newer, msg, msg + len, NULL, 0, w + codes);
 }
 
-baseline_added baseline_book_add(uint32_t listener, uint8_t *book, size_t size, size_t used, uint16_t phrase, uint8_t set,
-                                 const uint8_t *msg, size_t len)
+APART void write_present(uint32_t phrase, uint8_t set, const uint8_t *msg, size_t len,
+                         uint32_t codes, uint8_t *w)
+{
+    write_record(false, phrase, set, msg, len, codes, w);
+}
+
+APART void write_newer(uint32_t phrase, uint8_t set, const uint8_t *msg, size_t len, uint32_t codes,
+                       uint8_t *w)
+{
+    write_record(true, phrase, set, msg, len, codes, w);
+}
+
+baseline_added baseline_book_add(uint32_t listener, bool newer, uint8_t *book, size_t size,
+                                 size_t used, uint16_t phrase, uint8_t set, const uint8_t *msg,
+                                 size_t len)
 {
     if (listener != DISPATCH)
         return not_added(17, 0);
@@ -955,6 +1025,9 @@ baseline_added baseline_book_add(uint32_t listener, uint8_t *book, size_t size, 
         return not_added(16, end);
     if (longer > size)
         return not_added(11, longer);
-    write_record(phrase, set, msg, len, counts.codes, book + end);
+    if (newer)
+        write_newer(phrase, set, msg, len, counts.codes, book + end);
+    else
+        write_present(phrase, set, msg, len, counts.codes, book + end);
     return (baseline_added){.used = longer};
 }

@@ -104,11 +104,12 @@ static uint8_t next_byte(const char **text)
 }
 
 enum operation {
-    NOTHING, CHECK, NAME, TRANSCRIBE, JOIN_NO_CUT, JOIN_ALL_CUTS, EDIT, EDIT_JUST_ROOM, EDIT_NO_ROOM,
+    NOTHING, CHECK, NAME, TRANSCRIBE, JOIN_NO_CUT, JOIN_ALL_CUTS,
+    TRANSCRIBE_NEWER, JOIN_ALL_CUTS_NEWER, EDIT, EDIT_JUST_ROOM, EDIT_NO_ROOM,
     READ, READ_JUST_ROOM, READ_NO_ROOM, READ_REFUSED, WRITE, WRITE_JUST_ROOM, WRITE_NO_ROOM,
     SPEAK, SPEAK_JUST_ROOM, SPEAK_REFUSED,
     FIND_FIRST, FIND_MIDDLE, FIND_LAST, FIND_NONE, FIND_NOT_HEARD, FIND_DAMAGED,
-    ADD, ADD_TOO_SHORT, ADD_NOT_ABOVE, ADD_NOT_DISPATCH, OPERATIONS
+    ADD, ADD_NEWER, ADD_TOO_SHORT, ADD_NOT_ABOVE, ADD_NOT_DISPATCH, OPERATIONS
 };
 
 struct spoken {
@@ -119,6 +120,7 @@ struct spoken {
 /* What a call is given beside the book's bytes, and beside the message that it may add. */
 struct book_call {
     uint32_t listener;
+    bool newer; /* the edition of a phrase that is added */
     size_t size, used;
     uint16_t phrase;
     uint8_t set; /* of a phrase that is added */
@@ -151,12 +153,14 @@ struct list {
  * What operations a case is for. A text with punctuation is for the editor or the reader alone: all else would refuse it. Levels are
  * apart from all of these: spoken with room for any, with just room, or outside the range. So are books, for which costs are divided by
  * their records in a lookup, by the message's bytes in an addition, and by 1 in one by a listener who may not add: it looks at neither.
+ * Tapes are made in edition 1, for some messages and for one addition in edition 2 as well.
  */
 enum {
     FOR_MESSAGES = 1, FOR_EDITOR = 2, FOR_READER = 4, FOR_WRITER = 8,
     FOR_SPEAKER = 16, FOR_SHORT_OUTPUT = 32, FOR_REFUSAL = 64, FOR_LEVELS = FOR_SPEAKER | FOR_SHORT_OUTPUT | FOR_REFUSAL,
     FOR_LOOKUP = 128, FOR_ADDITION = 256, FOR_BARRED_ADDITION = 512, FOR_BOOKS = FOR_LOOKUP | FOR_ADDITION | FOR_BARRED_ADDITION,
-    FOR_ALL = 1023
+    FOR_NEWER = 1024, FOR_BOTH_EDITIONS = FOR_MESSAGES | FOR_NEWER, FOR_NEWER_ADDITION = 2048,
+    FOR_ALL = 4095
 };
 
 struct test_case {
@@ -253,11 +257,11 @@ static void encode(struct message *message)
 #define LIST(array) {array, sizeof array / sizeof array[0]}
 
 static const struct test_case cases[] = {
-    {"text", 16, LIST(words), LIST(gaps_and_pauses), 1, NULL, FOR_MESSAGES | FOR_WRITER},
-    {"text", 64, LIST(words), LIST(gaps_and_pauses), 1, NULL, FOR_MESSAGES},
-    {"text", 256, LIST(words), LIST(gaps_and_pauses), 1, NULL, FOR_MESSAGES},
-    {"text", 1024, LIST(words), LIST(gaps_and_pauses), 1, NULL, FOR_MESSAGES},
-    {"text", 4096, LIST(words), LIST(gaps_and_pauses), 1, NULL, FOR_MESSAGES | FOR_WRITER},
+    {"text", 16, LIST(words), LIST(gaps_and_pauses), 1, NULL, FOR_BOTH_EDITIONS | FOR_WRITER},
+    {"text", 64, LIST(words), LIST(gaps_and_pauses), 1, NULL, FOR_BOTH_EDITIONS},
+    {"text", 256, LIST(words), LIST(gaps_and_pauses), 1, NULL, FOR_BOTH_EDITIONS},
+    {"text", 1024, LIST(words), LIST(gaps_and_pauses), 1, NULL, FOR_BOTH_EDITIONS},
+    {"text", 4096, LIST(words), LIST(gaps_and_pauses), 1, NULL, FOR_BOTH_EDITIONS | FOR_WRITER},
     {"one-letter words", 4096, LIST(letter_words), LIST(gaps_and_pauses), 1, NULL, FOR_MESSAGES},
     {"chain of voice", 4096, LIST(chain_words), LIST(gaps), 0, "до", FOR_MESSAGES},
     {"64 vowels, first", 4096, LIST(vowels_first), LIST(gaps), 0, NULL, FOR_MESSAGES},
@@ -292,7 +296,7 @@ static const struct book_case book_cases[] = {
     {"book 30", 30, FOR_LOOKUP},
     {"book 5000", MAX_RECORDS, FOR_LOOKUP},
     {"empty book", 0, FOR_ADDITION},
-    {"book 30", 30, FOR_ADDITION},
+    {"book 30", 30, FOR_ADDITION | FOR_NEWER_ADDITION},
     {"book 5000", MAX_RECORDS, FOR_ADDITION},
     {"book 30", 30, FOR_BARRED_ADDITION},
 };
@@ -312,6 +316,8 @@ static const struct {
     [TRANSCRIBE] = {"transcribe", FOR_MESSAGES, 1, 0},
     [JOIN_NO_CUT] = {"join, no cut", FOR_MESSAGES, 1, 0},
     [JOIN_ALL_CUTS] = {"join, all cuts", FOR_MESSAGES, 1, 0},
+    [TRANSCRIBE_NEWER] = {"transcribe newer", FOR_NEWER, 1, 0},
+    [JOIN_ALL_CUTS_NEWER] = {"join all newer", FOR_NEWER, 1, 0},
     [EDIT] = {"edit", FOR_EDITOR, 1, 0},
     [EDIT_JUST_ROOM] = {"edit, just room", FOR_EDITOR, 1, 0},
     [EDIT_NO_ROOM] = {"edit, no room", FOR_EDITOR, 0, 11},
@@ -332,6 +338,7 @@ static const struct {
     [FIND_NOT_HEARD] = {"find not heard", FOR_LOOKUP, 1, 17},
     [FIND_DAMAGED] = {"find damaged", FOR_LOOKUP, 1, 15},
     [ADD] = {"add", FOR_ADDITION, 1, 0},
+    [ADD_NEWER] = {"add newer", FOR_NEWER_ADDITION, 1, 0},
     [ADD_TOO_SHORT] = {"add too short", FOR_ADDITION, 1, 11},
     [ADD_NOT_ABOVE] = {"add not above", FOR_ADDITION, 1, 16},
     [ADD_NOT_DISPATCH] = {"add not dispatch", FOR_BARRED_ADDITION, 1, 17},
@@ -435,27 +442,30 @@ static size_t room(enum operation operation, enum operation plain, size_t most, 
         return (struct result){f.number, (uint32_t)f.place, (uint32_t)f.start, (uint32_t)f.length};             \
     }                                                                                                           \
     __attribute__((noipa))                                                                                      \
-    static library##_added library##_add_nothing(uint32_t listener, uint8_t *book, size_t size, size_t used,    \
-                                                 uint16_t phrase, uint8_t set, const uint8_t *msg, size_t len)  \
+    static library##_added library##_add_nothing(uint32_t listener, bool newer, uint8_t *book,                  \
+                                                 size_t size, size_t used, uint16_t phrase,                     \
+                                                 uint8_t set, const uint8_t *msg, size_t len)                   \
     {                                                                                                           \
-        (void)listener, (void)book, (void)size, (void)used, (void)phrase, (void)set, (void)msg, (void)len;      \
+        (void)listener, (void)newer, (void)book, (void)size, (void)used, (void)phrase, (void)set;               \
+        (void)msg, (void)len;                                                                                   \
         return (library##_added){0, 0, 0};                                                                      \
     }                                                                                                           \
     static struct result library##_run_add(enum operation operation, const struct message *m, uint8_t *book)    \
     {                                                                                                           \
-        library##_added (*add)(uint32_t, uint8_t *, size_t, size_t, uint16_t, uint8_t, const uint8_t *,         \
-                               size_t) =                                                                        \
+        library##_added (*add)(uint32_t, bool, uint8_t *, size_t, size_t, uint16_t, uint8_t,                    \
+                               const uint8_t *, size_t) =                                                       \
             operation == NOTHING ? library##_add_nothing : library##_book_add;                                  \
         const struct book_call *c = &m->calls[operation];                                                       \
-        library##_added a = add(c->listener, book, c->size, c->used, c->phrase, c->set, m->bytes, m->len);      \
+        library##_added a = add(c->listener, c->newer, book, c->size, c->used, c->phrase, c->set,               \
+                                m->bytes, m->len);                                                              \
         return (struct result){a.number, (uint32_t)a.place, (uint32_t)a.used, 0};                               \
     }                                                                                                           \
     static struct book_result library##_book(enum operation operation, const struct book_call *c,               \
                                              const struct message *m, uint8_t *book)                            \
     {                                                                                                           \
         if (operation >= ADD) {                                                                                 \
-            library##_added a = library##_book_add(c->listener, book, c->size, c->used, c->phrase, c->set,      \
-                                                   m->bytes, m->len);                                           \
+            library##_added a = library##_book_add(c->listener, c->newer, book, c->size, c->used,               \
+                                                   c->phrase, c->set, m->bytes, m->len);                        \
             return (struct book_result){a.number, 0, a.place, 0, 0, a.used};                                    \
         }                                                                                                       \
         library##_found f = library##_book_find(c->listener, book, c->size, c->used, c->phrase);                \
@@ -472,11 +482,18 @@ static size_t room(enum operation operation, enum operation plain, size_t most, 
         case NAME:                                                                                              \
             return library##_answer_of(library##_name(m->bytes, m->len, out, OUT_BYTES));                       \
         case TRANSCRIBE:                                                                                        \
-            return library##_answer_of(library##_transcribe(m->bytes, m->len, out, OUT_BYTES));                 \
+            return library##_answer_of(library##_transcribe(false, m->bytes, m->len, out, OUT_BYTES));          \
         case JOIN_NO_CUT:                                                                                       \
-            return library##_answer_of(library##_join(m->bytes, m->len, m->cuts, 0, out, OUT_BYTES));           \
+            return library##_answer_of(library##_join(false, m->bytes, m->len, m->cuts, 0, out,                 \
+                                                      OUT_BYTES));                                              \
         case JOIN_ALL_CUTS:                                                                                     \
-            return library##_answer_of(library##_join(m->bytes, m->len, m->cuts, m->cut_count, out, OUT_BYTES)); \
+            return library##_answer_of(library##_join(false, m->bytes, m->len, m->cuts, m->cut_count,           \
+                                                      out, OUT_BYTES));                                         \
+        case TRANSCRIBE_NEWER:                                                                                  \
+            return library##_answer_of(library##_transcribe(true, m->bytes, m->len, out, OUT_BYTES));           \
+        case JOIN_ALL_CUTS_NEWER:                                                                               \
+            return library##_answer_of(library##_join(true, m->bytes, m->len, m->cuts, m->cut_count,            \
+                                                      out, OUT_BYTES));                                         \
         case EDIT:                                                                                              \
         case EDIT_JUST_ROOM:                                                                                    \
         case EDIT_NO_ROOM:                                                                                      \
@@ -588,7 +605,9 @@ static void plan_calls(struct message *message, size_t used)
     size_t records = message->records;
     for (int operation = NOTHING; operation < OPERATIONS; operation++) {
         uint32_t listener = operation < ADD ? GOVORUN_ROAD : GOVORUN_DISPATCH;
-        calls[operation] = (struct book_call){listener, BOOK_BYTES, used, number_of(records), set_of(records)};
+        calls[operation] = (struct book_call){
+            listener, operation == ADD_NEWER, BOOK_BYTES, used, number_of(records), set_of(records),
+        };
     }
     calls[FIND_NOT_HEARD].listener = GOVORUN_PUMP;
     calls[ADD_NOT_DISPATCH].listener = GOVORUN_ROAD;
@@ -608,8 +627,8 @@ static void make_book(struct message *message, const struct book_case *c)
     memset(book_before, FILLER, BOOK_BYTES);
     for (size_t i = 0; i < c->records; i++) {
         fill_phrase(message, &seed);
-        used += baseline_book_add(GOVORUN_DISPATCH, book_before + used, BOOK_BYTES - used, 0, number_of(i), set_of(i), message->bytes,
-                                  message->len).used;
+        used += baseline_book_add(GOVORUN_DISPATCH, false, book_before + used, BOOK_BYTES - used, 0,
+                                  number_of(i), set_of(i), message->bytes, message->len).used;
     }
     memcpy(books[0], book_before, BOOK_BYTES);
     memcpy(books[1], book_before, BOOK_BYTES);
@@ -727,7 +746,7 @@ static void compare_book(const struct message *message, enum operation operation
 /* Fills a library's book, from an empty one on, by its own additions alone. */
 static void add_phrases(int library, struct message *message, size_t records)
 {
-    struct book_call c = {GOVORUN_DISPATCH, BOOK_BYTES, 0, 0, 0};
+    struct book_call c = {GOVORUN_DISPATCH, false, BOOK_BYTES, 0, 0, 0};
     uint32_t seed = 1;
     memset(books[library], FILLER, BOOK_BYTES);
     for (size_t i = 0; i < records; i++) {
@@ -757,7 +776,10 @@ static void compare_calls(const struct message *message, size_t size, size_t use
     static const uint32_t listeners[] = {GOVORUN_PUMP, GOVORUN_ROAD, GOVORUN_DISPATCH, 3, 32, 258, UINT32_MAX};
     for (int operation = FIND_FIRST; operation < OPERATIONS; operation++)
         for (size_t i = 0; i < sizeof listeners / sizeof listeners[0]; i++) {
-            struct book_call c = {listeners[i], size, used, message->calls[operation].phrase, message->calls[operation].set};
+            struct book_call c = message->calls[operation];
+            c.listener = listeners[i];
+            c.size = size;
+            c.used = used;
             compare_call(message, (enum operation)operation, &c, bytes);
         }
 }

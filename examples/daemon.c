@@ -4,11 +4,15 @@
  * understood, in UTF-8, a colon and a space, and the codes of the tape in decimal; or the refusal, whose place counts in the line if the
  * number is 13, else in the edited message. A line that is a whole number in decimal is a level of the probe's: its words are the message.
  * Where the input can't be read any further or there is no memory left, the daemon says so on standard error and ends with nothing
- * spoken of that line.
+ * spoken of that line. Tapes are of edition 1, the present reading, or with the option -2 of
+ * edition 2, the newer one.
  *
  *     cc -I include examples/daemon.c target/staticlib/libcapi.a -o daemon
+ *     daemon -2
  */
 #define PROGRAM "daemon"
+
+#include <string.h>
 
 #include "govorun.h"
 #include "lines.h"
@@ -30,7 +34,7 @@ static void print_spoken(const uint8_t *text, size_t length, const uint8_t *tape
 }
 
 /* Asks how long the tape will be and lends just so much, for the text twice the message, which is the most; and prints what comes. */
-static void speak(const uint8_t *msg, size_t len)
+static void speak(bool newer, const uint8_t *msg, size_t len)
 {
     govorun_counts counts = govorun_check(msg, len);
     govorun_answer spoken, shown;
@@ -42,7 +46,7 @@ static void speak(const uint8_t *msg, size_t len)
     }
     tape = memory(NULL, counts.codes);
     text = memory(NULL, 2 * len);
-    spoken = govorun_transcribe(msg, len, tape, counts.codes);
+    spoken = govorun_transcribe(newer, msg, len, tape, counts.codes);
     shown = govorun_write_utf8(msg, len, text, 2 * len);
     if (spoken.number != 0)
         print_refusal(spoken.number, spoken.place);
@@ -54,7 +58,7 @@ static void speak(const uint8_t *msg, size_t len)
     free(tape);
 }
 
-static void read_and_speak(struct line *line)
+static void read_and_speak(bool newer, struct line *line)
 {
     govorun_text read = govorun_read_utf8(line->text, line->len, line->read, line->room);
     govorun_text edited;
@@ -67,7 +71,7 @@ static void read_and_speak(struct line *line)
     if (edited.number != 0)
         print_refusal(edited.number, edited.place);
     else
-        speak(line->edited, edited.length);
+        speak(newer, line->edited, edited.length);
 }
 
 /* Is the line a whole number: digits alone, behind a minus sign or none? */
@@ -93,7 +97,7 @@ static int32_t read_number(const struct line *line)
     return sign ? -number : number;
 }
 
-static void speak_level(int32_t level)
+static void speak_level(bool newer, int32_t level)
 {
     uint8_t words[LEVEL_BYTES];
     govorun_answer spoken = govorun_speak_level(level, words, sizeof words);
@@ -101,18 +105,24 @@ static void speak_level(int32_t level)
     if (spoken.number != 0)
         print_refusal(spoken.number, spoken.place);
     else
-        speak(words, spoken.length);
+        speak(newer, words, spoken.length);
 }
 
-int main(void)
+int main(int argc, char **argv)
 {
-    struct line line = first_line();
+    bool newer = argc == 2 && strcmp(argv[1], "-2") == 0;
+    struct line line;
 
+    if (argc > 1 && !newer) {
+        fputs("usage: " PROGRAM " [-2]\n", stderr);
+        return EXIT_FAILURE;
+    }
+    line = first_line();
     while (read_line(stdin, &line)) {
         if (is_number(&line))
-            speak_level(read_number(&line));
+            speak_level(newer, read_number(&line));
         else
-            read_and_speak(&line);
+            read_and_speak(newer, &line);
         /* Whoever polls waits for this line. */
         fflush(stdout);
     }

@@ -87,10 +87,11 @@ static int32_t read_set(const uint8_t *text, size_t len)
     return set;
 }
 
-/* Adds a message to the book, as dispatch alone may. */
+/* Adds a message to the book, as dispatch alone may, in edition 1, the present reading. */
 static govorun_added add_once(const struct book *book, const struct phrase *phrase, const uint8_t *msg, size_t len)
 {
-    return govorun_book_add(GOVORUN_DISPATCH, book->bytes, book->room, book->used, phrase->number, phrase->set, msg, len);
+    return govorun_book_add(GOVORUN_DISPATCH, false, book->bytes, book->room, book->used,
+                            phrase->number, phrase->set, msg, len);
 }
 
 /* The same with more room if need be: where the book is too short, the answer's place is the length that it must have. */

@@ -18,10 +18,17 @@
  * edited, by govorun_edit. govorun_write_utf8 turns a message back. The words of a level are a message that govorun_speak_level writes.
  * Phrases that are heard daily are kept taped in a book, each for some listeners: govorun_book_add adds one, govorun_book_find finds it for
  * a listener who may hear it.
+ *
+ * A tape is made in one of two editions, and each call that makes one is told which by its argument
+ * newer: edition 1 (false) is the present reading, edition 2 (true) the newer one. Where one of the
+ * letters е, я and а, small or capital, makes the code 8 in edition 1, it makes 10 in edition 2.
+ * All other codes are the same in both, the 8 that э makes too. So the two tapes of a message are
+ * equally long, and a call refuses in one edition just what it refuses in the other.
  */
 #ifndef GOVORUN_H
 #define GOVORUN_H
 
+#include <stdbool.h>
 #include <stddef.h>
 #include <stdint.h>
 
@@ -62,14 +69,21 @@ govorun_counts govorun_check(const uint8_t *msg, size_t len);
 /* Writes one byte, 1 to 7, for each syllable of the message, in order. At most len bytes. */
 govorun_answer govorun_name(const uint8_t *msg, size_t len, uint8_t *out, size_t cap);
 
-/* Writes the tape of the message: a code, 1 to 56, for each sound, 0 for a gap, 63 for a pause. At most 2 * len bytes. */
-govorun_answer govorun_transcribe(const uint8_t *msg, size_t len, uint8_t *out, size_t cap);
+/*
+ * Writes the tape of the message in that edition: a code, 1 to 56, for each sound, 0 for a gap, 63
+ * for a pause. At most 2 * len bytes, and in either edition as many as the check counts.
+ */
+govorun_answer govorun_transcribe(bool newer, const uint8_t *msg, size_t len, uint8_t *out,
+                                  size_t cap);
 
 /*
  * Writes the tapes of the message's parts, cut at the places of its breaks that cuts lists in strictly rising order, with the mark of
- * each cut between its neighbours. As long as the whole message's tape, and equal to it exactly where live is 0.
+ * each cut between its neighbours, all in that edition. As long as the whole message's tape in the
+ * same edition, and equal to it exactly where live is 0. Which cuts are live does not depend on the
+ * edition.
  */
-govorun_answer govorun_join(const uint8_t *msg, size_t len, const size_t *cuts, size_t n, uint8_t *out, size_t cap);
+govorun_answer govorun_join(bool newer, const uint8_t *msg, size_t len, const size_t *cuts,
+                            size_t n, uint8_t *out, size_t cap);
 
 /*
  * For texts of any length. number 0: accepted, place 0, length bytes of out were written. Any other number: refused, length 0, and
@@ -123,8 +137,9 @@ enum { GOVORUN_FOR_PUMP = 1, GOVORUN_FOR_ROAD = 2, GOVORUN_FOR_DISPATCH = 4 };
 /*
  * A phrase book. A record is the mark 0x52 0x9F, the phrase's number, its set of listeners, the length of its tape, and then the tape; the
  * set is one byte, number and length are two each, low byte first. The book is book[0 .. used), record after record, with numbers that
- * rise strictly; a used count above size is read as size. An empty book has used 0, and its first number may be 0. Both calls below
- * refuse with
+ * rise strictly; a used count above size is read as size. An empty book has used 0, and its first
+ * number may be 0. A book may hold phrases of both editions; a record does not say which, and a
+ * lookup finds the tape as it was added. Both calls below refuse with
  *   15  the mark is missing, or the record is cut short     the record's start
  *   16  the number is not above the one before              the record's start; of a phrase to be added, the book's end
  *   17  not for this listener                               place 0
@@ -139,12 +154,14 @@ typedef struct {
 } govorun_added;
 
 /*
- * Adds the tape of a message at the end of the book, under a number above the last and for the listeners of a set, which may be any byte.
+ * Adds the tape of a message in that edition at the end of the book, under a number above the last
+ * and for the listeners of a set, which may be any byte.
  * 17 first, unless the listener is GOVORUN_DISPATCH; then 1 to 10 of the message, then 15 and 16 of the book, then 16 for the number, then
  * 11: size is too small, and the place is the bytes of the book with the addition. At most 7 + 2 * len bytes are added.
  */
-govorun_added govorun_book_add(uint32_t listener, uint8_t *book, size_t size, size_t used, uint16_t phrase, uint8_t set,
-                               const uint8_t *msg, size_t len);
+govorun_added govorun_book_add(uint32_t listener, bool newer, uint8_t *book, size_t size,
+                               size_t used, uint16_t phrase, uint8_t set, const uint8_t *msg,
+                               size_t len);
 
 /*
  * number 0, place 0, found 1: the tape is book[start .. start + length). Any other number: refused, 15 or 16 at its place or 17 at 0;

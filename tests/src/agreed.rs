@@ -1,6 +1,7 @@
 //! The operations as all implementations agree on them. Each call asks the library, in `print`,
 //! `speak` and `gauge` a program, and ends the test unless the answer and every byte of the output
-//! are those of the implementation written from the papers; then it hands the answer on.
+//! are those of the implementation written from the papers; then it hands the answer on. What makes
+//! a tape is asked in both editions, and where none is named the answer of edition 1 is handed on.
 
 use std::thread;
 use std::time::Duration;
@@ -8,6 +9,8 @@ use std::time::Duration;
 use crate::answers::{Answer, Whole};
 use crate::book_trial::Lent;
 use crate::demand3::Pair;
+use crate::edition::{Edition, EDITIONS};
+use crate::joints;
 use crate::program::{Program, GAUGE, GOVORUN, SPEAK};
 use crate::refusals::Refusal;
 use crate::text::hex;
@@ -46,12 +49,37 @@ pub fn names(msg: &[u8], cap: usize) -> Result<Vec<u8>, Refusal> {
 
 /// The transcriber with an output of `cap` bytes.
 pub fn tape(msg: &[u8], cap: usize) -> Result<Vec<u8>, Refusal> {
-    with_output(Operation::Transcribe, msg, cap).map(|(tape, _)| tape)
+    let [one, _] = EDITIONS.map(|edition| tape_in(edition, msg, cap));
+    one
+}
+
+/// The transcriber in one edition.
+pub fn tape_in(edition: Edition, msg: &[u8], cap: usize) -> Result<Vec<u8>, Refusal> {
+    with_output(Operation::Transcribe(edition), msg, cap).map(|(tape, _)| tape)
 }
 
 /// The joiner with an output of `cap` bytes.
 pub fn join(msg: &[u8], cuts: &[usize], cap: usize) -> Result<Joined, Refusal> {
-    with_output(Operation::Join(cuts), msg, cap).map(|(tape, live)| Joined { tape, live })
+    let [one, _] = EDITIONS.map(|edition| join_in(edition, msg, cuts, cap));
+    one
+}
+
+/// The joiner in one edition.
+pub fn join_in(
+    edition: Edition,
+    msg: &[u8],
+    cuts: &[usize],
+    cap: usize,
+) -> Result<Joined, Refusal> {
+    let whole = with_output(Operation::Join(edition, cuts), msg, cap);
+    whole.map(|(tape, live)| Joined { tape, live })
+}
+
+/// The places of an accepted message where a cut is live, in either edition.
+pub fn live_places(msg: &[u8]) -> Vec<usize> {
+    let [one, two] = EDITIONS.map(|edition| joints::live_places(edition, msg));
+    assert_eq!(one, two, "message {}", hex(msg));
+    one
 }
 
 /// The speaker of levels with an output of `cap` bytes.
@@ -84,9 +112,26 @@ pub fn book_add(
     set: u8,
     msg: &[u8],
 ) -> Result<usize, Refusal> {
+    let mut newer = buffer.to_vec();
+    let two = book_add_in(listener, Edition::Two, &mut newer, used, phrase, set, msg);
+    let one = book_add_in(listener, Edition::One, buffer, used, phrase, set, msg);
+    assert_eq!(one, two, "message {}", hex(msg));
+    one
+}
+
+/// The addition in one edition.
+pub fn book_add_in(
+    listener: u32,
+    edition: Edition,
+    buffer: &mut [u8],
+    used: usize,
+    phrase: u16,
+    set: u8,
+    msg: &[u8],
+) -> Result<usize, Refusal> {
     let before = buffer.to_vec();
     let lent = Lent::new(&before, used);
-    let addition = lent.addition(listener, phrase, set, msg);
+    let addition = lent.addition(listener, edition, phrase, set, msg);
     let tried = addition.in_place(msg, buffer);
     let added = tried.unwrap_or_else(|difference| panic!("{difference}"));
     match Refusal::given(added.number, added.place) {
@@ -97,8 +142,8 @@ pub fn book_add(
 
 /// Transcriber and joiner with room enough, for the questions of demand 3.
 pub const PAIR: Pair = Pair {
-    tape: |msg| tape(msg, usize::MAX).ok(),
-    join: |msg, cuts| join(msg, cuts, usize::MAX).expect("good cuts"),
+    tape: |edition, msg| tape_in(edition, msg, usize::MAX).ok(),
+    join: |edition, msg, cuts| join_in(edition, msg, cuts, usize::MAX).expect("good cuts"),
 };
 
 /// What the program `govorun` prints for a message.

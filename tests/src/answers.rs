@@ -2,6 +2,7 @@
 //! says it: a refusal keeps every byte of the output, an answer takes its beginning only.
 
 use crate::editing::edited;
+use crate::edition::Edition;
 use crate::refusals::Refusal;
 use crate::spoken_levels::spoken_number;
 use crate::{edit, fit, join, names, read_utf8, speak_level, tape, write_utf8};
@@ -59,12 +60,12 @@ pub fn whole_names(msg: &[u8]) -> Whole {
     names(msg, usize::MAX).map(|names| (names, 0))
 }
 
-pub fn whole_tape(msg: &[u8]) -> Whole {
-    tape(msg, usize::MAX).map(|tape| (tape, 0))
+pub fn whole_tape(edition: Edition, msg: &[u8]) -> Whole {
+    tape(edition, msg, usize::MAX).map(|tape| (tape, 0))
 }
 
-pub fn whole_join(msg: &[u8], cuts: &[usize]) -> Whole {
-    join(msg, cuts, usize::MAX).map(|joined| (joined.tape, joined.live))
+pub fn whole_join(edition: Edition, msg: &[u8], cuts: &[usize]) -> Whole {
+    join(edition, msg, cuts, usize::MAX).map(|joined| (joined.tape, joined.live))
 }
 
 pub fn whole_speak_level(level: i32) -> Whole {
@@ -97,9 +98,10 @@ pub fn lent(whole: &Whole, before: &[u8]) -> (Answer, Vec<u8>) {
     (answer, after)
 }
 
-/// What the program `govorun` prints for the bytes of its standard input, a message.
+/// What the program `govorun` prints for the bytes of its standard input, a message. The programs
+/// keep edition 1.
 pub fn expected_print(input: &[u8]) -> String {
-    print_of(tape(input, usize::MAX))
+    print_of(tape(Edition::One, input, usize::MAX))
 }
 
 /// What the program `speak` prints for the bytes of its standard input, a text in UTF-8. Gives
@@ -109,7 +111,7 @@ pub fn expected_speech(input: &[u8]) -> Option<String> {
         return None;
     }
     let read = read_utf8(input, usize::MAX);
-    let tape = read.and_then(|read| tape(&edited(&read), usize::MAX));
+    let tape = read.and_then(|read| tape(Edition::One, &edited(&read), usize::MAX));
     Some(print_of(tape))
 }
 
@@ -120,7 +122,8 @@ pub fn expected_level(input: &[u8]) -> Option<String> {
         return None;
     }
     let words = spoken_number(input)?;
-    Some(print_of(words.and_then(|words| tape(&words, usize::MAX))))
+    let tape = words.and_then(|words| tape(Edition::One, &words, usize::MAX));
+    Some(print_of(tape))
 }
 
 /// A tape or a refusal as all programs print it.

@@ -1,8 +1,10 @@
 //! Requests 6 and 7 of document 02, "A phrase book" and "Who may hear what": taped phrases, one
-//! record after another, in the first part of a lent buffer, each for a set of listeners.
+//! record after another, in the first part of a lent buffer, each for a set of listeners. By
+//! request 8 each is taped in one of two editions, which its record does not say.
 
 use std::ops::Range;
 
+use crate::edition::Edition;
 use crate::refusals::Refusal;
 use crate::tape;
 
@@ -110,12 +112,14 @@ pub fn find(
     wanted.map(|record| record.tape).ok_or(Refusal::new(17, 0))
 }
 
-/// The addition by a listener, or by nobody: puts a record with the set and the message's tape
-/// behind the book and gives the new used count. All but dispatch are refused before anything is
-/// looked at. Then comes what is wrong with the message, then what is wrong with the book, then that
-/// the number does not rise, and last that the buffer has no room; a refusal leaves the buffer.
+/// The addition by a listener, or by nobody: puts a record with the set and the message's tape, in
+/// an edition, behind the book and gives the new used count. All but dispatch are refused before
+/// anything is looked at. Then comes what is wrong with the message, then what is wrong with the
+/// book, then that the number does not rise, and last that the buffer has no room; a refusal leaves
+/// the buffer.
 pub fn add(
     listener: impl Into<Option<Listener>>,
+    edition: Edition,
     buffer: &mut [u8],
     used: usize,
     phrase: u16,
@@ -125,7 +129,7 @@ pub fn add(
     if listener.into() != Some(Listener::Dispatch) {
         return Err(Refusal::new(17, 0));
     }
-    let tape = tape(msg, usize::MAX)?;
+    let tape = tape(edition, msg, usize::MAX)?;
     let book = book(buffer, used);
     let end = book.len();
     if !rises(&records(book)?, phrase) {

@@ -2,6 +2,7 @@
 //! answer, and every byte of the buffer and around it.
 
 use crate::book::{self, Listener};
+use crate::edition::Edition;
 use crate::gen::Rng;
 use crate::placed::Placed;
 use crate::text::hex;
@@ -35,14 +36,23 @@ impl<'a> Lent<'a> {
         }
     }
 
-    /// The addition of a message by a listener, with the answer that the papers ask for.
-    pub fn addition(self, listener: u32, phrase: u16, set: u8, msg: &'a [u8]) -> Addition<'a> {
+    /// The addition of a message in an edition by a listener, with the answer that the papers ask
+    /// for.
+    pub fn addition(
+        self,
+        listener: u32,
+        edition: Edition,
+        phrase: u16,
+        set: u8,
+        msg: &'a [u8],
+    ) -> Addition<'a> {
         let mut after = self.buffer.to_vec();
         let by = Listener::of(listener);
-        let answer = book::add(by, &mut after, self.used, phrase, set, msg).into();
+        let answer = book::add(by, edition, &mut after, self.used, phrase, set, msg).into();
         Addition {
             lent: self,
             listener,
+            edition,
             phrase,
             set,
             msg,
@@ -97,6 +107,7 @@ impl Lookup<'_> {
 pub struct Addition<'a> {
     lent: Lent<'a>,
     listener: u32,
+    edition: Edition,
     phrase: u16,
     set: u8,
     msg: &'a [u8],
@@ -119,7 +130,8 @@ impl Addition<'_> {
     /// Tries the addition of this copy of the message to this copy of the buffer.
     pub fn in_place(&self, msg: &[u8], buffer: &mut [u8]) -> Result<Added, String> {
         let (expected, used) = (self.answer, self.lent.used);
-        let given = unit::book_add(self.listener, buffer, used, self.phrase, self.set, msg);
+        let (listener, edition) = (self.listener, self.edition);
+        let given = unit::book_add(listener, edition, buffer, used, self.phrase, self.set, msg);
         if given != expected {
             return Err(self.told(&format!("gives {given:?} for {expected:?}")));
         }
@@ -136,6 +148,7 @@ impl Addition<'_> {
     fn told(&self, wrong: &str) -> String {
         let (listener, phrase, set) = (self.listener, self.phrase, self.set);
         let what = format!("the addition of {phrase} for the set {set:#04X} by {listener}");
+        let what = format!("{what} in edition {:?}", self.edition);
         let wrong = format!("{what} {wrong}\nmessage: {}", hex(self.msg));
         self.lent.told(&wrong)
     }

@@ -77,20 +77,30 @@ pub fn first_sound(letters: &[Spoken]) -> Option<u8> {
     letters.iter().find_map(Spoken::first)
 }
 
+/// A code of a tape and what made it: a small letter, whose glide is its own too, or a break.
+#[derive(Clone, Copy, Debug, PartialEq, Eq)]
+pub struct Made {
+    pub code: u8,
+    pub by: char,
+}
+
 /// The tape of words that have gone through all passes.
-pub fn lay(words: &[Word], spoken: &[Vec<Spoken>]) -> Vec<u8> {
+pub fn lay(words: &[Word], spoken: &[Vec<Spoken>]) -> Vec<Made> {
     let mut tape = Vec::new();
-    for (word, letters) in words.iter().zip(spoken) {
+    for (word, sounds) in words.iter().zip(spoken) {
+        let mut push = |code, by| tape.push(Made { code, by });
         match word.before {
-            Some(Break::Gap) => tape.push(GAP),
-            Some(Break::Pause) => tape.push(PAUSE),
+            Some(Break::Gap) => push(GAP, ' '),
+            Some(Break::Pause) => push(PAUSE, '#'),
             None => {}
         }
-        for letter in letters {
-            if letter.glide {
-                tape.push(sound!("J"));
+        for (letter, spoken) in word.letters.iter().zip(sounds) {
+            if spoken.glide {
+                push(sound!("J"), letter.letter);
             }
-            tape.extend(letter.sound);
+            if let Some(code) = spoken.sound {
+                push(code, letter.letter);
+            }
         }
     }
     tape

@@ -1,5 +1,6 @@
 //! Demand 3 as a question that any transcriber and joiner can be asked.
 
+use crate::edition::{Edition, EDITIONS};
 use crate::message::breaks;
 use crate::text::show;
 use crate::Joined;
@@ -7,18 +8,32 @@ use crate::Joined;
 /// A transcriber and a joiner, each with all the output it needs. The transcriber gives nothing
 /// for a refused message; the joiner is handed good cuts only.
 pub struct Pair {
-    pub tape: fn(&[u8]) -> Option<Vec<u8>>,
-    pub join: fn(&[u8], &[usize]) -> Joined,
+    pub tape: fn(Edition, &[u8]) -> Option<Vec<u8>>,
+    pub join: fn(Edition, &[u8], &[usize]) -> Joined,
 }
 
 impl Pair {
-    /// The claim for one list of cuts of an accepted message. `live` are the places where a cut of
-    /// this message is live.
-    pub fn holds(&self, msg: &[u8], whole: &[u8], live: &[usize], cuts: &[usize]) {
-        let told = || format!("{} cut at {cuts:?}", show(msg));
-        let joined = (self.join)(msg, cuts);
+    /// The tapes of a message in both editions, unless it is refused.
+    pub fn wholes(&self, msg: &[u8]) -> Option<[Vec<u8>; 2]> {
+        let [one, two] = EDITIONS.map(|edition| (self.tape)(edition, msg));
+        assert_eq!(one.is_some(), two.is_some(), "{}", show(msg));
+        one.zip(two).map(<[_; 2]>::from)
+    }
+
+    /// The claim for one list of cuts of an accepted message, in either edition. `wholes` are its
+    /// tapes, and `live` the places where a cut of this message is live.
+    pub fn holds(&self, msg: &[u8], wholes: &[Vec<u8>; 2], live: &[usize], cuts: &[usize]) {
+        for (edition, whole) in EDITIONS.into_iter().zip(wholes) {
+            self.holds_in(edition, msg, whole, live, cuts);
+        }
+    }
+
+    fn holds_in(&self, edition: Edition, msg: &[u8], whole: &[u8], live: &[usize], cuts: &[usize]) {
+        let told = || format!("{} cut at {cuts:?} in edition {edition:?}", show(msg));
+        let joined = (self.join)(edition, msg, cuts);
         let second = joined.tape;
-        assert_eq!(second, self.parts_and_marks(msg, cuts), "{}", told());
+        let parts = self.parts_and_marks(edition, msg, cuts);
+        assert_eq!(second, parts, "{}", told());
         assert_eq!(second.len(), whole.len(), "{}", told());
         let is_live = |cut: &usize| live.contains(cut);
         let live: Vec<usize> = cuts.iter().copied().filter(is_live).collect();
@@ -34,24 +49,24 @@ impl Pair {
 
     /// The tapes of the parts laid end to end. The message is split byte by byte, not by the code
     /// that the joiner here uses.
-    fn parts_and_marks(&self, msg: &[u8], cuts: &[usize]) -> Vec<u8> {
+    fn parts_and_marks(&self, edition: Edition, msg: &[u8], cuts: &[usize]) -> Vec<u8> {
         let mut tape = Vec::new();
         let mut part = Vec::new();
         for (place, &byte) in msg.iter().enumerate() {
             if cuts.binary_search(&place).is_ok() {
-                tape.extend(self.part(&part));
+                tape.extend(self.part(edition, &part));
                 part.clear();
                 tape.push(if byte == b' ' { 0 } else { 63 });
             } else {
                 part.push(byte);
             }
         }
-        tape.extend(self.part(&part));
+        tape.extend(self.part(edition, &part));
         tape
     }
 
-    fn part(&self, msg: &[u8]) -> Vec<u8> {
-        (self.tape)(msg).expect("a part of an accepted message is accepted")
+    fn part(&self, edition: Edition, msg: &[u8]) -> Vec<u8> {
+        (self.tape)(edition, msg).expect("a part of an accepted message is accepted")
     }
 }
 

@@ -1,9 +1,11 @@
-//! What a fuzzer's bytes stand for: a list of cuts and a message, or a text in its place; the first
-//! bytes of that are levels, too, and all of them books. `fuzz/` of the project has the target.
+//! What a fuzzer's bytes stand for: an edition, a list of cuts and a message, or a text in its
+//! place; the first bytes of that are levels, too, and all of them books. `fuzz/` of the project
+//! has the target.
 
 pub mod book;
 
 use crate::editing::edited;
+use crate::edition::Edition;
 use crate::gen::Rng;
 use crate::message::breaks;
 use crate::text::hex;
@@ -17,19 +19,28 @@ const WRITTEN: usize = 3;
 /// What is below this, with either sign, is within the range of levels or close to it.
 const CLOSE: i32 = 10_100;
 
-/// A list of cuts and a message, on which the library and the paper are compared.
+/// This bit of the first byte asks for edition 2.
+const NEWER: u8 = 0x10;
+
+/// An edition, a list of cuts and a message, on which the library and the paper are compared.
 #[derive(Debug, PartialEq, Eq)]
 pub struct Input<'a> {
+    pub edition: Edition,
     pub cuts: Vec<usize>,
     pub msg: &'a [u8],
 }
 
 impl<'a> Input<'a> {
     /// The first byte says how the cuts are made: none, all breaks, those that the bits of the
-    /// second byte choose, or those and then up to four that are written out, good or bad. The
-    /// message is what is left. So most changes of a byte keep either the message or a good list.
+    /// second byte choose, or those and then up to four that are written out, good or bad. One of
+    /// its bits chooses the edition. The message is what is left. So most changes of a byte keep
+    /// either the message or a good list.
     pub fn of(data: &'a [u8]) -> Self {
         let (&[how, bits], rest) = data.split_first_chunk().unwrap_or((&[0, 0], &[]));
+        let edition = match how & NEWER {
+            0 => Edition::One,
+            _ => Edition::Two,
+        };
         let (bits, count) = match how % 4 {
             0 => (0, 0),
             1 => (u8::MAX, 0),
@@ -40,7 +51,7 @@ impl<'a> Input<'a> {
         let (written, msg) = rest.split_at(length.min(rest.len()));
         let mut cuts = chosen_breaks(msg, bits);
         cuts.extend(written.chunks_exact(WRITTEN).map(written_cut));
-        Input { cuts, msg }
+        Input { edition, cuts, msg }
     }
 
     /// The level that the first four bytes of the message make, the low one first and 0 for those
@@ -59,7 +70,7 @@ impl<'a> Input<'a> {
     /// well, cut at every break; and if it is written, that is read back. Both levels are spoken, and
     /// both books asked.
     pub fn compare(&self, rng: &mut Rng) -> Result<(), String> {
-        compare(rng, self.msg, &self.cuts)?;
+        compare(rng, self.edition, self.msg, &self.cuts)?;
         self.compare_made(rng, &edited(self.msg))?;
         if let Ok(read) = read_utf8(self.msg, usize::MAX) {
             self.compare_made(rng, &edited(&read))?;
@@ -70,7 +81,8 @@ impl<'a> Input<'a> {
         let mut levels = self.levels().map(Operation::SpeakLevel).into_iter();
         levels.try_for_each(|level| trial::with_any_output(rng, level, &[]))?;
         let books = [Asked::as_it_comes(self.msg), Asked::made(self.msg)];
-        books.iter().try_for_each(|asked| asked.compare(rng))
+        let mut books = books.iter();
+        books.try_for_each(|asked| asked.compare(rng, self.edition))
     }
 
     /// Tries what the message becomes, if that is another.
@@ -78,7 +90,7 @@ impl<'a> Input<'a> {
         if made == self.msg {
             return Ok(());
         }
-        compare(rng, made, &breaks(made))
+        compare(rng, self.edition, made, &breaks(made))
     }
 }
 
@@ -92,8 +104,8 @@ fn compare_read(rng: &mut Rng, written: &[u8], msg: &[u8]) -> Result<(), String>
     }
 }
 
-fn compare(rng: &mut Rng, msg: &[u8], cuts: &[usize]) -> Result<(), String> {
-    trial::once(rng, msg, cuts)
+fn compare(rng: &mut Rng, edition: Edition, msg: &[u8], cuts: &[usize]) -> Result<(), String> {
+    trial::once(rng, edition, msg, cuts)
         .map_err(|difference| format!("{difference}\ncuts, hexadecimal: {cuts:X?}"))
 }
 

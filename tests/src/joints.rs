@@ -1,6 +1,7 @@
 //! Section "Joints": live cuts, the parts of a message and the second tape.
 
 use crate::codes::{first_sound, GAP, PAUSE};
+use crate::edition::Edition;
 use crate::letters::{is_obstruent, is_sign, symbol, Symbol};
 use crate::message::{breaks, words, Break, Word};
 use crate::refusals::Refusal;
@@ -8,11 +9,11 @@ use crate::transcription::{speak, transcribe};
 use crate::voicing::makes_voiced;
 use crate::vowels::hard_boundary_before;
 
-/// The places of an accepted message where a cut is live, in order. The list of cuts has no say
-/// in it.
-pub fn live_places(msg: &[u8]) -> Vec<usize> {
+/// The places of an accepted message where a cut is live, in order, by the tape that it has in an
+/// edition. The list of cuts has no say in it.
+pub fn live_places(edition: Edition, msg: &[u8]) -> Vec<usize> {
     let written = words(msg);
-    let (_, spoken) = speak(msg);
+    let (_, spoken) = speak(edition, msg);
     let places = breaks(msg);
     (0..places.len())
         .filter(|&index| written[index + 1].before == Some(Break::Gap))
@@ -62,14 +63,15 @@ pub fn parts<'a>(msg: &'a [u8], cuts: &[usize]) -> Vec<&'a [u8]> {
     parts
 }
 
-/// The second tape: each part transcribed by itself, the marks of the cuts between them.
-pub fn second_tape(msg: &[u8], cuts: &[usize]) -> Vec<u8> {
+/// The second tape: each part transcribed by itself, all in one edition, and the marks of the cuts
+/// between them.
+pub fn second_tape(edition: Edition, msg: &[u8], cuts: &[usize]) -> Vec<u8> {
     let mut tape = Vec::new();
     for (index, part) in parts(msg, cuts).into_iter().enumerate() {
         if index > 0 {
             tape.push(mark(msg[cuts[index - 1]]));
         }
-        tape.extend(transcribe(part));
+        tape.extend(transcribe(edition, part));
     }
     tape
 }

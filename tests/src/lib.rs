@@ -1,11 +1,11 @@
-//! A second implementation of document 01 and of requests 1, 2 and 4 to 7 of document 02, written
+//! A second implementation of document 01 and of requests 1, 2 and 4 to 8 of document 02, written
 //! from the papers for comparison. It says what each operation must answer; it is plain rather
 //! than fast.
 //!
 //! The modules follow the papers: letters, refusals, the five passes, codes, joints; then editing,
-//! UTF-8, spoken levels and the book. Beside them stand `gen` with the messages to try, `unit`,
-//! `program` and `example` with the library and the programs under test, and what holds them to
-//! each other: `trial` and `book_trial`, and `agreed` for the tests.
+//! UTF-8, spoken levels, the book and the editions. Beside them stand `gen` with the messages to
+//! try, `unit`, `program` and `example` with the library and the programs under test, and what
+//! holds them to each other: `trial` and `book_trial`, and `agreed` for the tests.
 
 pub mod agreed;
 pub mod answers;
@@ -14,6 +14,7 @@ pub mod book_trial;
 pub mod codes;
 pub mod demand3;
 pub mod editing;
+pub mod edition;
 pub mod elision;
 pub mod example;
 pub mod fence;
@@ -39,6 +40,7 @@ pub mod vowels;
 
 pub use answers::{expected_level, expected_print, expected_speech, Answer};
 pub use codes::spell;
+pub use edition::{Edition, EDITIONS};
 pub use refusals::Refusal;
 pub use text::{cp1251, hex, show};
 
@@ -79,10 +81,11 @@ pub fn speak_level(level: i32, cap: usize) -> Result<Vec<u8>, Refusal> {
     fit(spoken_levels::spoken(level)?, cap)
 }
 
-/// The message check: refusals 1 to 10, or the lengths of the answers.
+/// The message check: refusals 1 to 10, or the lengths of the answers. It names no edition, since
+/// the tapes of both are equally long.
 pub fn check(msg: &[u8]) -> Result<Counts, Refusal> {
     accept(msg)?;
-    let codes = transcription::transcribe(msg).len();
+    let codes = transcription::transcribe(Edition::One, msg).len();
     let names = transcription::syllable_names(msg).len();
     Ok(Counts { codes, names })
 }
@@ -94,19 +97,19 @@ pub fn names(msg: &[u8], cap: usize) -> Result<Vec<u8>, Refusal> {
 }
 
 /// The transcriber with an output of `cap` bytes.
-pub fn tape(msg: &[u8], cap: usize) -> Result<Vec<u8>, Refusal> {
+pub fn tape(edition: Edition, msg: &[u8], cap: usize) -> Result<Vec<u8>, Refusal> {
     accept(msg)?;
-    fit(transcription::transcribe(msg), cap)
+    fit(transcription::transcribe(edition, msg), cap)
 }
 
 /// The joiner with an output of `cap` bytes.
-pub fn join(msg: &[u8], cuts: &[usize], cap: usize) -> Result<Joined, Refusal> {
+pub fn join(edition: Edition, msg: &[u8], cuts: &[usize], cap: usize) -> Result<Joined, Refusal> {
     accept(msg)?;
     if let Some(refusal) = joints::bad_cut(msg, cuts) {
         return Err(refusal);
     }
-    let tape = fit(joints::second_tape(msg, cuts), cap)?;
-    let live_places = joints::live_places(msg);
+    let tape = fit(joints::second_tape(edition, msg, cuts), cap)?;
+    let live_places = joints::live_places(edition, msg);
     let is_live = |cut: &&usize| live_places.binary_search(cut).is_ok();
     Ok(Joined {
         tape,

@@ -5,6 +5,7 @@ use crate::answers::{
     lent, whole_edit, whole_join, whole_names, whole_read_utf8, whole_speak_level, whole_tape,
     whole_write_utf8, Answer, Whole,
 };
+use crate::edition::{Edition, EDITIONS};
 use crate::fence::{Fenced, Side};
 use crate::gen::Rng;
 use crate::placed::Placed;
@@ -23,8 +24,8 @@ pub enum Operation<'a> {
     ReadUtf8,
     WriteUtf8,
     Name,
-    Transcribe,
-    Join(&'a [usize]),
+    Transcribe(Edition),
+    Join(Edition, &'a [usize]),
     SpeakLevel(i32),
 }
 
@@ -36,8 +37,8 @@ impl Operation<'_> {
             Operation::ReadUtf8 => whole_read_utf8(msg),
             Operation::WriteUtf8 => whole_write_utf8(msg),
             Operation::Name => whole_names(msg),
-            Operation::Transcribe => whole_tape(msg),
-            Operation::Join(cuts) => whole_join(msg, cuts),
+            Operation::Transcribe(edition) => whole_tape(edition, msg),
+            Operation::Join(edition, cuts) => whole_join(edition, msg, cuts),
             Operation::SpeakLevel(level) => whole_speak_level(level),
         }
     }
@@ -49,8 +50,8 @@ impl Operation<'_> {
             Operation::ReadUtf8 => unit::read_utf8(msg, out).into(),
             Operation::WriteUtf8 => unit::write_utf8(msg, out).into(),
             Operation::Name => unit::name(msg, out).into(),
-            Operation::Transcribe => unit::transcribe(msg, out).into(),
-            Operation::Join(cuts) => unit::join(msg, cuts, out).into(),
+            Operation::Transcribe(edition) => unit::transcribe(edition, msg, out).into(),
+            Operation::Join(edition, cuts) => unit::join(edition, msg, cuts, out).into(),
             Operation::SpeakLevel(level) => unit::speak_level(level, out).into(),
         }
     }
@@ -176,19 +177,29 @@ fn told(msg: &[u8], shown: &str) -> String {
     format!("{} bytes: {}\n{shown}", msg.len(), hex(msg))
 }
 
-/// The operations on a message that write to an output.
-pub fn writing(cuts: &[usize]) -> [Operation<'_>; 6] {
-    [
+/// The operations on a message that write to an output, tapes in both editions.
+pub fn writing(cuts: &[usize]) -> Vec<Operation<'_>> {
+    writing_in(&EDITIONS, cuts)
+}
+
+/// The same with tapes in these editions.
+fn writing_in<'a>(editions: &[Edition], cuts: &'a [usize]) -> Vec<Operation<'a>> {
+    let mut operations = vec![
         Operation::Edit,
         Operation::ReadUtf8,
         Operation::WriteUtf8,
         Operation::Name,
-        Operation::Transcribe,
-        Operation::Join(cuts),
-    ]
+    ];
+    for &edition in editions {
+        operations.extend([
+            Operation::Transcribe(edition),
+            Operation::Join(edition, cuts),
+        ]);
+    }
+    operations
 }
 
-/// All operations on a message, with outputs of all lengths that matter.
+/// All operations on a message, tapes in both editions, with outputs of all lengths that matter.
 pub fn all(rng: &mut Rng, msg: &[u8], cuts: &[usize]) -> Result<(), String> {
     check(rng, msg)?;
     for operation in writing(cuts) {
@@ -206,10 +217,10 @@ pub fn every_cap(rng: &mut Rng, operation: Operation, msg: &[u8]) -> Result<(), 
     Ok(())
 }
 
-/// All operations on a message, each with an output of one length.
-pub fn once(rng: &mut Rng, msg: &[u8], cuts: &[usize]) -> Result<(), String> {
+/// All operations on a message, tapes in one edition, each with an output of one length.
+pub fn once(rng: &mut Rng, edition: Edition, msg: &[u8], cuts: &[usize]) -> Result<(), String> {
     check(rng, msg)?;
-    let mut operations = writing(cuts).into_iter();
+    let mut operations = writing_in(&[edition], cuts).into_iter();
     operations.try_for_each(|operation| with_any_output(rng, operation, msg))
 }
 

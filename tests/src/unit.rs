@@ -3,6 +3,7 @@
 
 use std::ops::Range;
 
+use crate::edition::Edition;
 use crate::refusals::Refusal;
 
 /// The archive that is linked; `build.rs` finds it.
@@ -74,8 +75,15 @@ pub mod raw {
         pub fn govorun_write_utf8(msg: *const u8, len: usize, out: *mut u8, cap: usize) -> Answer;
         pub fn govorun_check(msg: *const u8, len: usize) -> Counts;
         pub fn govorun_name(msg: *const u8, len: usize, out: *mut u8, cap: usize) -> Answer;
-        pub fn govorun_transcribe(msg: *const u8, len: usize, out: *mut u8, cap: usize) -> Answer;
+        pub fn govorun_transcribe(
+            newer: bool,
+            msg: *const u8,
+            len: usize,
+            out: *mut u8,
+            cap: usize,
+        ) -> Answer;
         pub fn govorun_join(
+            newer: bool,
             msg: *const u8,
             len: usize,
             cuts: *const usize,
@@ -86,6 +94,7 @@ pub mod raw {
         pub fn govorun_speak_level(level: i32, out: *mut u8, cap: usize) -> Answer;
         pub fn govorun_book_add(
             listener: u32,
+            newer: bool,
             book: *mut u8,
             size: usize,
             used: usize,
@@ -130,16 +139,26 @@ pub fn name(msg: &[u8], out: &mut [u8]) -> Answer {
     unsafe { raw::govorun_name(msg.as_ptr(), msg.len(), out.as_mut_ptr(), out.len()) }
 }
 
-pub fn transcribe(msg: &[u8], out: &mut [u8]) -> Answer {
-    // SAFETY: as above.
-    unsafe { raw::govorun_transcribe(msg.as_ptr(), msg.len(), out.as_mut_ptr(), out.len()) }
+/// What the interface calls an edition: whether it is the newer one.
+pub fn newer(edition: Edition) -> bool {
+    match edition {
+        Edition::One => false,
+        Edition::Two => true,
+    }
 }
 
-pub fn join(msg: &[u8], cuts: &[usize], out: &mut [u8]) -> Answer {
+pub fn transcribe(edition: Edition, msg: &[u8], out: &mut [u8]) -> Answer {
+    let (start, cap) = (out.as_mut_ptr(), out.len());
+    // SAFETY: as above.
+    unsafe { raw::govorun_transcribe(newer(edition), msg.as_ptr(), msg.len(), start, cap) }
+}
+
+pub fn join(edition: Edition, msg: &[u8], cuts: &[usize], out: &mut [u8]) -> Answer {
+    let newer = newer(edition);
     let (places, count) = (cuts.as_ptr(), cuts.len());
     let (start, cap) = (out.as_mut_ptr(), out.len());
     // SAFETY: as above.
-    unsafe { raw::govorun_join(msg.as_ptr(), msg.len(), places, count, start, cap) }
+    unsafe { raw::govorun_join(newer, msg.as_ptr(), msg.len(), places, count, start, cap) }
 }
 
 pub fn speak_level(level: i32, out: &mut [u8]) -> Answer {
@@ -149,16 +168,18 @@ pub fn speak_level(level: i32, out: &mut [u8]) -> Answer {
 
 pub fn book_add(
     listener: u32,
+    edition: Edition,
     book: &mut [u8],
     used: usize,
     phrase: u16,
     set: u8,
     msg: &[u8],
 ) -> Added {
+    let newer = newer(edition);
     let (start, size) = (book.as_mut_ptr(), book.len());
     let (msg, len) = (msg.as_ptr(), msg.len());
     // SAFETY: as above.
-    unsafe { raw::govorun_book_add(listener, start, size, used, phrase, set, msg, len) }
+    unsafe { raw::govorun_book_add(listener, newer, start, size, used, phrase, set, msg, len) }
 }
 
 pub fn book_find(listener: u32, book: &[u8], used: usize, phrase: u16) -> Found {

@@ -1,6 +1,7 @@
 //! Section "Pass 3, vowels". Every function for a vowel is that vowel's row, entries in order.
 
 use crate::codes::{sound, Spoken};
+use crate::edition::Edition;
 use crate::letters::{is_always_hard, is_always_soft, is_paired, is_sign};
 use crate::message::{Break, Word};
 use crate::syllables::{syllables, Cover, Level, Syllable};
@@ -29,21 +30,21 @@ struct Setting {
 }
 
 /// The vowels of every word; the other letters stay without a sound until the voicing pass.
-pub fn speak_vowels(words: &[Word]) -> Vec<Vec<Spoken>> {
+pub fn speak_vowels(edition: Edition, words: &[Word]) -> Vec<Vec<Spoken>> {
     (0..words.len())
-        .map(|index| speak_word(&words[index], hard_boundary_before(words, index)))
+        .map(|index| speak_word(edition, &words[index], hard_boundary_before(words, index)))
         .collect()
 }
 
-fn speak_word(word: &Word, hard_boundary: bool) -> Vec<Spoken> {
+fn speak_word(edition: Edition, word: &Word, hard_boundary: bool) -> Vec<Spoken> {
     let mut spoken = vec![Spoken::default(); word.letters.len()];
     for syllable in syllables(word) {
-        spoken[syllable.vowel] = speak_vowel(word, &syllable, hard_boundary);
+        spoken[syllable.vowel] = speak_vowel(edition, word, &syllable, hard_boundary);
     }
     spoken
 }
 
-fn speak_vowel(word: &Word, syllable: &Syllable, hard_boundary: bool) -> Spoken {
+fn speak_vowel(edition: Edition, word: &Word, syllable: &Syllable, hard_boundary: bool) -> Spoken {
     let vowel = word.letters[syllable.vowel].letter;
     let previous = word.previous(syllable.vowel);
     let setting = Setting {
@@ -55,7 +56,16 @@ fn speak_vowel(word: &Word, syllable: &Syllable, hard_boundary: bool) -> Spoken 
     };
     Spoken {
         glide: has_glide(vowel, syllable.cover, previous),
-        sound: Some(quality(vowel, &setting)),
+        sound: Some(in_edition(edition, vowel, quality(vowel, &setting))),
+    }
+}
+
+/// Request 8 of document 02: what an edition makes of the sound that a vowel has in its row.
+fn in_edition(edition: Edition, vowel: char, sound: u8) -> u8 {
+    let is_moved = matches!(vowel, 'е' | 'я' | 'а') && sound == sound!("Э1");
+    match edition {
+        Edition::Two if is_moved => sound!("И1"),
+        Edition::One | Edition::Two => sound,
     }
 }
 

@@ -4,7 +4,7 @@
 use govorun_tests::agreed::{book_add, book_find};
 use govorun_tests::gen::books::NOBODY;
 use govorun_tests::unit::{self, Added, Found, DISPATCH, LISTENERS, PUMP, ROAD};
-use govorun_tests::{cp1251, Refusal};
+use govorun_tests::{cp1251, Refusal, EDITIONS};
 
 /// Phrase 5, `а`, for all, and phrase 9, `ду*б`, for road and dispatch: the codes 7 and 24 6 39.
 const TWO: [u8; 18] = *b"\x52\x9F\x05\x00\x07\x01\x00\x07\x52\x9F\x09\x00\x06\x03\x00\x18\x06\x27";
@@ -160,7 +160,12 @@ fn answers() {
     };
     let add = |listener, mut book: Vec<u8>, used, phrase, text| {
         book.extend([9; 11]);
-        unit::book_add(listener, &mut book, used, phrase, 1, &cp1251(text))
+        let [one, two] = EDITIONS.map(|edition| {
+            let book = &mut book.clone();
+            unit::book_add(listener, edition, book, used, phrase, 1, &cp1251(text))
+        });
+        assert_eq!(one, two);
+        one
     };
     let two = || TWO.to_vec();
     assert_eq!(add(DISPATCH, two(), 18, 10, "а"), added(0, 0, 26));

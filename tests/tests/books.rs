@@ -11,19 +11,51 @@ use govorun_tests::gen::damaged::SPOTS;
 use govorun_tests::gen::noise::{bytes, every_string, string};
 use govorun_tests::gen::{damaged, message, message_of_any_length, Rng};
 use govorun_tests::unit::{self, Added, Found, DISPATCH, LISTENERS, PUMP, ROAD};
-use govorun_tests::{cp1251, tape};
+use govorun_tests::{cp1251, tape, Edition, EDITIONS};
 
 fn find(rng: &mut Rng, lent: Lent, listener: u32, phrase: u16) -> Found {
     let tried = lent.lookup(listener, phrase).among_others(rng);
     tried.unwrap_or_else(|difference| panic!("{difference}"))
 }
 
-/// An addition for any set, that set, and the buffer afterwards.
-fn add(rng: &mut Rng, lent: Lent, listener: u32, phrase: u16, msg: &[u8]) -> (Added, u8, Vec<u8>) {
+/// What an addition for any set has come to: its answer, the set, and the buffer afterwards.
+struct Tried {
+    added: Added,
+    set: u8,
+    buffer: Vec<u8>,
+}
+
+/// An addition for any set, tried in both editions; the answers are the same. Gives what it has
+/// come to in each.
+fn add_in_both(rng: &mut Rng, lent: Lent, listener: u32, phrase: u16, msg: &[u8]) -> [Tried; 2] {
     let set = any_set(rng);
-    let tried = lent.addition(listener, phrase, set, msg).among_others(rng);
-    let (added, buffer) = tried.unwrap_or_else(|difference| panic!("{difference}"));
-    (added, set, buffer)
+    let tried = EDITIONS.map(|edition| {
+        let addition = lent.addition(listener, edition, phrase, set, msg);
+        let tried = addition.among_others(rng);
+        let (added, buffer) = tried.unwrap_or_else(|difference| panic!("{difference}"));
+        Tried { added, set, buffer }
+    });
+    assert_eq!(tried[0].added, tried[1].added);
+    tried
+}
+
+/// The same, but gives what it has come to in any of the two.
+fn add(rng: &mut Rng, lent: Lent, listener: u32, phrase: u16, msg: &[u8]) -> Tried {
+    let [one, two] = add_in_both(rng, lent, listener, phrase, msg);
+    match rng.pick(&EDITIONS) {
+        Edition::One => one,
+        Edition::Two => two,
+    }
+}
+
+/// The tape of an accepted message.
+fn tape_of(edition: Edition, msg: &[u8]) -> Vec<u8> {
+    tape(edition, msg, usize::MAX).expect("an accepted message")
+}
+
+/// How many bytes a record of a message has; of one that is refused, those of its head.
+fn record_bytes(msg: &[u8]) -> usize {
+    HEAD + tape(Edition::One, msg, usize::MAX).map_or(0, |tape| tape.len())
 }
 
 /// Lookups of what may be in the book and of what stands beside it; and additions, after which the
@@ -42,11 +74,11 @@ fn agrees(rng: &mut Rng, lent: Lent) {
         (DISPATCH, phrase, "а#"),
         (any_listener(rng), phrase, "а"),
     ] {
-        let (added, set, buffer) = add(rng, lent, listener, phrase, &cp1251(text));
-        if added.number == 0 {
-            let after = Lent::new(&buffer, added.used);
+        let tried = add(rng, lent, listener, phrase, &cp1251(text));
+        if tried.added.number == 0 {
+            let after = Lent::new(&tried.buffer, tried.added.used);
             let listener = rng.pick(&LISTENERS);
-            let is_for = u32::from(set >> listener & 1);
+            let is_for = u32::from(tried.set >> listener & 1);
             assert_eq!(find(rng, after, listener, phrase).found, is_for);
         }
     }
@@ -185,12 +217,17 @@ impl Filling {
         Lent::new(&self.buffer, self.used)
     }
 
-    /// Tries an addition. The book then holds the tapes of those that were accepted, in order and
-    /// with their sets, and the rest of the buffer is as it was.
+    /// Tries an addition, in any edition. The book then holds the tapes of those that were
+    /// accepted, in order and with their sets, and the rest of the buffer is as it was.
     fn add(&mut self, rng: &mut Rng, listener: u32, phrase: u16, msg: &[u8]) -> u32 {
-        let (added, set, buffer) = add(rng, self.lent(), listener, phrase, msg);
+        let [one, two] = add_in_both(rng, self.lent(), listener, phrase, msg);
+        let edition = rng.pick(&EDITIONS);
+        let Tried { added, set, buffer } = match edition {
+            Edition::One => one,
+            Edition::Two => two,
+        };
         if added.number == 0 {
-            let tape = tape(msg, usize::MAX).expect("an accepted message");
+            let tape = tape_of(edition, msg);
             self.accepted.push(Phrase::new(phrase, set, &tape));
             self.used = added.used;
         }
@@ -255,7 +292,7 @@ fn additions_to_sound_books_in_short_buffers() {
     for _ in 0..5000 {
         let book = laid(&phrases(&mut rng, 5));
         let msg = any_message(&mut rng);
-        let full = HEAD + tape(&msg, usize::MAX).map_or(0, |tape| tape.len());
+        let full = record_bytes(&msg);
         for short in [0, 1, 2, 6, 7, 8, rng.below(full), full, full + 1] {
             let free = full.saturating_sub(short) + rng.pick(&[0, 0, 9]);
             let buffer = [&book[..], &bytes(&mut rng, free)].concat();
@@ -285,7 +322,8 @@ fn an_addition_leaves_the_other_phrases() {
             .iter()
             .map(|&(listener, phrase)| find(&mut rng, lent, listener, phrase.number))
             .collect();
-        let (added, _, buffer) = add(&mut rng, lent, DISPATCH, u16::MAX, &cp1251("ду*б"));
+        let tried = add(&mut rng, lent, DISPATCH, u16::MAX, &cp1251("ду*б"));
+        let (added, buffer) = (tried.added, tried.buffer);
         let used = if added.number == 0 { added.used } else { used };
         let lent = Lent::new(&buffer, used);
         for ((listener, phrase), before) in asked.into_iter().zip(before) {
@@ -364,9 +402,12 @@ fn bytes_behind_the_book_do_not_matter() {
             let found = unit::book_find(listener, &book, used, phrase);
             let added = behind.each_ref().map(|buffer| {
                 assert_eq!(unit::book_find(listener, buffer, used, phrase), found);
-                unit::book_add(DISPATCH, &mut buffer.clone(), used, phrase, 7, &msg)
+                EDITIONS.map(|edition| {
+                    let buffer = &mut buffer.clone();
+                    unit::book_add(DISPATCH, edition, buffer, used, phrase, 7, &msg)
+                })
             });
-            assert_eq!(added, [added[0]; 3]);
+            assert_eq!(added, [[added[0][0]; 2]; 3]);
         }
     }
 }
@@ -383,7 +424,7 @@ fn nothing_outside_is_touched() {
             muddle(&mut rng, &mut buffer);
         }
         let msg = any_message(&mut rng);
-        let full = HEAD + tape(&msg, usize::MAX).map_or(0, |tape| tape.len());
+        let full = record_bytes(&msg);
         let used = buffer.len() + rng.pick(&[0, 0, 0, 5]);
         let free = rng.pick(&[0, 1, full - 1, full, full, full + 9]);
         buffer.extend(bytes(&mut rng, free));
@@ -398,10 +439,13 @@ fn nothing_outside_is_touched() {
         let placed = other_side(&mut messages, msg.len());
         placed.copy_from_slice(&msg);
         let phrase = rng.pick(&[u16::MAX, 65_000, 700]);
-        let listener = any_adder(&mut rng);
-        let addition = lent.addition(listener, phrase, any_set(&mut rng), &msg);
-        let tried = addition.in_place(placed, book);
-        tried.unwrap_or_else(|difference| panic!("{difference}"));
+        let (listener, set) = (any_adder(&mut rng), any_set(&mut rng));
+        for edition in EDITIONS {
+            book.copy_from_slice(&buffer);
+            let addition = lent.addition(listener, edition, phrase, set, &msg);
+            let tried = addition.in_place(placed, book);
+            tried.unwrap_or_else(|difference| panic!("{difference}"));
+        }
     }
 }
 
@@ -433,13 +477,13 @@ fn thousands_of_additions() {
         let (msg, set) = (message(&mut rng, length), any_set(&mut rng));
         let (phrase, copy) = (16 * index + rng.below(16) as u16, buffer.clone());
         let lent = Lent::new(&copy, used);
-        let addition = lent.addition(DISPATCH, phrase, set, &msg);
+        let edition = rng.pick(&EDITIONS);
+        let addition = lent.addition(DISPATCH, edition, phrase, set, &msg);
         let tried = addition.in_place(&msg, &mut buffer);
         let added = tried.unwrap_or_else(|difference| panic!("{difference}"));
         assert_eq!((added.number, added.place), (0, 0));
         used = added.used;
-        let tape = tape(&msg, usize::MAX).expect("an accepted message");
-        accepted.push(Phrase::new(phrase, set, &tape));
+        accepted.push(Phrase::new(phrase, set, &tape_of(edition, &msg)));
     }
     let book = laid(&accepted);
     assert_eq!(used, book.len());
@@ -477,7 +521,7 @@ fn every_number_in_one_book() {
         } else {
             assert_eq!((found.number, found.place), (17, 0), "{phrase}");
         }
-        let (added, ..) = add(&mut rng, Lent::whole(&book), DISPATCH, phrase, &cp1251("а"));
+        let Tried { added, .. } = add(&mut rng, Lent::whole(&book), DISPATCH, phrase, &cp1251("а"));
         assert_eq!((added.number, added.place), (16, book.len()));
     }
     // What is wrong with the last record is said in any lookup.
@@ -504,8 +548,11 @@ fn books_above_32_bits() {
     let answer = |found: Found| (found.number, found.place, found.start, found.length);
     let find = |buffer: &[u8], used, phrase| answer(unit::book_find(PUMP, buffer, used, phrase));
     let add = |buffer: &mut [u8], used, phrase| {
-        let added = unit::book_add(DISPATCH, buffer, used, phrase, 0xF1, &cp1251("а"));
-        (added.number, added.place, added.used)
+        let added = EDITIONS.map(|edition| {
+            unit::book_add(DISPATCH, edition, buffer, used, phrase, 0xF1, &cp1251("а"))
+        });
+        assert_eq!(added[0], added[1]);
+        (added[0].number, added[0].place, added[0].used)
     };
     assert_eq!(find(buffer, BOOK, 0), (0, 0, HEAD, 65_535));
     assert_eq!(find(buffer, BOOK, 65_534), (0, 0, LAST + HEAD, 65_535));

@@ -1,15 +1,17 @@
 //! Demand 3 by search: the tape of a whole message beside the tapes of its parts, for every list
 //! of cuts of every short message over small alphabets, and for random ones of long messages.
 
-use govorun_tests::agreed::{tape, PAIR};
+use govorun_tests::agreed::{live_places, tape, PAIR};
 use govorun_tests::gen::noise::every_string;
 use govorun_tests::gen::{every_list, good_cuts, message_of_any_length, Rng};
-use govorun_tests::joints::live_places;
 use govorun_tests::message::breaks;
 use govorun_tests::{cp1251, show};
 
-fn tape_of(msg: &[u8]) -> Vec<u8> {
-    tape(msg, usize::MAX).expect("an accepted message")
+/// The tapes of a message in both editions have at most two codes for a byte.
+fn not_too_long(msg: &[u8], wholes: &[Vec<u8>; 2]) {
+    for whole in wholes {
+        assert!(whole.len() <= 2 * msg.len(), "{}", show(msg));
+    }
 }
 
 /// How many messages were accepted, and how many of them had a live joint. A search that meets
@@ -23,13 +25,13 @@ struct Met {
 impl Met {
     /// Demand 3 for every list of cuts of one message, if it is accepted.
     fn try_every_list(&mut self, msg: &[u8]) {
-        let Ok(whole) = tape(msg, usize::MAX) else {
+        let Some(wholes) = PAIR.wholes(msg) else {
             return;
         };
-        assert!(whole.len() <= 2 * msg.len(), "{}", show(msg));
+        not_too_long(msg, &wholes);
         let live = live_places(msg);
         for cuts in every_list(msg) {
-            PAIR.holds(msg, &whole, &live, &cuts);
+            PAIR.holds(msg, &wholes, &live, &cuts);
         }
         self.accepted += 1;
         self.live += usize::from(!live.is_empty());
@@ -143,14 +145,14 @@ fn random_messages_with_random_lists() {
     let mut rng = Rng::for_test(3);
     for _ in 0..2000 {
         let msg = message_of_any_length(&mut rng);
-        let whole = tape_of(&msg);
-        assert!(whole.len() <= 2 * msg.len(), "{}", show(&msg));
+        let wholes = PAIR.wholes(&msg).expect("an accepted message");
+        not_too_long(&msg, &wholes);
         let live = live_places(&msg);
         for _ in 0..3 {
             let cuts = good_cuts(&mut rng, &msg);
-            PAIR.holds(&msg, &whole, &live, &cuts);
+            PAIR.holds(&msg, &wholes, &live, &cuts);
         }
-        PAIR.holds(&msg, &whole, &live, &breaks(&msg));
+        PAIR.holds(&msg, &wholes, &live, &breaks(&msg));
     }
 }
 
@@ -158,6 +160,6 @@ fn random_messages_with_random_lists() {
 fn the_longest_tape() {
     // Each bare я has two sounds; only the gaps have one code for their byte.
     let msg = cp1251(&[&"я".repeat(64)[..]; 63].join(" "));
-    let tape = tape_of(&msg);
+    let tape = tape(&msg, usize::MAX).expect("an accepted message");
     assert_eq!((msg.len(), tape.len()), (4094, 2 * 4094 - 62));
 }

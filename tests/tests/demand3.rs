@@ -1,26 +1,26 @@
 //! Demand 3 through the library alone: its joiner beside its transcriber, with no other
-//! implementation between them.
+//! implementation between them, in both editions.
 
 use govorun_tests::demand3::Pair;
 use govorun_tests::gen::noise::every_string;
 use govorun_tests::gen::{every_list, good_cuts, message, Rng};
 use govorun_tests::message::breaks;
-use govorun_tests::{cp1251, show, unit, Joined};
+use govorun_tests::{cp1251, show, unit, Edition, Joined, EDITIONS};
 
 const LIBRARY: Pair = Pair { tape, join };
 
 /// The library's tape of a message, unless it refuses it.
-fn tape(msg: &[u8]) -> Option<Vec<u8>> {
+fn tape(edition: Edition, msg: &[u8]) -> Option<Vec<u8>> {
     let mut out = vec![0xAA; 2 * msg.len()];
-    let answer = unit::transcribe(msg, &mut out);
+    let answer = unit::transcribe(edition, msg, &mut out);
     out.truncate(answer.length as usize);
     (answer.number == 0).then_some(out)
 }
 
 /// The library's second tape and its live count.
-fn join(msg: &[u8], cuts: &[usize]) -> Joined {
+fn join(edition: Edition, msg: &[u8], cuts: &[usize]) -> Joined {
     let mut out = vec![0x55; 2 * msg.len()];
-    let answer = unit::join(msg, cuts, &mut out);
+    let answer = unit::join(edition, msg, cuts, &mut out);
     assert_eq!(answer.number, 0, "{} cut at {cuts:?}", show(msg));
     out.truncate(answer.length as usize);
     Joined {
@@ -29,25 +29,29 @@ fn join(msg: &[u8], cuts: &[usize]) -> Joined {
     }
 }
 
-/// The places where a cut by itself is live. The list has no say in it, so the count of every
-/// other list must be made up of these.
+/// The places where a cut by itself is live. Neither the list nor the edition has a say in it, so
+/// the count of every other list must be made up of these.
 fn live_places(msg: &[u8]) -> Vec<usize> {
-    let is_live = |&place: &usize| join(msg, &[place]).live == 1;
-    breaks(msg).into_iter().filter(is_live).collect()
+    let [one, two] = EDITIONS.map(|edition| {
+        let is_live = |&place: &usize| join(edition, msg, &[place]).live == 1;
+        breaks(msg).into_iter().filter(is_live).collect::<Vec<_>>()
+    });
+    assert_eq!(one, two, "{}", show(msg));
+    one
 }
 
 /// The claim for one message, if it is accepted, and these lists; each cut by itself is a list
 /// too. Gives how many cuts are live.
 fn holds_for(msg: &[u8], lists: &[Vec<usize>]) -> usize {
-    let Some(whole) = tape(msg) else {
+    let Some(wholes) = LIBRARY.wholes(msg) else {
         return 0;
     };
     let live = live_places(msg);
     for &place in &live {
-        LIBRARY.holds(msg, &whole, &live, &[place]);
+        LIBRARY.holds(msg, &wholes, &live, &[place]);
     }
     for cuts in lists {
-        LIBRARY.holds(msg, &whole, &live, cuts);
+        LIBRARY.holds(msg, &wholes, &live, cuts);
     }
     live.len()
 }
@@ -99,10 +103,10 @@ fn as_many_words_as_a_message_holds() {
         let msg = cp1251(&words.join(" "));
         let all = breaks(&msg);
         let third: Vec<usize> = all.iter().copied().skip(1).step_by(3).collect();
-        let whole = tape(&msg).expect("an accepted message");
+        let wholes = LIBRARY.wholes(&msg).expect("an accepted message");
         let live = live_places(&msg);
         for cuts in [&all, &third, &vec![]] {
-            LIBRARY.holds(&msg, &whole, &live, cuts);
+            LIBRARY.holds(&msg, &wholes, &live, cuts);
         }
     }
 }

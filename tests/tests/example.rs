@@ -1,5 +1,6 @@
 //! The daemon in C: it builds without a warning, speaks each line, a level or else a text that is
-//! read and edited, and answers as expected, and touches no memory that is not its own.
+//! read and edited, in either edition, and answers as expected, and touches no memory that is not
+//! its own.
 
 use std::fs::File;
 use std::io::{BufRead, BufReader, Write};
@@ -19,12 +20,20 @@ use govorun_tests::gen::{damaged, message, message_of_any_length, punctuated, Rn
 use govorun_tests::input::{directory, impatient};
 use govorun_tests::spoken_levels::spoken_number;
 use govorun_tests::utf8::{read, written};
-use govorun_tests::{tape, write_utf8, Refusal};
+use govorun_tests::{tape, write_utf8, Edition, Refusal, EDITIONS};
 
 /// The daemon, built once for all tests here.
 fn daemon() -> &'static Path {
     static DAEMON: OnceLock<PathBuf> = OnceLock::new();
     DAEMON.get_or_init(|| build("daemon", env!("CARGO_TARGET_TMPDIR")))
+}
+
+/// The command, which runs the daemon by itself or under another program, in an edition.
+fn in_edition(mut command: Command, edition: Edition) -> Command {
+    if edition == Edition::Two {
+        command.arg("-2");
+    }
+    command
 }
 
 /// What a command prints for its input, and that it ends well.
@@ -82,26 +91,32 @@ fn understood(line: &[u8]) -> Result<Vec<u8>, Refusal> {
     spoken_number(line).unwrap_or_else(|| read(line).map(|read| edited(&read)))
 }
 
-/// What the daemon must print for a line: the message as it was understood and its codes, or a
-/// refusal.
-fn expected(line: &[u8]) -> String {
+/// What the daemon must print for a line in an edition: the message as it was understood and its
+/// codes, or a refusal.
+fn expected(edition: Edition, line: &[u8]) -> String {
     let msg = understood(line);
     let shown = msg.clone().and_then(|msg| write_utf8(&msg, usize::MAX));
-    let print = print_of(msg.and_then(|msg| tape(&msg, usize::MAX)));
+    let print = print_of(msg.and_then(|msg| tape(edition, &msg, usize::MAX)));
     match shown {
         Ok(shown) => format!("{}: {print}", String::from_utf8_lossy(&shown)),
         Err(_) => print,
     }
 }
 
-/// Hands the lines to a command and compares every line that it prints.
-fn answers_as_expected(command: &mut Command, lines: &[Vec<u8>]) {
+/// Hands the lines to the daemon, run so, in either edition and compares every line that it prints.
+fn answers_as_expected(run: impl Fn() -> Command, lines: &[Vec<u8>]) {
+    for edition in EDITIONS {
+        answers_in(edition, &mut in_edition(run(), edition), lines);
+    }
+}
+
+fn answers_in(edition: Edition, command: &mut Command, lines: &[Vec<u8>]) {
     let mut input = lines.join(&b'\n');
     input.push(b'\n');
     let printed = output(command, &input);
     assert_eq!(printed.lines().count(), lines.len());
     for (given, line) in printed.lines().zip(lines) {
-        assert_eq!(given, expected(line).trim_end());
+        assert_eq!(given, expected(edition, line).trim_end());
     }
 }
 
@@ -109,7 +124,7 @@ fn answers_as_expected(command: &mut Command, lines: &[Vec<u8>]) {
 fn daemon_answers_each_line() {
     let lines = lines();
     assert!(lines.len() >= 700);
-    answers_as_expected(&mut Command::new(daemon()), &lines);
+    answers_as_expected(|| Command::new(daemon()), &lines);
 }
 
 #[test]
@@ -120,6 +135,38 @@ fn daemon_shows_what_it_understood() {
     assert_eq!(run("Ду*б#ра*д\n"), spoken);
     assert_eq!(run("ду*б☃"), "refused 13 at 7\n");
     assert_eq!(run("- а, б*"), "refused 5 at 3\n");
+}
+
+#[test]
+fn daemon_speaks_in_the_edition_that_is_asked_for() {
+    let run = |arguments: &[&str], line: &str| {
+        output(Command::new(daemon()).args(arguments), line.as_bytes())
+    };
+    assert_eq!(
+        run(&[], "Весна*, часы*"),
+        "Весна*#часы*: 19 8 43 37 1 63 53 8 43 4\n"
+    );
+    let newer = "Весна*#часы*: 19 10 43 37 1 63 53 10 43 4\n";
+    assert_eq!(run(&["-2"], "Весна*, часы*"), newer);
+    assert_eq!(run(&[], "4"), "четы*ре: 53 8 45 4 42 13\n");
+    assert_eq!(run(&["-2"], "4"), "четы*ре: 53 10 45 4 42 13\n");
+}
+
+#[test]
+fn daemon_knows_no_other_arguments() {
+    for arguments in [
+        &[""][..],
+        &["-1"],
+        &["2"],
+        &["-22"],
+        &["-2", "-2"],
+        &["-2", ""],
+    ] {
+        let mut command = Command::new(daemon());
+        let (print, complaint) = failing(command.args(arguments), Stdio::null());
+        assert_eq!(print, "");
+        assert_eq!(complaint, "usage: daemon [-2]\n", "{arguments:?}");
+    }
 }
 
 #[test]
@@ -245,5 +292,5 @@ fn daemon_without_memory() {
 
 #[test]
 fn daemon_under_valgrind() {
-    answers_as_expected(&mut under_valgrind(daemon()), &lines());
+    answers_as_expected(|| under_valgrind(daemon()), &lines());
 }

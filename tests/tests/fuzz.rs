@@ -6,9 +6,9 @@ use std::env;
 use std::process::Command;
 
 use govorun_tests::book::record;
-use govorun_tests::cp1251;
 use govorun_tests::fuzz::book::Asked;
 use govorun_tests::fuzz::Input;
+use govorun_tests::{cp1251, Edition};
 
 #[test]
 fn the_search_finds_no_difference() {
@@ -42,6 +42,21 @@ fn cuts_that_are_written_out() {
     assert_eq!(made(&[3, 1, 5, 0, 0]), [1, 17, 5]);
     assert_eq!(made(&[7, 0, 1, 0, 0, 0xFF, 0xFF, 0]), [1, usize::MAX]);
     assert_eq!(made(&[3, 0, 3, 0, 32]), [(1 << 32) + 3]);
+}
+
+/// By one bit, whatever the cuts are.
+#[test]
+fn editions_by_the_first_byte() {
+    for how in 0..=u8::MAX {
+        let data = [how, 0xFF, 0xE0];
+        let edition = match how >> 4 & 1 {
+            0 => Edition::One,
+            _ => Edition::Two,
+        };
+        assert_eq!(Input::of(&data).edition, edition, "{how}");
+    }
+    assert_eq!(made(&[0x11, 0]), made(&[1, 0]));
+    assert_eq!(made(&[0x13, 1, 5, 0, 0]), made(&[3, 1, 5, 0, 0]));
 }
 
 #[test]
@@ -130,6 +145,7 @@ fn books_with_a_wrong_phrase() {
 #[test]
 fn short_inputs() {
     let nothing = Input {
+        edition: Edition::One,
         cuts: Vec::new(),
         msg: &[],
     };

@@ -2,16 +2,15 @@
 //! vowel after every letter that may stand before it, messages with as many glides as there can be,
 //! in outputs of just the right length, and cuts beside words with о after ь.
 
-use govorun_tests::agreed::{self, PAIR};
+use govorun_tests::agreed::{self, live_places, PAIR};
 use govorun_tests::codes::code;
 use govorun_tests::fence::{Fenced, Side, SIDES};
 use govorun_tests::gen::every_list;
 use govorun_tests::gen::noise::every_string;
-use govorun_tests::joints::live_places;
 use govorun_tests::message::breaks;
 use govorun_tests::trial::Operation::{Join, Name, Transcribe};
 use govorun_tests::trial::{Operation, Trial};
-use govorun_tests::{cp1251, show, spell, Counts, Refusal};
+use govorun_tests::{cp1251, show, spell, Counts, Refusal, EDITIONS};
 
 const VOWELS: &str = "аоуыэеёиюя";
 const CONSONANTS: &str = "бвгджзйклмнпрстфхцчшщ";
@@ -63,6 +62,13 @@ fn taped(text: &str) -> Vec<u8> {
     let counts = agreed::check(&msg).expect("an accepted message");
     assert_eq!([tape.len(), counts.codes], [codes(text); 2], "{text}");
     tape
+}
+
+/// The tapes of a text in both editions.
+fn both_taped(text: &str) -> [Vec<u8>; 2] {
+    let wholes = PAIR.wholes(&cp1251(text)).expect("an accepted message");
+    assert_eq!(wholes[0], taped(text));
+    wholes
 }
 
 /// What may stand before a vowel: nothing, any letter but a sign, a sign after any consonant.
@@ -148,7 +154,8 @@ fn refused_with_9(text: &str, place: usize) {
     let msg = cp1251(text);
     let refusal = Refusal::new(9, place);
     assert_eq!(agreed::check(&msg), Err(refusal), "{text}");
-    for operation in [Name, Transcribe, Join(&[])] {
+    let tapes = EDITIONS.map(|edition| [Transcribe(edition), Join(edition, &[])]);
+    for operation in [Name].into_iter().chain(tapes.into_iter().flatten()) {
         let (answer, out) = agreed::lent(operation, &msg, &[UNTOUCHED; 16]);
         assert_eq!(answer.refusal(), Some(refusal), "{text}");
         assert_eq!((answer.length, answer.live), (0, 0), "{text}");
@@ -312,10 +319,12 @@ fn as_many_as_a_message_holds() {
         assert_eq!(agreed::check(&msg), Ok(counts), "{}", full.text);
         let all = breaks(&msg);
         for mut at_fence in SIDES.map(AtFence::new) {
-            at_fence.answers(Transcribe, &msg, full.codes, 0);
             at_fence.answers(Name, &msg, full.names, 0);
-            at_fence.answers(Join(&[]), &msg, full.codes, 0);
-            at_fence.answers(Join(&all), &msg, full.codes, full.live);
+            for edition in EDITIONS {
+                at_fence.answers(Transcribe(edition), &msg, full.codes, 0);
+                at_fence.answers(Join(edition, &[]), &msg, full.codes, 0);
+                at_fence.answers(Join(edition, &all), &msg, full.codes, full.live);
+            }
         }
     }
 }
@@ -324,13 +333,13 @@ fn as_many_as_a_message_holds() {
 fn full_messages_cut_at_many_places() {
     for full in full_messages() {
         let msg = cp1251(&full.text);
-        let whole = taped(&full.text);
+        let wholes = both_taped(&full.text);
         let live = live_places(&msg);
         assert_eq!(live.len(), full.live, "{}", full.text);
         let all = breaks(&msg);
         let third = all.iter().copied().step_by(3).collect();
         for cuts in [all, third, vec![]] {
-            PAIR.holds(&msg, &whole, &live, &cuts);
+            PAIR.holds(&msg, &wholes, &live, &cuts);
         }
     }
 }
@@ -340,19 +349,27 @@ fn full_messages_cut_at_many_places() {
 /// many cuts are live.
 fn uncut_within_words(text: &str) -> usize {
     let msg = cp1251(text);
-    let whole = taped(text);
+    let wholes = both_taped(text);
     let live = live_places(&msg);
-    let is_mark = |index: usize| matches!(whole.get(index), Some(0 | 63));
     for cuts in every_list(&msg) {
-        PAIR.holds(&msg, &whole, &live, &cuts);
-        let second = (PAIR.join)(&msg, &cuts).tape;
-        for index in (0..whole.len()).filter(|&index| second[index] != whole[index]) {
-            let beside = is_mark(index + 1) || index > 0 && is_mark(index - 1);
-            let glide = second[index] == GLIDE || whole[index] == GLIDE;
-            assert!(beside && !glide, "{text} cut at {cuts:?}");
+        PAIR.holds(&msg, &wholes, &live, &cuts);
+        for (edition, whole) in EDITIONS.into_iter().zip(&wholes) {
+            let second = (PAIR.join)(edition, &msg, &cuts).tape;
+            let told = format!("{text} cut at {cuts:?} in edition {edition:?}");
+            differs_beside_marks(whole, &second, &told);
         }
     }
     live.len()
+}
+
+/// Two tapes of equal length differ in no glide, and only right beside a mark.
+fn differs_beside_marks(whole: &[u8], second: &[u8], told: &str) {
+    let is_mark = |index: usize| matches!(whole.get(index), Some(0 | 63));
+    for index in (0..whole.len()).filter(|&index| second[index] != whole[index]) {
+        let beside = is_mark(index + 1) || index > 0 && is_mark(index - 1);
+        let glide = second[index] == GLIDE || whole[index] == GLIDE;
+        assert!(beside && !glide, "{told}");
+    }
 }
 
 #[test]

@@ -13,7 +13,7 @@ use govorun_tests::gen::{
 use govorun_tests::message::breaks;
 use govorun_tests::trial::{self, Operation, Trial};
 use govorun_tests::unit::{self, DISPATCH, LISTENERS};
-use govorun_tests::{check, cp1251, hex};
+use govorun_tests::{check, cp1251, hex, EDITIONS};
 
 /// All operations on one message with one list of cuts.
 fn agrees(rng: &mut Rng, msg: &[u8], cuts: &[usize]) {
@@ -22,12 +22,14 @@ fn agrees(rng: &mut Rng, msg: &[u8], cuts: &[usize]) {
     }
 }
 
-/// The joiner alone, with outputs of the given lengths.
+/// The joiner alone in both editions, with outputs of the given lengths.
 fn joins(rng: &mut Rng, msg: &[u8], cuts: &[usize], caps: &[usize]) {
-    let trial = Trial::new(Operation::Join(cuts), msg);
-    for &cap in caps {
-        if let Err(difference) = trial.with_output(rng, cap) {
-            panic!("{difference}");
+    for edition in EDITIONS {
+        let trial = Trial::new(Operation::Join(edition, cuts), msg);
+        for &cap in caps {
+            if let Err(difference) = trial.with_output(rng, cap) {
+                panic!("{difference}");
+            }
         }
     }
 }
@@ -276,26 +278,29 @@ fn lengths_above_32_bits() {
     let long = memory.first(HUGE + 3);
     assert_eq!(unit::check(long).number, 2);
     let mut out = [9; 8];
-    for answer in [
-        unit::name(long, &mut out),
-        unit::transcribe(long, &mut out),
-        unit::join(long, &[1], &mut out),
-        unit::write_utf8(long, &mut out),
-    ] {
+    let mut answers = vec![unit::name(long, &mut out), unit::write_utf8(long, &mut out)];
+    for edition in EDITIONS {
+        answers.push(unit::transcribe(edition, long, &mut out));
+        answers.push(unit::join(edition, long, &[1], &mut out));
+        let added = unit::book_add(DISPATCH, edition, &mut out, 0, 0, 7, long);
+        assert_eq!((added.number, added.place, out), (2, 0, [9; 8]));
+    }
+    for answer in answers {
         assert_eq!((answer.number, answer.place, out), (2, 0, [9; 8]));
     }
-    let added = unit::book_add(DISPATCH, &mut out, 0, 0, 7, long);
-    assert_eq!((added.number, added.place, out), (2, 0, [9; 8]));
     let lent = memory.last(HUGE);
     assert_eq!(unit::name(&msg, lent).length, 2);
-    assert_eq!(unit::transcribe(&msg, lent).length, 3);
-    assert_eq!(unit::join(&msg, &[1], lent).length, 3);
     assert_eq!(unit::write_utf8(&msg, lent).length, 5);
     assert_eq!(unit::speak_level(-4_989, lent).length, 54);
-    assert_eq!(unit::book_add(DISPATCH, lent, 0, 0, 7, &msg).used, 10);
     let mut zeros = Fenced::new(HUGE * size_of::<usize>());
-    let answer = unit::join(&msg, as_places(zeros.whole()), &mut out);
-    assert_eq!((answer.number, answer.place, out), (12, 0, [9; 8]));
+    for edition in EDITIONS {
+        assert_eq!(unit::transcribe(edition, &msg, lent).length, 3);
+        assert_eq!(unit::join(edition, &msg, &[1], lent).length, 3);
+        let added = unit::book_add(DISPATCH, edition, lent, 0, 0, 7, &msg);
+        assert_eq!(added.used, 10);
+        let answer = unit::join(edition, &msg, as_places(zeros.whole()), &mut out);
+        assert_eq!((answer.number, answer.place, out), (12, 0, [9; 8]));
+    }
 }
 
 /// The names of the functions that a source declares on lines with this beginning.

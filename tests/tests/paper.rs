@@ -4,7 +4,7 @@
 use govorun_tests::agreed::{check, join, lent, names, print, tape};
 use govorun_tests::codes::NAMES;
 use govorun_tests::trial::Operation::{Join, Name, Transcribe};
-use govorun_tests::{cp1251, spell, Answer, Counts, Refusal};
+use govorun_tests::{cp1251, spell, Answer, Counts, Refusal, EDITIONS};
 
 fn sounds(text: &str) -> String {
     print(&cp1251(text));
@@ -373,25 +373,27 @@ fn answers_and_lent_output() {
     };
     let msg = cp1251("ду*б го*л");
     let taped = [24, 6, 16, 0, 20, 2, 33];
-    assert_eq!(
-        lent(Transcribe, &msg, &[9; 8]),
-        (answer(0, 0, 7, 0), [&taped[..], &[9]].concat())
-    );
-    assert_eq!(
-        lent(Transcribe, &msg, &[9; 6]),
-        (answer(11, 7, 0, 0), vec![9; 6])
-    );
+    for edition in EDITIONS {
+        assert_eq!(
+            lent(Transcribe(edition), &msg, &[9; 8]),
+            (answer(0, 0, 7, 0), [&taped[..], &[9]].concat())
+        );
+        assert_eq!(
+            lent(Transcribe(edition), &msg, &[9; 6]),
+            (answer(11, 7, 0, 0), vec![9; 6])
+        );
+        assert_eq!(
+            lent(Join(edition, &[4]), &msg, &[9; 7]),
+            (answer(0, 0, 7, 1), vec![24, 6, 39, 0, 20, 2, 33])
+        );
+        assert_eq!(
+            lent(Join(edition, &[3]), &msg, &[9; 7]),
+            (answer(12, 0, 0, 0), vec![9; 7])
+        );
+    }
     assert_eq!(
         lent(Name, &msg, &[9; 5]),
         (answer(0, 0, 4, 0), vec![1, 7, 1, 7, 9])
-    );
-    assert_eq!(
-        lent(Join(&[4]), &msg, &[9; 7]),
-        (answer(0, 0, 7, 1), vec![24, 6, 39, 0, 20, 2, 33])
-    );
-    assert_eq!(
-        lent(Join(&[3]), &msg, &[9; 7]),
-        (answer(12, 0, 0, 0), vec![9; 7])
     );
     assert_eq!(lent(Name, b"7", &[]), (answer(3, 0, 0, 0), Vec::new()));
 }

@@ -20,7 +20,7 @@ use govorun_tests::gen::noise::bytes;
 use govorun_tests::gen::utf8::untaken;
 use govorun_tests::gen::{damaged, message, message_of_any_length, punctuated, Rng};
 use govorun_tests::utf8::{read, written};
-use govorun_tests::{tape, Refusal};
+use govorun_tests::{tape, Edition, Refusal};
 
 const USAGE: &str = "usage: phrasebook PHRASES LISTENER NUMBER\n";
 
@@ -155,7 +155,7 @@ struct Book<'a> {
 
 impl<'a> Book<'a> {
     fn add(&mut self, line: Said<'a>) -> Result<(), Refusal> {
-        let tape = tape(&edited(&read(line.phrase)?), usize::MAX)?;
+        let tape = tape(Edition::One, &edited(&read(line.phrase)?), usize::MAX)?;
         let last = self.phrases.keys().next_back();
         if last.is_some_and(|&last| last >= line.number) {
             return Err(Refusal::new(16, self.used));

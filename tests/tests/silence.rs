@@ -12,7 +12,7 @@ use govorun_tests::gen::books::{
 use govorun_tests::gen::noise::bytes;
 use govorun_tests::gen::{message, Rng};
 use govorun_tests::unit::{self, Found, DISPATCH, LISTENERS, PUMP, ROAD};
-use govorun_tests::{cp1251, tape};
+use govorun_tests::{cp1251, tape, Edition, EDITIONS};
 
 /// All that a lookup hands back. Where in the book the tape stands is not handed on.
 #[derive(Clone, Debug, PartialEq, Eq, PartialOrd, Ord)]
@@ -336,7 +336,7 @@ fn additions_for_others_change_no_answer() {
         asked.extend([phrase, phrase - 1, phrase.wrapping_add(1)]);
         let before = answers(&mut rng, lent, listener, &asked);
         let msg = cp1251(rng.pick(&["ду*б", "са*д к до*му", "а", "а#"]));
-        let addition = lent.addition(DISPATCH, phrase, set, &msg);
+        let addition = lent.addition(DISPATCH, rng.pick(&EDITIONS), phrase, set, &msg);
         let tried = addition.among_others(&mut rng);
         let (added, after) = tried.unwrap_or_else(|difference| panic!("{difference}"));
         let used = if added.number == 0 {
@@ -370,10 +370,16 @@ fn messages(rng: &mut Rng) -> Vec<Phrase> {
     messages
 }
 
+/// The edition in which the phrase with a number is added: even ones in edition 1, odd ones in 2.
+fn edition_of(number: u16) -> Edition {
+    EDITIONS[usize::from(number % 2)]
+}
+
 /// The phrases that are in the book once these messages are.
 fn taped(messages: &[Phrase]) -> Vec<Phrase> {
     let taped = |said: &Phrase| {
-        let tape = tape(&said.tape, usize::MAX).expect("an accepted message");
+        let tape = tape(edition_of(said.number), &said.tape, usize::MAX);
+        let tape = tape.expect("an accepted message");
         Phrase::new(said.number, said.set, &tape)
     };
     messages.iter().map(taped).collect()
@@ -386,7 +392,8 @@ fn added(rng: &mut Rng, messages: &[Phrase]) -> (Vec<u8>, usize) {
     let (mut buffer, mut used) = (bytes(rng, room), 0);
     let mut add = |rng: &mut Rng, listener: u32, said: &Phrase| {
         let lent = Lent::new(&buffer, used);
-        let addition = lent.addition(listener, said.number, said.set, &said.tape);
+        let edition = edition_of(said.number);
+        let addition = lent.addition(listener, edition, said.number, said.set, &said.tape);
         let tried = addition.among_others(rng);
         let (added, after) = tried.unwrap_or_else(|difference| panic!("{difference}"));
         match listener {

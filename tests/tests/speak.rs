@@ -14,7 +14,7 @@ use std::sync::OnceLock;
 use govorun_tests::codes::{GAP, NAMES, PAUSE};
 use govorun_tests::gen::lexicon;
 use govorun_tests::program::{NO_NUMBER, TOO_LONG};
-use govorun_tests::{cp1251, edit, expected_level, expected_speech, speak_level, tape};
+use govorun_tests::{cp1251, edit, expected_level, expected_speech, speak_level, tape, Edition};
 
 /// The status, and what went to standard output and to standard error.
 type Run = (Option<i32>, String, String);
@@ -147,7 +147,7 @@ fn sounds(text: &str) -> String {
 }
 
 fn sounds_of(msg: &[u8]) -> String {
-    let tape = tape(msg, usize::MAX).expect("an accepted message");
+    let tape = tape(Edition::One, msg, usize::MAX).expect("an accepted message");
     let line = |&code: &u8| match code {
         GAP => "0 gap\n".to_string(),
         PAUSE => "63 pause\n".to_string(),

@@ -5,11 +5,10 @@ use std::collections::BTreeSet;
 use std::ops::RangeInclusive;
 
 use govorun_tests::agreed::{
-    check, edit, lent, names, read_utf8, speak_level, tape, write_utf8, PAIR,
+    check, edit, lent, live_places, names, read_utf8, speak_level, tape, write_utf8, PAIR,
 };
 use govorun_tests::fence::{Fenced, SIDES};
 use govorun_tests::gen::{every_list, Rng};
-use govorun_tests::joints::live_places;
 use govorun_tests::spoken_levels::LONGEST;
 use govorun_tests::trial::{self, Operation, Trial};
 use govorun_tests::{cp1251, spell, Answer, Refusal};
@@ -345,11 +344,11 @@ fn live_by_letters(text: &str) -> Vec<usize> {
 fn cuts_between_the_words() {
     for level in RANGE {
         let words = words(level);
-        let whole = tape(&words, usize::MAX).expect("an accepted message");
+        let wholes = PAIR.wholes(&words).expect("an accepted message");
         let live = live_by_letters(&text(level));
         assert_eq!(live_places(&words), live, "{level}");
         for cuts in every_list(&words) {
-            PAIR.holds(&words, &whole, &live, &cuts);
+            PAIR.holds(&words, &wholes, &live, &cuts);
         }
     }
 }

@@ -12,9 +12,9 @@ use govorun_tests::gen::utf8::{taken, untaken};
 use govorun_tests::gen::{damaged, extreme_messages, noise, punctuated, Rng};
 use govorun_tests::message::breaks;
 use govorun_tests::spoken_levels::LONGEST;
-use govorun_tests::unit::{raw, Added, Found, Text, DISPATCH, PUMP, ROAD};
+use govorun_tests::unit::{newer, raw, Added, Found, Text, DISPATCH, PUMP, ROAD};
 use govorun_tests::utf8::written;
-use govorun_tests::{check, speak_level, Refusal};
+use govorun_tests::{check, speak_level, Edition, Refusal, EDITIONS};
 
 /// The most that a call may take, in bytes, its return address with it, as the header says it.
 fn bound() -> usize {
@@ -25,8 +25,18 @@ fn bound() -> usize {
     number.replace(',', "").parse().expect("a number of bytes")
 }
 
-/// How many bytes a caller puts on the stack: three arguments, and what keeps the stack aligned.
+/// How many bytes a caller puts on the stack: four arguments, which keep the stack aligned.
 const ABOVE: usize = 32;
+
+/// What the upper half of a register may hold where an argument takes the lower: of that nothing is
+/// said.
+const UPPER: usize = 0x5A5A_5A5A << 32;
+
+/// What stands in the place for an answer before the call.
+const NO_ANSWER: Refusal = Refusal {
+    number: u8::MAX,
+    place: usize::MAX,
+};
 
 /// A painted stack.
 struct Stack {
@@ -44,14 +54,14 @@ impl Stack {
     /// Calls a function of the C interface with these arguments and gives the number of its answer
     /// and how many bytes of stack it touched.
     fn call(&mut self, function: *const (), arguments: &[usize]) -> (u32, usize) {
-        let mut nine = [0; 9];
-        nine[..arguments.len()].copy_from_slice(arguments);
-        let [six @ .., seventh, eighth, ninth] = nine;
+        let mut ten = [0; 10];
+        ten[..arguments.len()].copy_from_slice(arguments);
+        let [six @ .., seventh, eighth, ninth, tenth] = ten;
         let whole = self.memory.whole();
         whole.copy_from_slice(&self.paint);
         let (stack, above) = whole.split_at_mut(whole.len() - ABOVE);
-        let others = [seventh, eighth, ninth].map(usize::to_ne_bytes);
-        above[..size_of_val(&others)].copy_from_slice(others.as_flattened());
+        let others = [seventh, eighth, ninth, tenth].map(usize::to_ne_bytes);
+        above.copy_from_slice(others.as_flattened());
         let top = stack.as_mut_ptr_range().end;
         // SAFETY: the stack is ours, and the caller hands the arguments that the function takes.
         let number = unsafe { call_on(top, function, six) };
@@ -66,7 +76,7 @@ impl Stack {
     }
 }
 
-/// Calls a function of up to nine whole numbers on another stack, above which the last three stand.
+/// Calls a function of up to ten whole numbers on another stack, above which the last four stand.
 /// All answers of the interface but editor's, reader's and the book's come back in two registers,
 /// the number in the lower half of the first.
 ///
@@ -126,14 +136,20 @@ impl Deepest {
             number
         };
         let writes = [msg, len, out, cap];
-        let joins = [msg, len, cuts, n, out, cap];
         let number = deepest(&mut self.check, raw::govorun_check as _, &[msg, len]);
-        let others = [
+        let mut others = vec![
             deepest(&mut self.write_utf8, raw::govorun_write_utf8 as _, &writes),
             deepest(&mut self.name, raw::govorun_name as _, &writes),
-            deepest(&mut self.transcribe, raw::govorun_transcribe as _, &writes),
-            deepest(&mut self.join, raw::govorun_join as _, &joins),
         ];
+        for edition in EDITIONS {
+            let newer = usize::from(newer(edition)) | UPPER;
+            let tapes = [newer, msg, len, out, cap];
+            let joins = [newer, msg, len, cuts, n, out, cap];
+            others.extend([
+                deepest(&mut self.transcribe, raw::govorun_transcribe as _, &tapes),
+                deepest(&mut self.join, raw::govorun_join as _, &joins),
+            ]);
+        }
         // A call that went wrong would measure nothing.
         let may_be_short = cap < 2 * len;
         let right = |&other: &u32| other == number || (number == 0 && may_be_short && other == 11);
@@ -168,8 +184,7 @@ impl Deepest {
         }
     }
 
-    /// Calls lookup and addition. The place for an answer is the first argument, as for a text;
-    /// listener, number and set take the lower halves of theirs, and nothing is said of the upper.
+    /// Calls lookup and addition, which in both editions.
     fn measure_book(
         &mut self,
         stack: &mut Stack,
@@ -178,32 +193,61 @@ impl Deepest {
         phrase: u16,
         msg: &[u8],
     ) {
-        const UPPER: usize = 0x5A5A_5A5A << 32;
+        self.measure_find(stack, lent, listener, phrase);
+        for edition in EDITIONS {
+            self.measure_add(stack, lent, listener, edition, phrase, msg);
+        }
+    }
+
+    /// Calls the lookup. The place for its answer is the first argument, as for a text.
+    fn measure_find(&mut self, stack: &mut Stack, lent: Lent, listener: u32, phrase: u16) {
+        let mut found = Found::from(Err(NO_ANSWER));
+        let arguments = [
+            &raw mut found as usize,
+            listener as usize | UPPER,
+            lent.buffer.as_ptr() as usize,
+            lent.buffer.len(),
+            lent.used,
+            usize::from(phrase) | UPPER,
+        ];
+        let (_, touched) = stack.call(raw::govorun_book_find as _, &arguments);
+        self.book_find = touched.max(self.book_find);
+        let by = Listener::of(listener);
+        let expected = book::find(by, lent.buffer, lent.used, phrase);
+        assert_eq!(found, expected.into());
+    }
+
+    /// Calls the addition. The place for its answer is the first argument, too.
+    fn measure_add(
+        &mut self,
+        stack: &mut Stack,
+        lent: Lent,
+        listener: u32,
+        edition: Edition,
+        phrase: u16,
+        msg: &[u8],
+    ) {
         const SET: u8 = 0b1010_0101;
         let mut buffer = lent.buffer.to_vec();
-        let no_answer = Refusal::new(u8::MAX, usize::MAX);
-        let (mut found, mut added) = (Found::from(Err(no_answer)), Added::from(Err(no_answer)));
-        let book = [
+        let mut added = Added::from(Err(NO_ANSWER));
+        let arguments = [
+            &raw mut added as usize,
             listener as usize | UPPER,
+            usize::from(newer(edition)) | UPPER,
             buffer.as_mut_ptr() as usize,
             buffer.len(),
             lent.used,
             usize::from(phrase) | UPPER,
+            usize::from(SET) | UPPER,
+            msg.as_ptr() as usize,
+            msg.len(),
         ];
-        let message = [usize::from(SET) | UPPER, msg.as_ptr() as usize, msg.len()];
-        let arguments = [&[&raw mut found as usize][..], &book].concat();
-        let (_, touched) = stack.call(raw::govorun_book_find as _, &arguments);
-        self.book_find = touched.max(self.book_find);
-        let arguments = [&[&raw mut added as usize][..], &book, &message].concat();
         let (_, touched) = stack.call(raw::govorun_book_add as _, &arguments);
         self.book_add = touched.max(self.book_add);
         let (by, used) = (Listener::of(listener), lent.used);
         let mut after = lent.buffer.to_vec();
-        assert_eq!(found, book::find(by, lent.buffer, used, phrase).into());
-        assert_eq!(
-            added,
-            book::add(by, &mut after, used, phrase, SET, msg).into()
-        );
+        let expected = book::add(by, edition, &mut after, used, phrase, SET, msg);
+        assert_eq!(added, expected.into());
         assert_eq!(buffer, after);
     }
 

@@ -6,10 +6,10 @@
 use std::collections::BTreeSet;
 use std::fs;
 
-use govorun_tests::agreed::{book_add, join, names, speak_level, tape};
+use govorun_tests::agreed::{book_add, join, names, speak_level, tape, tape_in};
 use govorun_tests::codes::NAMES;
 use govorun_tests::unit::DISPATCH;
-use govorun_tests::{cp1251, spell};
+use govorun_tests::{cp1251, spell, EDITIONS};
 
 /// The text of a file of the repository.
 fn file(path: &str) -> String {
@@ -76,6 +76,22 @@ fn every_worked_word_has_its_tape_and_its_live_cuts() {
         let joined = joined.expect("an accepted message");
         assert_eq!(spell(&joined.tape), row[2], "{row:?}");
         assert_eq!(vec![joined.live], numbers(&row[3]), "{row:?}");
+    }
+}
+
+#[test]
+fn every_word_has_its_tapes_in_both_editions() {
+    let rows = rows("SPECIFICATION.md", "| message | edition 1 | edition 2 |");
+    assert_eq!(rows.len(), 9);
+    for row in rows {
+        let msg = cp1251(&row[0]);
+        let [one, two] = EDITIONS.map(|edition| {
+            let tape = tape_in(edition, &msg, usize::MAX);
+            spell(&tape.expect("an accepted message"))
+        });
+        assert_eq!(one, row[1], "{row:?}");
+        let same = row[2] == "the same";
+        assert_eq!(&two, if same { &row[1] } else { &row[2] }, "{row:?}");
     }
 }
 

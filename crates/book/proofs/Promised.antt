@@ -8,7 +8,8 @@ use Rattle.spec.specs.Answers.{afterCheck, outputAfter}
 use Rattle.spec.specs.{declared.Listener.the-variants.Dispatch, Refusals.refusal, Refusals.checkOf, declared.Refusal.Refusal}
 use Rattle.spec.specs.{declared.Counts.Counts, declared.Checked.the-variants.Accepted, declared.Answer.Answer}
 use Rattle.spec.specs.{declared.Answer.the-variants.Written, declared.Answer.the-variants.Refused}
-use Rattle.laws.proofs.{Classes.either, Accepted.accepted-counts, Book.record-size, Promises.promised, Promises.promised-short}
+use Rattle.laws.proofs.{Classes.either, Accepted.accepted-counts, Editions.tape-length, Book.record-size, Promises.promised}
+use Rattle.laws.proofs.{Promises.promised-short}
 use Rattle.laws.proofs.Promises.{promised-written}
 use Rattle.laws.specs.Putting.{Put}
 use Rattle.records.specs.Walking.{EndOf}
@@ -45,7 +46,7 @@ module _ (buffer : List ℕ) (used : ℕ) (x : NewPhrase) {counts : Counts} (acc
     unfolding withAddition
     total =
         let f = phraseOf bookStorage x in
-        let n = accepted-counts (x .message) counts accepted .0 in
+        let n = accepted-counts (x .message) counts accepted .0 ∙ sym (tape-length (x .edition) (x .message)) in
         let e = length-take-le bookEnd buffer (ends .inside) in
         omega (arith, length-append book (recordOf bookStorage f), record-size bookStorage f, n, ap length (ends .book), e)
 
@@ -60,7 +61,7 @@ module _ (buffer : List ℕ) (used : ℕ) (x : NewPhrase) {counts : Counts} (acc
     unfolding addAnswer afterListener afterCheck withAddition
     add-written {buffer′} {k} h p =
         let f = phraseOf bookStorage x in
-        let n = accepted-counts (x .message) counts accepted .0 in
+        let n = accepted-counts (x .message) counts accepted .0 ∙ sym (tape-length (x .edition) (x .message)) in
         let same : k ≡ bookEnd + headSize + counts .codes = omega (arith, p .place, record-size bookStorage f, n) in
         rw (accepted, of-book _, opens)
         (promised-written (same ∙ total) 0 (omega (arith, same, h))

@@ -9,7 +9,7 @@ use lib.Dec.{leb}
 use lib.ListN.{length, drop}
 use Rattle.spec.specs.Book.{headSize, setIn, lengthIn}
 use Rattle.spec.specs.Listeners.{mayHear, withheld}
-use Rattle.spec.specs.Tape.{tape}
+use Rattle.spec.specs.Tape.{sounds}
 use Rattle.spec.specs.Refusals.{checkOf}
 use Rattle.spec.specs.declared.Counts.{Counts}
 use Rattle.spec.specs.declared.Checked.the-variants.{Accepted}
@@ -28,11 +28,12 @@ toldAt l book i =
     (cond (mayHear l (setIn (drop i book))) (located.At (i + headSize) (lengthIn (drop i book)))
     (located.Refused withheld))
 
--- a record may be written at place i, for number n, with the tape of an accepted message
+-- a record may be written at place i, for number n, with the tape of an accepted message, which has
+-- this size
 pub record RecordDue (m out : List ℕ) (i n size : ℕ) : Type 0 where
   pub counts : Counts
   pub accepted : checkOf m ≡ Accepted counts
-  pub codes : size ≡ length (tape m)
+  pub codes : size ≡ length (sounds m)
   pub few : size < 65536
   pub number : n < 65536
   pub room : i + headSize + size ≤ length out

@@ -1,4 +1,4 @@
-// Additions (paper 02, requests 6 and 7).
+// Additions (paper 02, requests 6 to 8).
 ghost use mathlib.Core.Path.{_≡_};
 ghost use lib.ListN.{length};
 ghost use Rattle.spec.specs.Book.{bookStorage, readBook, afterBook, phraseOf, recordOf, AddPromise};
@@ -13,6 +13,7 @@ use records::reading::book_end;
 use records::reading::walk;
 use spec::Answer;
 use spec::Checked;
+use spec::Edition;
 use spec::Listener;
 use spec::Refusal;
 use spec::numbers;
@@ -41,23 +42,47 @@ fn judge(book: &[u8], number: usize) -> Answer
 
 // Writes the record of an accepted message, whose tape has n codes, from place i on, and tells
 // where it ends. The tape is put straight to its place, right before that end.
-fn write_record(m: &[u8], out: &mut [u8], i: usize, number: usize, set: u8, n: usize) -> usize
+fn write_record(
+    edition: Edition,
+    m: &[u8],
+    out: &mut [u8],
+    i: usize,
+    number: usize,
+    set: u8,
+    n: usize,
+) -> usize
     requires { ⌜ RecordDue (now m) (now out) i number n ⌝ }
-    ensures { λ r. ⌜ Put (recordOf bookStorage (phraseOf bookStorage
-        (record { number = number; set = set; message = now (m .entry) })))
+    ensures { λ r. ⌜ Put (recordOf bookStorage (phraseOf bookStorage (record {
+      edition = edition;
+      number = number;
+      set = set;
+      message = now (m .entry);
+    })))
         (now (out .entry)) (now (out .exit)) r i ⌝ }
 {
     let end = put_head(out, i, number, set, n) + n;
     let tables = lay_tables();
-    write_tape(m, out, end, &tables.bytes, &tables.sounds);
+    write_tape(edition, m, out, end, &tables.bytes, &tables.sounds);
     end
 }
 
 // Dispatch's addition: puts the record behind the book and answers the new used count, or refuses
 // and leaves every byte.
-fn append(buffer: &mut [u8], used: usize, number: u16, set: u8, m: &[u8]) -> Answer
-    ensures { λ r. ⌜ AddPromise bookStorage Listener.Dispatch (now (buffer .entry)) used
-        (record { number = number; set = set; message = now (m .entry) }) (now (buffer .exit)) r ⌝ }
+fn append(
+    edition: Edition,
+    buffer: &mut [u8],
+    used: usize,
+    number: u16,
+    set: u8,
+    m: &[u8],
+) -> Answer
+    ensures { λ r. ⌜ AddPromise bookStorage Listener.Dispatch (now (buffer .entry)) used (record {
+      edition = edition;
+      number = number;
+      set = set;
+      message = now (m .entry);
+    })
+        (now (buffer .exit)) r ⌝ }
 {
     let checked = check(m);
     let Checked::Accepted(counts) = checked else {
@@ -76,26 +101,33 @@ fn append(buffer: &mut [u8], used: usize, number: u16, set: u8, m: &[u8]) -> Ans
             place: total,
         });
     }
-    let length = write_record(m, buffer, end, number as usize, set, n);
+    let length = write_record(edition, m, buffer, end, number as usize, set, n);
     Answer::Written { length, live: 0 }
 }
 
-// The writer: adds the tape of a message, under a number and for a set of listeners, at the end of
-// the book. That is for dispatch alone; anyone else is turned away before all other checks.
+// The writer: adds the tape of a message, in an edition, under a number and for a set of listeners,
+// at the end of the book. That is for dispatch alone; anyone else is turned away before all other
+// checks.
 pub fn add(
     listener: Listener,
+    edition: Edition,
     buffer: &mut [u8],
     used: usize,
     number: u16,
     set: u8,
     m: &[u8],
 ) -> Answer
-    ensures { λ r. ⌜ AddPromise bookStorage listener (now (buffer .entry)) used
-        (record { number = number; set = set; message = now (m .entry) }) (now (buffer .exit)) r ⌝ }
+    ensures { λ r. ⌜ AddPromise bookStorage listener (now (buffer .entry)) used (record {
+      edition = edition;
+      number = number;
+      set = set;
+      message = now (m .entry);
+    })
+        (now (buffer .exit)) r ⌝ }
 {
     match listener {
         Listener::Pump => Answer::Refused(not_for_listener()),
         Listener::Road => Answer::Refused(not_for_listener()),
-        Listener::Dispatch => append(buffer, used, number, set, m),
+        Listener::Dispatch => append(edition, buffer, used, number, set, m),
     }
 }

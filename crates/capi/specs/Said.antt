@@ -13,6 +13,8 @@ use Rattle.spec.specs.Listeners.{withheld}
 use Rattle.spec.specs.Book.{Phrase, bookStorage, readBook, bookIn, unheard, LocatePromise}
 use Rattle.spec.specs.Book.{NewPhrase, phraseOf, AddPromise}
 use Rattle.spec.specs.BookDemands.{HoldsLocated, BothSound, AgreeFor}
+use Rattle.spec.specs.declared.Edition.{Edition}
+use Rattle.spec.specs.declared.Edition.the-variants.{One, Two}
 use Rattle.spec.specs.declared.Listener.the-variants.{Pump, Road, Dispatch}
 use Rattle.spec.specs.declared.Answer.{Answer}
 use Rattle.spec.specs.declared.Answer.the-variants as answer
@@ -81,6 +83,10 @@ pub record SaidFound (a : Located) (r : GovorunFound) : Type 0 where
   pub found : r .found ≡ isFound a
   pub start : r .start ≡ startFound a
   pub length : r .length ≡ lengthFound a
+
+-- the edition that a call names: the newer, edition 2, or edition 1
+abbrev pub edition : Bool → Edition
+edition newer = cond newer Two One
 
 -- whom a number names: 0 pump crews, 1 road crews, 2 dispatch, and any other number someone who is
 -- no listener

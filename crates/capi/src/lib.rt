@@ -8,8 +8,8 @@ ghost use Rattle.spec.specs.Utf8.{ReadPromise, WritePromise};
 ghost use Rattle.spec.specs.SpokenLevels.{LevelPromise};
 ghost use mathlib.Core.Path.{_≡_};
 ghost use Rattle.laws.specs.Bounds.{Small, SmallCheck};
-ghost use Rattle.capi.specs.Said.{Said, Counted, Told, SaidAdded, SaidFound, named, FindsFor};
-ghost use Rattle.capi.specs.Said.{AddsFor};
+ghost use Rattle.capi.specs.Said.{Said, Counted, Told, SaidAdded, SaidFound};
+ghost use Rattle.capi.specs.Said.{edition, named, FindsFor, AddsFor};
 use book::adding::add;
 use book::lookup::locate;
 use book::lookup::refuse;
@@ -21,6 +21,7 @@ use naming::name;
 use records::listeners::not_for_listener;
 use spec::Answer;
 use spec::Checked;
+use spec::Edition;
 use spec::Listener;
 use spec::Located;
 use transcriber::tape::transcribe;
@@ -122,18 +123,35 @@ pub extern "C" fn govorun_name(m: &[u8], out: &mut [u8]) -> GovorunAnswer
     say(name(m, out))
 }
 
-#[no_mangle]
-pub extern "C" fn govorun_transcribe(m: &[u8], out: &mut [u8]) -> GovorunAnswer
-    ensures { λ r. ⌜ Carried (TranscribePromise (now (m .entry)) (now (out .entry)) (now (out .exit))) Said r ⌝ }
+// The edition that a caller in C names.
+fn edition_of(newer: bool) -> Edition
+    ensures { λ r. ⌜ r ≡ edition newer ⌝ }
 {
-    say(transcribe(m, out))
+    if newer {
+        return Edition::Two;
+    }
+    Edition::One
 }
 
 #[no_mangle]
-pub extern "C" fn govorun_join(m: &[u8], cuts: &[usize], out: &mut [u8]) -> GovorunAnswer
-    ensures { λ r. ⌜ Carried (JoinPromise (now (m .entry)) (now (cuts .entry)) (now (out .entry)) (now (out .exit))) Said r ⌝ }
+pub extern "C" fn govorun_transcribe(newer: bool, m: &[u8], out: &mut [u8]) -> GovorunAnswer
+    ensures { λ r. ⌜ Carried (TranscribePromise (edition newer) (now (m .entry))
+        (now (out .entry)) (now (out .exit))) Said r ⌝ }
 {
-    say(join(m, cuts, out))
+    say(transcribe(edition_of(newer), m, out))
+}
+
+#[no_mangle]
+pub extern "C" fn govorun_join(
+    newer: bool,
+    m: &[u8],
+    cuts: &[usize],
+    out: &mut [u8],
+) -> GovorunAnswer
+    ensures { λ r. ⌜ Carried (JoinPromise (edition newer) (now (m .entry)) (now (cuts .entry))
+        (now (out .entry)) (now (out .exit))) Said r ⌝ }
+{
+    say(join(edition_of(newer), m, cuts, out))
 }
 
 #[no_mangle]
@@ -215,18 +233,23 @@ fn named_by(number: u32) -> Named
 #[no_mangle]
 pub extern "C" fn govorun_book_add(
     listener: u32,
+    newer: bool,
     book: &mut [u8],
     used: usize,
     phrase: u16,
     set: u8,
     m: &[u8],
 ) -> GovorunAdded
-    ensures { λ r. ⌜ Carried (AddsFor (named listener) (now (book .entry)) used
-        (record { number = phrase; set = set; message = now (m .entry) }) (now (book .exit)))
-        SaidAdded r ⌝ }
+    ensures { λ r. ⌜ Carried (AddsFor (named listener) (now (book .entry)) used (record {
+      edition = edition newer;
+      number = phrase;
+      set = set;
+      message = now (m .entry);
+    })
+        (now (book .exit))) SaidAdded r ⌝ }
 {
     match named_by(listener) {
-        Named::Known(l) => tell_added(add(l, book, used, phrase, set, m)),
+        Named::Known(l) => tell_added(add(l, edition_of(newer), book, used, phrase, set, m)),
         Named::Other => tell_added(Answer::Refused(not_for_listener())),
     }
 }

@@ -3,6 +3,7 @@ use Rattle.laws.proofs.Kit.{ℕ, zero, suc, _+_, _-_, _*_, _/_, _%_, _^_, _<_, 
 use Rattle.spec.specs.Printed.{lastDigits, decimal, printedCodes, printedAnswer}
 use Rattle.spec.specs.Answers.{numberOf, placeOf, lengthOf, outputAfter, tapeAnswer, Promise}
 use Rattle.spec.specs.{Tables.ascii, Tape.tape, Demands.CarriedOut, declared.Refusal.Refusal, declared.Answer.Answer, declared.Answer.the-variants.Written, declared.Answer.the-variants.Refused}
+use Rattle.spec.specs.declared.Edition.the-variants.{One}
 use Rattle.laws.proofs.{Bounds.tape-small, Classes.below-or}
 use Rattle.console.specs.Putting.{Appended, codeAt}
 use native.Mathlib.Nat.{pow-suc}
@@ -86,27 +87,32 @@ unfolding printedAnswer ascii
 refusal-length r codes = simp length-append (omega arith)
 
 -- What the transcriber answered, lent as many codes as any tape has: a refusal, which is short,
-pub answer-refused : (m : List ℕ) (r : Refusal) → Refused r ≡ tapeAnswer m 8192
-    → (printedAnswer (tapeAnswer m 8192) (tape m) ≡ printedAnswer (Refused r) []) × (length (printedAnswer (Refused r) []) ≤ 20)
+pub answer-refused : (m : List ℕ) (r : Refusal) → Refused r ≡ tapeAnswer One m 8192
+    → (printedAnswer (tapeAnswer One m 8192) (tape One m) ≡ printedAnswer (Refused r) []) × (length (printedAnswer (Refused r) []) ≤ 20)
 unfolding printedAnswer numberOf placeOf
 answer-refused m r e =
-    let b = rw (sym e) at (tape-small m 8192) in
+    let b = rw (sym e) at (tape-small m One 8192) in
     (rw (sym e), omega (arith, refusal-length r [], decimal-size 3 (r .number) (omega (arith, b .number)), decimal-size 3 (r .place) (omega (arith, b .place))))
 
 -- or the tape: n codes that lie within the output, and their text is the answer's
 pub record Spoken (m codes : List ℕ) (n : ℕ) : Type 0 where
   pub short : n ≤ 8192
   pub size : length (take n codes) ≡ n
-  pub text : printedAnswer (tapeAnswer m 8192) (tape m) ≡ printedCodes (take n codes)
+  pub text : printedAnswer (tapeAnswer One m 8192) (tape One m) ≡ printedCodes (take n codes)
 
-pub answer-written : (m : List ℕ) {codes codes′ : List ℕ} {a : Answer} {n k : ℕ} → length codes ≡ 8192 → Promise (tapeAnswer m 8192) (tape m) codes codes′ a → a ≡ Written n k → length codes′ ≡ length codes → Spoken m codes′ n
+pub answer-written : (m : List ℕ) {codes codes′ : List ℕ} {a : Answer} {n k : ℕ} → length codes ≡ 8192
+    → Promise (tapeAnswer One m 8192) (tape One m) codes codes′ a → a ≡ Written n k → length codes′ ≡ length codes → Spoken m codes′ n
 unfolding printedAnswer outputAfter lengthOf
 answer-written m {codes} {n = n} full p e same =
-    let d : Written n _ ≡ tapeAnswer m 8192 = sym e ∙ p .answer in
+    let d : Written n _ ≡ tapeAnswer One m 8192 = sym e ∙ p .answer in
     let w = rw (sym d) at (p .output) in
-    let l : length (tape m) ≡ n = omega (arith, (rw (sym d) at (tape-small m 8192)) .length, simp (length-append, length-drop) at (ap length w)) in
-    let t = take-at (tape m) (drop n codes) n l in
-    record { short = (rw (sym d) at (tape-small m 8192)) .length; size = rw (w, t) l; text = rw (sym d, w, t) }
+    let l : length (tape One m) ≡ n = omega (
+      arith,
+      (rw (sym d) at (tape-small m One 8192)) .length,
+      simp (length-append, length-drop) at (ap length w),
+    ) in
+    let t = take-at (tape One m) (drop n codes) n l in
+    record { short = (rw (sym d) at (tape-small m One 8192)) .length; size = rw (w, t) l; text = rw (sym d, w, t) }
 
 -- a refusal with small numbers is short in print, whatever tape there might be
 pub refusal-short : (r : Refusal) → r .number ≤ 99 → r .place ≤ 65536 → length (printedAnswer (Refused r) []) ≤ 40

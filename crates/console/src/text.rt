@@ -9,6 +9,7 @@ ghost use Rattle.spec.specs.Answers.{tapeAnswer};
 ghost use Rattle.spec.specs.Printed.{decimal, printedCodes, printedAnswer, printed};
 ghost use Rattle.console.specs.Putting.{Appended, codeAt};
 use spec::Answer;
+use spec::Edition;
 use spec::Refusal;
 use transcriber::tape::transcribe;
 
@@ -99,16 +100,18 @@ pub fn put_refusal(r: Refusal, text: &mut [u8]) -> usize
     put_decimal(text, end, place)
 }
 
-// Puts what the transcriber answers, which is lent room for every tape.
+// Puts what the transcriber answers, which is lent room for every tape. The programs keep edition 1
+// (paper 02, request 8).
 pub fn put_answer(m: &[u8], text: &mut [u8]) -> usize
     requires { ⌜ 32768 ≤ length (now text) ⌝ }
     ensures { λ r.
-        ⌜ Appended (printedAnswer (tapeAnswer (now (m .entry)) 8192) (tape (now (m .entry))))
+        ⌜ Appended (printedAnswer (tapeAnswer Edition.One (now (m .entry)) 8192)
+        (tape Edition.One (now (m .entry))))
         (now (text .entry)) (now (text .exit)) 0 r ⌝ }
     ensures { λ r. ⌜ r ≤ 32768 ⌝ }
 {
     let mut codes = [0u8; CODES];
-    match transcribe(m, &mut codes) {
+    match transcribe(Edition::One, m, &mut codes) {
         Answer::Written { length, live: _ } => put_codes(&codes[..length], text),
         Answer::Refused(r) => put_refusal(r, text),
     }

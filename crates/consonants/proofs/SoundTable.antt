@@ -3,15 +3,20 @@
 use Rattle.laws.proofs.Kit.{ℕ, _+_, _*_, _%_, _<_, _≤_, _≡_, refl, true, cond, not, List, [], _∷_}
 use Rattle.laws.proofs.Kit.{arith, eqb, leb, getD, eqb-true, leb-true}
 use Rattle.laws.proofs.Classes.{below-same, where-same, pairs-same}
-use Rattle.spec.specs.{Letters.small, Letters.isConsonant, Refusals.consonantByte, Codes.isSoundCode, Codes.isSound}
+use Rattle.spec.specs.{Letters.small, Letters.isConsonant, Refusals.consonantByte, Codes.isSoundCode}
 use Rattle.letters.proofs.Computed.{everything}
-use Rattle.consonants.specs.Following.{followingEnd, stepped, isVoiced, voicesOver, followingBy}
+use Rattle.consonants.specs.Following.{acting, followingEnd, stepped, isVoiced, voicesOver, followingBy}
 use Rattle.consonants.specs.Sounds.{consonantCode, codeBefore, Heard, alike, rowIn, softRow, soundRow}
 use Rattle.consonants.specs.Sounds.{codeRow, firstRows, soundTable}
 
+-- every definition of what follows a letter
+unfoldable follows : Unit {0}
+unfolding acting followingEnd stepped followingBy
+follows = tt
+
 -- every definition of the table
 unfoldable pub table : Unit {0}
-unfolding everything isSoundCode followingEnd stepped followingBy consonantCode alike rowIn softRow soundRow codeRow firstRows soundTable
+unfolding everything isSoundCode follows consonantCode alike rowIn softRow soundRow codeRow firstRows soundTable
 table = tt
 
 -- the rows of sounds that act alike; the table has four more
@@ -45,10 +50,10 @@ inRow j s = getD soundTable (rowNumber soundTable s * 4 + j) 0
 
 -- is the letter's code, and that of a consonant is a sound
 code-row : (j s : ℕ) → j < 26 → s < 128
-    → (eqb (inRow j s) (codeBefore (224 + j) s) ∷ cond (isConsonant (224 + j)) (isSound (inRow j s)) true ∷ []) ≡ (true ∷ true ∷ [])
+    → (eqb (inRow j s) (codeBefore (224 + j) s) ∷ cond (isConsonant (224 + j)) (isSoundCode (inRow j s)) true ∷ []) ≡ (true ∷ true ∷ [])
 unfolding table
 code-row j s =
-    pairs-same (λ x y. eqb (inRow x y) (codeBefore (224 + x) y) ∷ cond (isConsonant (224 + x)) (isSound (inRow x y)) true ∷ [])
+    pairs-same (λ x y. eqb (inRow x y) (codeBefore (224 + x) y) ∷ cond (isConsonant (224 + x)) (isSoundCode (inRow x y)) true ∷ [])
     (λ _ _. true ∷ true ∷ []) 26 128 j s refl
 
 -- the small letter of a consonant byte is told by its last five bits
@@ -63,7 +68,7 @@ consonant-letter b h k = (
 pub record Read (t : List ℕ) (b s : ℕ) : Type 0 where
   pub row : rowNumber t s ≤ lastRow
   pub code : getD t (rowNumber t s * 4 + b % 32) 0 ≡ codeBefore (small b) s
-  pub sound : isSound (codeBefore (small b) s) ≡ true
+  pub sound : isSoundCode (codeBefore (small b) s) ≡ true
 
 -- that is so
 pub code-read : (t : List ℕ) (b s : ℕ) → t ≡ soundTable → b < 256 → Heard b s → Read t b s

@@ -6,10 +6,21 @@ use Prim.Native.Nat.{ℕ}
 use mathlib.Core.Bool.{Bool, true, false, cond}
 use mathlib.Core.List.{List, [], _∷_}
 use lib.Dec.{eqb}
+use Rattle.spec.specs.Tables.{among}
+use Rattle.spec.specs.Codes.{А*, О*, Э*, Ы*, И*, У*, А1, Э1, Ы1, И1, У1, А2, Э2, О, Е, ИЭ}
 use Rattle.spec.specs.Codes.{isVoicing, isDevoicing}
 use Rattle.spec.specs.Voicing.{Tone, voiced, voiceless, asWritten}
 
--- what they make of an obstruent right before them, and the first of them, 0 for none
+-- the sounds of vowels, in whatever edition they are read
+abbrev pub vowelSounds : List ℕ
+vowelSounds =
+    А* ∷ О* ∷ Э* ∷ Ы* ∷ И* ∷ У* ∷ А1 ∷ Э1 ∷ Ы1 ∷ И1 ∷ У1 ∷ А2 ∷ Э2 ∷ О ∷ Е ∷ ИЭ ∷ []
+
+-- they do nothing to the sound before them: the first stands for any
+unfoldable pub acting : ℕ → ℕ
+acting c = cond (among vowelSounds c) А* c
+
+-- what they make of an obstruent right before them, and how the first of them acts, 0 for none
 pub record Following : Type 0 where
   pub tone : Tone
   pub code : ℕ
@@ -22,7 +33,7 @@ followingEnd next = record { tone = cond next voiced voiceless; code = 0 }
 unfoldable pub stepped : ℕ → Following → Following
 stepped c f =
     let tone = cond (isVoicing c) voiced (cond (isDevoicing c) voiceless asWritten) in
-    record { tone = tone; code = c }
+    record { tone = tone; code = acting c }
 
 -- sounds one after the other put before
 abbrev pub putBefore : List ℕ → Following → Following

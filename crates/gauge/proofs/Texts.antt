@@ -1,6 +1,7 @@
 -- With room for the words of any level the operation refuses with 14 alone, so what is answered goes by the level.
 use Rattle.laws.proofs.Kit.{ℕ, _<_, _≤_, arith, _≡_, sym, ap, ⊎-elim, List, [], length, lt-leb}
 use lib.IntN.{ℤ, natAbs}
+use Rattle.spec.specs.declared.Edition.the-variants.{One}
 use Rattle.spec.specs.Answers.{numberOf, placeOf, tapeAnswer}
 use Rattle.spec.specs.SpokenLevels.{spoken, levelAnswer, LevelPromise}
 use Rattle.spec.specs.LevelDemands.{LevelDue, outside, noRoomFor}
@@ -27,7 +28,7 @@ module _ (level : ℤ) {out out′ : List ℕ} {a : Answer} (p : LevelPromise le
       (level-demands level .settled out out′ a p .ended)
 
   -- and spoken;
-  pub level-spoken : {n k : ℕ} → a ≡ Written n k → spokenAnswer level ≡ tapeAnswer (spoken level) 8192
+  pub level-spoken : {n k : ℕ} → a ≡ Written n k → spokenAnswer level ≡ tapeAnswer One (spoken level) 8192
   unfolding spokenAnswer afterWriting
   level-spoken e = rw (same-answer, e)
 
@@ -45,7 +46,8 @@ outside-refused : (level : ℤ) → 9999 < natAbs level → spokenAnswer level �
 unfolding spokenAnswer levelAnswer afterWriting
 outside-refused level h = rw (lt-leb (natAbs level) 9999 h)
 
-pub like-printed : (level other : ℤ) → Like level other → printedAnswer (spokenAnswer level) (tape (spoken level)) ≡ printedAnswer (spokenAnswer other) (tape (spoken other))
+pub like-printed : (level other : ℤ) → Like level other → printedAnswer (spokenAnswer level) (tape One (spoken level))
+    ≡ printedAnswer (spokenAnswer other) (tape One (spoken other))
 unfolding printedAnswer
-like-printed level other l = ⊎-elim (λ e. ap (λ (z : ℤ). printedAnswer (spokenAnswer z) (tape (spoken z))) e)
+like-printed level other l = ⊎-elim (λ e. ap (λ (z : ℤ). printedAnswer (spokenAnswer z) (tape One (spoken z))) e)
     (λ d. rw (outside-refused level (d .0), outside-refused other (d .1))) l

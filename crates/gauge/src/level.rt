@@ -19,6 +19,7 @@ use console::text::put_refusal;
 use levels::LONGEST;
 use levels::speak_level;
 use spec::Answer;
+use spec::Edition;
 
 // The longest text that is read as a number.
 pub const TYPED_MAX: usize = 4096;
@@ -106,7 +107,7 @@ fn read_level(t: &[u8], sign: usize) -> i32
 fn put_level(level: i32, text: &mut [u8]) -> usize
     requires { ⌜ 32768 ≤ length (now text) ⌝ }
     ensures { λ r.
-        ⌜ Appended (printedAnswer (spokenAnswer level) (tape (spoken level)))
+        ⌜ Appended (printedAnswer (spokenAnswer level) (tape Edition.One (spoken level)))
         (now (text .entry)) (now (text .exit)) 0 r ⌝ }
     ensures { λ r. ⌜ r ≤ 32768 ⌝ }
 {

@@ -4,28 +4,30 @@ use Rattle.spec.specs.Joints.{Rising, joined, liveCount, badCut}
 use Rattle.spec.specs.Answers.{afterCheck, outputAfter, joinAnswer, JoinPromise}
 use Rattle.spec.specs.{Refusals.refusal, Refusals.checkOf, declared.Counts.Counts, declared.Checked.the-variants.Accepted, declared.Answer.the-variants.Written, declared.Answer.the-variants.Refused}
 use Rattle.letters.proofs.Steadiness.{accepted-steady}
-use Rattle.laws.proofs.{Accepted.accepted-counts, Cuts.rising-of, Cutting.equal-lengths, Promises.promised, Promises.promised-short, Promises.promised-written}
+use Rattle.spec.specs.declared.Edition.{Edition}
+use Rattle.laws.proofs.{Accepted.accepted-counts, Editions.tape-length, Cuts.rising-of, Cutting.equal-lengths, Promises.promised}
+use Rattle.laws.proofs.{Promises.promised-short, Promises.promised-written}
 use Rattle.joiner.specs.Writing.{JoinDue, JoinWritten}
 use Rattle.joiner.specs.declared.JoinCounts.{JoinCounts}
 
 module _ (m cuts out : List ℕ) {counts : Counts} (accepted : checkOf m ≡ Accepted counts) {n : ℕ} (e : n ≡ badCut m cuts) where
   -- number 12
-  pub join-cut : (n ≡ length cuts → ⊥) → JoinPromise m cuts out out (Refused (refusal 12 n))
+  pub join-cut : (ed : Edition) → (n ≡ length cuts → ⊥) → JoinPromise ed m cuts out out (Refused (refusal 12 n))
   unfolding joinAnswer afterCheck outputAfter
-  join-cut h = rw (accepted, ← e, ne-eqb n (length cuts) h) (promised _ _ _ _ _ refl refl)
+  join-cut ed h = rw (accepted, ← e, ne-eqb n (length cuts) h) (promised _ _ _ _ _ refl refl)
 
   module _ (good : n ≡ length cuts) where
     rising : Rising m cuts
     rising = rising-of m cuts (sym e ∙ good)
 
     -- the check has counted the second tape's codes
-    size : counts .codes ≡ length (joined m cuts)
-    size = accepted-counts m counts accepted .0 ∙ sym (equal-lengths m cuts rising)
+    size : (ed : Edition) → counts .codes ≡ length (joined ed m cuts)
+    size ed = accepted-counts m counts accepted .0 ∙ sym (equal-lengths ed m cuts rising ∙ tape-length ed m)
 
     -- number 11
-    pub join-short : length out < counts .codes → JoinPromise m cuts out out (Refused (refusal 11 (counts .codes)))
+    pub join-short : (ed : Edition) → length out < counts .codes → JoinPromise ed m cuts out out (Refused (refusal 11 (counts .codes)))
     unfolding joinAnswer afterCheck
-    join-short h = rw (accepted, ← e, eq-eqb _ _ good) (promised-short size (liveCount m cuts) h)
+    join-short ed h = rw (accepted, ← e, eq-eqb _ _ good) (promised-short (size ed) (liveCount m cuts) h)
 
     module _ (room : counts .codes ≤ length out) where
       -- the output's bytes that are written are as many as the tape's codes
@@ -37,8 +39,8 @@ module _ (m cuts out : List ℕ) {counts : Counts} (accepted : checkOf m ≡ Acc
       }
 
       -- with the second tape there the joiner has answered
-      pub join-written : (last : List ℕ) (r : JoinCounts) → JoinWritten m cuts last r
-          → JoinPromise m cuts out (last ++ drop (counts .codes) out) (Written (counts .codes) (r .live))
+      pub join-written : (ed : Edition) (last : List ℕ) (r : JoinCounts) → JoinWritten ed m cuts last r
+          → JoinPromise ed m cuts out (last ++ drop (counts .codes) out) (Written (counts .codes) (r .live))
       unfolding joinAnswer afterCheck
-      join-written last r w =
-          rw (accepted, ← e, eq-eqb _ _ good, w .output, w .counted) (promised-written size (liveCount m cuts) room refl)
+      join-written ed last r w =
+          rw (accepted, ← e, eq-eqb _ _ good, w .output, w .counted) (promised-written (size ed) (liveCount m cuts) room refl)

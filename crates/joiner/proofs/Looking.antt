@@ -39,7 +39,7 @@ break-outside m steady j h =
 
 -- of a tape that stands up to an index less stands too
 pub whole-less : {m t : List ℕ} {n k : ℕ} → Whole m t n → k ≤ n → Whole m t k
-whole-less w h = record { valid = w .valid; size = omega (arith, w .size); same = λ j l. w .same j (omega arith) }
+whole-less w h = record { edition = w .edition; valid = w .valid; size = omega (arith, w .size); same = λ j l. w .same j (omega arith) }
 
 module _ {m t : List ℕ} {c i n : ℕ} (r : Reach m t c i n) where
   -- at the cut itself
@@ -61,8 +61,8 @@ module _ {m t : List ℕ} {c i n : ℕ} (r : Reach m t c i n) where
       break-last = record { below = found .below; here = same b (found .below) ∙ found .here; past = λ j lo hi. same j hi ∙ found .past j lo hi }
 
       -- on the tape its mark is the last one
-      mark-last : Last isNoSound (tape m) n (markIndex m b)
-      mark-last = rw (r .place) (last-mark m (r .whole .valid .accepted) b i (r .within) (r .ends) break-last)
+      mark-last : Last isNoSound (tape (r .whole .edition) m) n (markIndex m b)
+      mark-last = rw (r .place) (last-mark m (r .whole .valid .accepted) (r .whole .edition) b i (r .within) (r .ends) break-last)
 
       pub reach-mark : Looks isNoSound t n n
       reach-mark = looks-for (markIndex m b) (r .whole .size) (mark-last .below) (rw (r .whole .same (markIndex m b) (mark-last .below)) (mark-last .here))
@@ -74,5 +74,5 @@ module _ {m t : List ℕ} {c i n : ℕ} (r : Reach m t c i n) where
         order = last-above isBreak m m i b c (λ j w. refl) break-last h (r .break);
         within = omega (arith, found .below, r .within);
         ends = inl (break-last .here);
-        place = last-once isNoSound t (tape m) n p (markIndex m b) (r .whole .same) k mark-last;
+        place = last-once isNoSound t (tape (r .whole .edition) m) n p (markIndex m b) (r .whole .same) k mark-last;
       }

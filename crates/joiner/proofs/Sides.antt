@@ -26,11 +26,12 @@ module _ {m t : List ℕ} {c at : ℕ} (s : Beside m t c at) where
   pub voice-told : isVoiced (getD t (at - 1) 0) ≡ changedBefore m c
   voice-told =
       let e : suc (at - 1) ≡ markIndex m c = omega (arith, s .some, s .place) in
-      rw (s .whole .same (at - 1) (omega arith)) (ap (λ (j : ℕ). isVoiced (getD (0 ∷ tape m) j 0)) e ∙ before-told m (s .whole .valid .accepted) c (s .break))
+      rw (s .whole .same (at - 1) (omega arith)) (ap (λ (j : ℕ). isVoiced (getD (0 ∷ tape (s .whole .edition) m) j 0)) e
+      ∙ before-told m (s .whole .valid .accepted) (s .whole .edition) c (s .break))
 
   -- (b) by the code after the mark and the next letter
   pub hardness-told : (isHigh (getD t (at + 1) 0) && isIOrE (letterAt m (c + 1))) ≡ changedAfter m (suc c)
   unfolding wordAfter
   hardness-told =
       rw (add-one at, add-one c, ← first-told m (suc c) (unmarked-after m (s .whole .valid .steady) c (break-vowel (getD m c 0) (s .break))), s .whole .same (suc at) (omega arith), s .place)
-      (after-told m c (s .break))
+      (after-told m (s .whole .edition) c (s .break))

@@ -9,6 +9,7 @@ use lib.ListN.{length, take, drop, getD}
 use Rattle.spec.specs.Letters.{between, isBreak}
 use Rattle.spec.specs.Codes.{markOf}
 use Rattle.spec.specs.Tape.{sounds, tape}
+use Rattle.spec.specs.declared.Edition.{Edition}
 use Rattle.letters.specs.Places.{Steady}
 use Rattle.spec.specs.Refusals.{checkOf}
 use Rattle.spec.specs.Joints.{Rising, joinedFrom, joined, markIndex, liveCount}
@@ -30,21 +31,22 @@ pub record Valid (m : List ℕ) : Type 0 where
 pub record JoinDue (m cuts : List ℕ) (size : ℕ) : Type 0 where
   pub valid : Valid m
   pub rising : Rising m cuts
-  pub fits : size ≡ length (tape m)
+  pub fits : size ≡ length (sounds m)
 
 -- these codes were put right before index at of the output
 abbrev pub PutBefore : List ℕ → List ℕ → List ℕ → ℕ → Type 0
 PutBefore codes out out′ at = Put codes out out′ at (at - length codes)
 
 -- the part p may be written right before index at of the output, and where no cut changes it its
--- tape stands there
-pub record PartDue (p out : List ℕ) (at : ℕ) (changed : Bool) : Type 0 where
+-- tape in edition e stands there
+pub record PartDue (e : Edition) (p out : List ℕ) (at : ℕ) (changed : Bool) : Type 0 where
   pub due : TapeDue p out at
-  pub stands : changed ≡ false → PutBefore (tape p) out out at
+  pub stands : changed ≡ false → PutBefore (tape e p) out out at
 
 -- then it stands there, and its levels were found in k steps, in none where no cut changes it
-pub record PartWritten (p : List ℕ) (changed : Bool) (out out′ : List ℕ) (at k : ℕ) : Type 0 where
-  pub put : PutBefore (tape p) out out′ at
+pub record PartWritten (e : Edition) (p : List ℕ) (changed : Bool) (out out′ : List ℕ) (at k : ℕ)
+    : Type 0 where
+  pub put : PutBefore (tape e p) out out′ at
   pub counted : k ≡ cond changed (levelSteps p) 0
 
 -- a byte that is none of low to high
@@ -61,11 +63,12 @@ pub record Looks (test : ℕ → Bool) (x : List ℕ) (i j : ℕ) : Type 0 where
   pub high : j ≤ i
   pub past : (k : ℕ) → j ≤ k → k < i → test (getD x k 0) ≡ false
 
--- the accepted message's tape stands in t up to index n
+-- the accepted message's tape, in some edition, stands in t up to index n
 pub record Whole (m t : List ℕ) (n : ℕ) : Type 0 where
+  pub edition : Edition
   pub valid : Valid m
   pub size : n ≤ length t
-  pub same : (j : ℕ) → j < n → getD t j 0 ≡ getD (tape m) j 0
+  pub same : (j : ℕ) → j < n → getD t j 0 ≡ getD (tape edition m) j 0
 
 -- index n is that of the mark of place e, which is a break or the message's end, and the break at
 -- place c is not behind it
@@ -112,27 +115,27 @@ abbrev pub joinSteps : List ℕ → List ℕ → ℕ
 joinSteps m cuts = levelSteps m + (partSteps m 0 (endOf m cuts) + stepsBehind m cuts)
 
 -- what follows its tape on the second tape
-abbrev pub restOf : List ℕ → List ℕ → List ℕ
-restOf m [] = []
-restOf m (c ∷ cuts) = markOf (getD m c 0) ∷ joinedFrom sounds m (suc c) cuts
+abbrev pub restOf : Edition → List ℕ → List ℕ → List ℕ
+restOf e m [] = []
+restOf e m (c ∷ cuts) = markOf (getD m c 0) ∷ joinedFrom (tape e) m (suc c) cuts
 
 -- All cuts but the first k are passed: before the mark of the last one of them, or the message's
--- end, the whole tape stands in the output, and from there on the second one.
-pub record Laid (m cuts : List ℕ) (k : ℕ) (out : List ℕ) (p : Progress) : Type 0 where
+-- end, the whole tape in edition e stands in the output, and from there on the second one.
+pub record Laid (e : Edition) (m cuts : List ℕ) (k : ℕ) (out : List ℕ) (p : Progress) : Type 0 where
   pub valid : Valid m
   pub rising : Rising m cuts
   pub within : k ≤ length cuts
   pub ends : p .e ≡ endOf m (drop k cuts)
   pub place : p .at ≡ markIndex m (p .e)
-  pub bytes : out ≡ take (p .at) (tape m) ++ restOf m (drop k cuts)
+  pub bytes : out ≡ take (p .at) (tape e m) ++ restOf e m (drop k cuts)
   pub counted : p .live ≡ liveCount m (drop k cuts)
   pub last : p .changed ≡ changedBefore m (p .e)
   pub taken : p .steps ≡ levelSteps m + stepsBehind m (drop k cuts)
 
--- The second tape is written: the live cuts are counted, and the levels were found in the joiner's
--- steps, of which four for each byte of the message suffice (paper 02, request 3).
-pub record JoinWritten (m cuts out : List ℕ) (r : JoinCounts) : Type 0 where
-  pub output : out ≡ joined m cuts
+-- The second tape in edition e is written: the live cuts are counted, and the levels were found in
+-- the joiner's steps, of which four for each byte of the message suffice (paper 02, request 3).
+pub record JoinWritten (e : Edition) (m cuts out : List ℕ) (r : JoinCounts) : Type 0 where
+  pub output : out ≡ joined e m cuts
   pub counted : r .live ≡ liveCount m cuts
   pub taken : r .steps ≡ joinSteps m cuts
   pub four : r .steps ≤ 4 * length m

@@ -16,6 +16,7 @@ use message::answers::refused;
 use message::check::check;
 use spec::Answer;
 use spec::Checked;
+use spec::Edition;
 use spec::Refusal;
 use spec::alphabet;
 use spec::codes;
@@ -105,6 +106,7 @@ fn mark_of(m: &[u8], t: &[u8], c: usize, e: usize, end: usize) -> usize
 // changes them the part's own tape is written over them. Tells in how many steps its levels were
 // found.
 fn write_part<'a>(
+    edition: Edition,
     p: &[u8],
     changed: bool,
     out: &mut [u8],
@@ -112,12 +114,12 @@ fn write_part<'a>(
     t: &'a ByteTable,
     s: &'a SoundTable,
 ) -> usize
-    requires { ⌜ Lent (now t) (now s) × PartDue (now p) (now out) end changed ⌝ }
-    ensures { λ k.
-        ⌜ PartWritten (now (p .entry)) changed (now (out .entry)) (now (out .exit)) end k ⌝ }
+    requires { ⌜ Lent (now t) (now s) × PartDue edition (now p) (now out) end changed ⌝ }
+    ensures { λ k. ⌜ PartWritten edition (now (p .entry)) changed
+        (now (out .entry)) (now (out .exit)) end k ⌝ }
 {
     if changed {
-        return write_tape(p, out, end, t, s);
+        return write_tape(edition, p, out, end, t, s);
     }
     0
 }
@@ -125,6 +127,7 @@ fn write_part<'a>(
 // Lays the part after the cut of index k. The cut is judged before that part is written, while the
 // codes beside its mark are the whole message's.
 fn lay_part<'a>(
+    edition: Edition,
     m: &[u8],
     cuts: &[usize],
     k: usize,
@@ -133,8 +136,8 @@ fn lay_part<'a>(
     t: &'a ByteTable,
     s: &'a SoundTable,
 ) -> Progress
-    requires { ⌜ Lent (now t) (now s) × Laid (now m) (now cuts) (suc k) (now out) p ⌝ }
-    ensures { λ r. ⌜ Laid (now (m .entry)) (now (cuts .entry)) k (now (out .exit)) r ⌝ }
+    requires { ⌜ Lent (now t) (now s) × Laid edition (now m) (now cuts) (suc k) (now out) p ⌝ }
+    ensures { λ r. ⌜ Laid edition (now (m .entry)) (now (cuts .entry)) k (now (out .exit)) r ⌝ }
 {
     let c = cuts[k];
     let e = p.e;
@@ -144,7 +147,7 @@ fn lay_part<'a>(
     let w = changes_at(m, out, c, at);
     let before = w.before;
     let after = w.after;
-    let taken = write_part(&m[c + 1..e], changed | after, out, end, t, s);
+    let taken = write_part(edition, &m[c + 1..e], changed | after, out, end, t, s);
     let steps = p.steps + taken;
     let live = p.live + (before | after) as usize;
     Progress {
@@ -159,6 +162,7 @@ fn lay_part<'a>(
 // Writes the second tape and counts the live cuts, and the steps that found the levels: the whole
 // message's tape, and then from the right, over it, the parts that a cut changes.
 fn write_joined<'a>(
+    edition: Edition,
     m: &[u8],
     cuts: &[usize],
     out: &mut [u8],
@@ -166,10 +170,11 @@ fn write_joined<'a>(
     s: &'a SoundTable,
 ) -> JoinCounts
     requires { ⌜ Lent (now t) (now s) × JoinDue (now m) (now cuts) (length (now out)) ⌝ }
-    ensures { λ r. ⌜ JoinWritten (now (m .entry)) (now (cuts .entry)) (now (out .exit)) r ⌝ }
+    ensures { λ r.
+        ⌜ JoinWritten edition (now (m .entry)) (now (cuts .entry)) (now (out .exit)) r ⌝ }
 {
     let n = out.len();
-    let whole = write_tape(m, out, n, t, s);
+    let whole = write_tape(edition, m, out, n, t, s);
     let mut p = Progress {
         e: m.len(),
         at: n,
@@ -180,19 +185,20 @@ fn write_joined<'a>(
     let mut k = cuts.len();
     while 0 < k {
         k -= 1;
-        p = lay_part(m, cuts, k, out, p, t, s);
+        p = lay_part(edition, m, cuts, k, out, p, t, s);
     }
     let e = p.e;
-    let first = write_part(&m[..e], p.changed, out, p.at, t, s);
+    let first = write_part(edition, &m[..e], p.changed, out, p.at, t, s);
     let steps = p.steps + first;
     let live = p.live;
     JoinCounts { live, steps }
 }
 
-// The joiner (paper 01, 'Joints'): writes the tape of the message's parts at the start of the lent
-// output, or refuses and leaves every byte.
-pub fn join(m: &[u8], cuts: &[usize], out: &mut [u8]) -> Answer
-    ensures { λ r. ⌜ JoinPromise (now (m .entry)) (now (cuts .entry)) (now (out .entry)) (now (out .exit)) r ⌝ }
+// The joiner (paper 01, 'Joints'): writes the tape of the message's parts, in an edition, at the
+// start of the lent output, or refuses and leaves every byte.
+pub fn join(edition: Edition, m: &[u8], cuts: &[usize], out: &mut [u8]) -> Answer
+    ensures { λ r. ⌜ JoinPromise edition (now (m .entry)) (now (cuts .entry))
+        (now (out .entry)) (now (out .exit)) r ⌝ }
 {
     let checked = check(m);
     let Checked::Accepted(counts) = checked else {
@@ -213,7 +219,14 @@ pub fn join(m: &[u8], cuts: &[usize], out: &mut [u8]) -> Answer
         });
     }
     let tables = lay_tables();
-    let counted = write_joined(m, cuts, &mut out[..n], &tables.bytes, &tables.sounds);
+    let counted = write_joined(
+        edition,
+        m,
+        cuts,
+        &mut out[..n],
+        &tables.bytes,
+        &tables.sounds,
+    );
     let live = counted.live;
     Answer::Written { length: n, live }
 }

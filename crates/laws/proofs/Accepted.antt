@@ -2,7 +2,8 @@
 use Rattle.laws.proofs.Kit.{ℕ, zero, suc, _<_, _≤_, _≡_, refl, sym, ap, _∙_, _⊎_, inl, inr, ⊎-elim, true, false, cond, _&&_, and-eq-true-iff, and-false, or-true, true≢false, false≢true, List, [], _∷_, arith, eqb, leb, length, getD, drop, length-drop, drop-cons, eqb-true, eqb-false, eq-eqb, ne-eqb, leb-true, leb-false, le-leb, lt-leb}
 use Rattle.spec.specs.Refusals.{Row, _when_, rows, firstFit, faultAt, refusal, scan, checkOf, fitsIn, beforeAt, fits, indexIn, rank, NoneFits, Earlier, Given}
 use Rattle.spec.specs.Counting.{codeCount, nameCount}
-use Rattle.spec.specs.{Tape.tape, Tape.names, Tables.among, declared.Counts.Counts, declared.Checked.Checked, declared.Checked.the-variants.Accepted, declared.Checked.the-variants.Refused}
+use Rattle.spec.specs.{Tape.sounds, Tape.names, Tables.among, declared.Counts.Counts, declared.Checked.Checked}
+use Rattle.spec.specs.{declared.Checked.the-variants.Accepted, declared.Checked.the-variants.Refused}
 use Rattle.spec.proofs.Computed.{everything}
 use Rattle.laws.proofs.Classes.{cond-app, cond-same, either, refuted, below-or, among-same, among-none}
 use Rattle.laws.proofs.Counting.{tape-count, names-count}
@@ -269,7 +270,7 @@ passes-accepted m p = none-accepted m (passes-none m p)
 
 -- the counts are those of the tape and the naming
 pub accepted-counts : (m : List ℕ) (counts : Counts) → checkOf m ≡ Accepted counts
-    → (counts .codes ≡ length (tape m)) × (counts .names ≡ length (names m)) × (length m ≤ 4096) × (0 < length m)
+    → (counts .codes ≡ length (sounds m)) × (counts .names ≡ length (names m)) × (length m ≤ 4096) × (0 < length m)
 accepted-counts m counts e =
     let p = accepted-passes m counts e in
     let q = passes-accepted m p in

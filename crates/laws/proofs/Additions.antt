@@ -17,7 +17,8 @@ use Rattle.spec.specs.declared.Answer.the-variants.{Written, Refused}
 use Rattle.laws.proofs.Accepted.{Passes, check-finds, passes-none, passes-accepted, none-accepted, given-refused, given-range}
 use Rattle.laws.proofs.Demands.{Ways, settled, exactly}
 use Rattle.laws.proofs.Book.{Judged, isSound, isRefused, judge, record-size, sound-read, due-read, bytes-in}
-use Rattle.laws.proofs.{Classes.either, Classes.below-or, Sizes.tape-size, Lookup.looks-up, Lookup.find-promised}
+use Rattle.laws.proofs.{Classes.either, Classes.below-or, Sizes.tape-size, Editions.tape-length, Lookup.looks-up}
+use Rattle.laws.proofs.{Lookup.find-promised}
 
 -- a book's refusal, where it is not sound, has a number,
 abbrev NumberedBook : Reading → Type 0
@@ -219,7 +220,9 @@ module _ (st : Storage) where
       pub sound-next : Sized st → Next buffer fs a
       unfolding addAnswer afterListener afterCheck afterBook within
       sound-next sized = unless-accepted asBefore (λ w c.
-          let short : length (tape (a .phrase .message)) < 65536 = omega (arith, tape-size (a .phrase .message), c .short) in
+          let x = a .phrase in
+          let short : length (tape (x .edition) (x .message)) < 65536 =
+          omega (arith, tape-length (x .edition) (x .message), tape-size (x .message), c .short) in
           let fit : Fits st (added a) = record { number = kept .number; set = kept .set; count = short; stored = sized _ } in
           let e = passes-accepted (a .phrase .message) c in
           let s = sound-read st now in
@@ -276,12 +279,12 @@ added-size : (book : List ℕ) (x : NewPhrase) → length (withAddition plain bo
 unfolding withAddition
 added-size book x =
     let f = phraseOf plain x in
-    omega (arith, length-append book (recordOf plain f), record-size plain f, tape-size (x .message))
+    omega (arith, length-append book (recordOf plain f), record-size plain f, tape-length (x .edition) (x .message), tape-size (x .message))
 
 -- What holds of a book there besides.
 pub plain-demands : (buffer : List ℕ) (used : ℕ) → PlainDemands buffer used
 plain-demands buffer used = record {
-  tape = λ x. take-length (tape (x .message));
+  tape = λ x. take-length (tape (x .edition) (x .message));
   most = λ x. added-size (bookIn buffer used) x;
   locate = λ l n r k. record { answer = find-promised [] k .answer; tape = k .tape };
 }

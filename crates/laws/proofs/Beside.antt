@@ -3,9 +3,10 @@
 use Rattle.laws.proofs.Kit.{ℕ, suc, _≡_, refl, sym, _∙_, Bool, true, false, cond, not, _&&_, and-true, and-false, and-eq-true-iff, true≢false, List, [], _∷_, _++_, append-assoc, not-true}
 use Rattle.spec.specs.Letters.{Letter, Message, last, more, firstByte, firstWord, lastWord, obstruents, isObstruent}
 use Rattle.spec.specs.Voicing.{voiced, voiceless, voicedCode, voicelessCode, toneOf, toned, voiceOne, voice}
-use Rattle.spec.specs.{Codes.markOf, Codes.isSound, Phones.Phone, Palatalization.isSoft, Palatalization.firstCode, Palatalization.palatalize, Tape.wordTape, Tape.segment, Joints.endsInObstruent, Joints.beginsWithIOrE}
+use Rattle.spec.specs.{Codes.markOf, Phones.Phone, Palatalization.isSoft, Palatalization.firstCode, Palatalization.palatalize}
+use Rattle.spec.specs.{Tape.wordTape, Tape.segment, Joints.endsInObstruent, Joints.beginsWithIOrE}
 use Rattle.spec.proofs.Computed.{everything}
-use Rattle.laws.proofs.Codes.{Spells, both, fine, Fine, word-fine, soft-both}
+use Rattle.laws.proofs.Codes.{Spells, both, makes, fine, Fine, word-fine, soft-both}
 use Rattle.laws.proofs.Word.{lastCodeFrom, endsToned, word-toned, word-starts}
 use Rattle.laws.proofs.{Classes.mark-both, Classes.either, Classes.among-same, Stretch.last-append}
 use Rattle.laws.specs.Beside.{isVoiced, isHigh, isIOrE}
@@ -35,7 +36,8 @@ unfolding lastCodeFrom palatalize voice voiceOne toneOf endsToned firstCode fine
 ends-voiced n d [] e f = rw and-false e
 ends-voiced n d (x ∷ []) e f =
     either (isObstruent (x .letter)) (λ q. rw (q, and-true) (soft-keeps n _ 0 _ (toned-keeps n (x .letter) (x .code) q)))
-    (λ q. rw (q, and-false) (soft-keeps false _ 0 (x .code) (rw q at (and-eq-true-iff (both isSound (x .letter) (x .code)) _ .0 (f q .0) .1))))
+    (λ q. rw (q, and-false) (soft-keeps false _ 0 (x .code)
+    (rw q at (and-eq-true-iff (both (makes (x .letter)) (x .letter) (x .code)) _ .0 (f q .0) .1))))
 ends-voiced n d (x ∷ y ∷ xs) e f = ends-voiced n 0 (y ∷ xs) refl (λ q. f q .1)
 
 -- So the last code of a word that ends in an obstruent tells what follows, whatever stands before.

@@ -5,7 +5,8 @@ use Rattle.spec.specs.Joints.{joined, isLive, liveCount, badCut}
 use Rattle.spec.specs.Answers.{numberOf, placeOf, lengthOf, liveOf, checkedNumber, checkedPlace, checkedCodes, checkedNames, within, afterCheck, nameAnswer, tapeAnswer, joinAnswer}
 use Rattle.spec.specs.Utf8.{encoded, writeAnswer}
 use Rattle.spec.specs.SpokenLevels.{spoken, levelAnswer}
-use Rattle.spec.specs.{Tape.tape, Tape.names, Refusals.checkOf, declared.Answer.Answer}
+use Rattle.spec.specs.{Tape.tape, Tape.names, Refusals.checkOf, declared.Edition.Edition, declared.Answer.Answer}
+use Rattle.laws.proofs.Editions.{tape-length}
 use Rattle.laws.proofs.Cuts.{judged, rising-to, bad-bound, rising-length}
 use Rattle.laws.proofs.{Accepted.check-finds, Accepted.given-range, Classes.cond-both, Classes.below-or, Cutting.equal-lengths, Sizes.tape-size, Sizes.names-size, Utf8.encoded-size, SpokenLevels.level-size}
 use Rattle.laws.proofs.Counting.{tape-count, names-count}
@@ -49,9 +50,10 @@ module _ (m : List ℕ) where
   name-small room = after-small _ (λ s. within-small room (length (names m)) 0 (omega (arith, names-size m)) (omega arith))
 
   -- The transcriber's answer is small.
-  pub tape-small : (room : ℕ) → Small (tapeAnswer m room)
+  pub tape-small : (e : Edition) (room : ℕ) → Small (tapeAnswer e m room)
   unfolding tapeAnswer
-  tape-small room = after-small _ (λ s. within-small room (length (tape m)) 0 (omega (arith, tape-size m)) (omega arith))
+  tape-small e room = after-small _ (λ s. within-small room (length (tape e m)) 0 (omega (arith, tape-length e m, tape-size m))
+      (omega arith))
 
   -- The writer's answer is small.
   pub write-small : (room : ℕ) → Small (writeAnswer m room)
@@ -59,10 +61,11 @@ module _ (m : List ℕ) where
   write-small room = after-small _ (λ s. within-small room (length (encoded m)) 0 (omega (arith, encoded-size m)) (omega arith))
 
   -- The joiner's answer is small, whatever the cuts.
-  pub join-small : (cuts : List ℕ) (room : ℕ) → Small (joinAnswer m cuts room)
+  pub join-small : (e : Edition) (cuts : List ℕ) (room : ℕ) → Small (joinAnswer e m cuts room)
   unfolding joinAnswer numberOf placeOf lengthOf liveOf
-  join-small cuts room = after-small _ (λ s. ⊎-elim
-      (λ r. rw (eq-eqb _ _ (rising-to m cuts r)) (within-small room (length (joined m cuts)) (liveCount m cuts) (omega (arith, equal-lengths m cuts r, tape-size m))
+  join-small e cuts room = after-small _ (λ s. ⊎-elim
+      (λ r. rw (eq-eqb _ _ (rising-to m cuts r)) (within-small room (length (joined e m cuts)) (liveCount m cuts)
+      (omega (arith, equal-lengths e m cuts r, tape-length e m, tape-size m))
       (omega (arith, live-bound m cuts, rising-length m cuts r))))
       (λ b. rw (ne-eqb (badCut m cuts) (length cuts) (omega (arith, b .within)))
       (record { number = omega arith; place = omega (arith, bad-bound m cuts); length = omega arith; live = omega arith })) (judged m cuts))

@@ -1,7 +1,8 @@
 -- The counts of codes and names letter by letter are the lengths of the tape and of the naming, for every message: passes 4 and 5 give each
 -- sound one code, and pass 1 takes away only letters that are then counted none and change nothing about the letter after them.
 use Rattle.laws.proofs.Kit.{ℕ, _+_, _≡_, refl, ap, _∙_, Bool, true, false, cond, _&&_, List, [], _∷_, _++_}
-use Rattle.laws.proofs.Kit.{arith, eqb, length, length-append}
+use Rattle.laws.proofs.Kit.{arith, eqb, length, length-append, map, sym}
+use lib.ListN.{length-map, replicate, length-replicate}
 use Rattle.spec.specs.Alphabet.{«е», «ё», «и», «о», «ю», «я»}
 use Rattle.spec.specs.Letters.{Letter, Message, last, more, read, plainVowels, softeningVowels, isGap, isSign, isVowel}
 use Rattle.spec.specs.Elision.{elideFrom, elide}
@@ -11,7 +12,7 @@ use Rattle.spec.specs.Phones.{Phone, vowelPhones, phonesOf, phonesFrom}
 use Rattle.spec.specs.Tape.{wordTape, segment, sounds, wordNames, namesOf, names}
 use Rattle.spec.specs.Counting.{soundCount, codesLeft, namesLeft, codeCountFrom, nameCountFrom, codeCount, nameCount}
 use Rattle.spec.specs.{Tables.among, Voicing.voices, declared.Cover.Cover}
-use Rattle.laws.proofs.Classes.{cond-app, either, among-none}
+use Rattle.laws.proofs.Classes.{either, among-none}
 use Rattle.laws.proofs.{Elided.elide-cases, Elided.phones-free, Elided.names-elide, Word.sounds-length}
 
 -- a letter that is no vowel has no glide
@@ -22,13 +23,19 @@ no-glide p cover b n = rw (other «е» refl, other «ё» refl, other «ю» re
     other : (x : ℕ) → among (plainVowels ++ softeningVowels) x ≡ true → eqb b x ≡ false
     other x i = among-none (plainVowels ++ softeningVowels) b x n i
 
--- a letter that stays makes as many sounds as are counted
+-- a letter that stays makes each of its sounds, which are as many as are counted
+pub letter-makers : (hard : Bool) (facts : Facts) (p : ℕ) (l : Letter) (w : List Letter)
+    → map (λ (x : Phone). x .letter) (phonesOf hard facts p l w) ≡ replicate (soundCount p (l .byte)) (l .byte)
+unfolding phonesOf vowelPhones soundCount syllableOf
+letter-makers hard facts p l w = either (isSign (l .byte)) (λ s. rw s) (λ s. rw s (either (isVowel (l .byte))
+    (λ v. rw v (either (glides p (coverAfter p) (l .byte)) (λ g. rw g) (λ g. rw g)))
+    (λ v. rw (v, no-glide p (coverAfter p) (l .byte) v))))
+
 letter-count : (hard : Bool) (facts : Facts) (p : ℕ) (l : Letter) (w : List Letter)
     → length (phonesOf hard facts p l w) ≡ soundCount p (l .byte)
-unfolding phonesOf vowelPhones soundCount syllableOf
-letter-count hard facts p l w = either (isSign (l .byte)) (λ s. rw s) (λ s. rw s (either (isVowel (l .byte))
-    (λ v. rw v (cond-app (length {A = Phone}) (glides p (coverAfter p) (l .byte)) _ _))
-    (λ v. rw (v, no-glide p (coverAfter p) (l .byte) v))))
+letter-count hard facts p l w =
+    sym (length-map (phonesOf hard facts p l w) (λ (x : Phone). x .letter)) ∙ ap length (letter-makers hard facts p l w)
+    ∙ length-replicate (soundCount p (l .byte)) (l .byte)
 
 -- the sounds of the rest of a word after pass 1 are as many as are counted of its letters as written
 phones-count : (hard : Bool) (facts : Facts) (p : ℕ) (w : List Letter) → length (phonesFrom hard facts p (elideFrom p w)) ≡ codesLeft p w

@@ -10,6 +10,8 @@ use Rattle.spec.specs.LevelDemands.{LevelDue, outside, noRoomFor, LevelDemands}
 use Rattle.spec.specs.Editing.{edited, editAnswer}
 use Rattle.spec.specs.Utf8.{encoded, decoded, readTo, readAnswer, writeAnswer, Readable, ReadPromise}
 use Rattle.spec.specs.SpokenLevels.{spoken, levelAnswer, InRange}
+use Rattle.spec.specs.declared.Edition.{Edition}
+use Rattle.laws.proofs.Editions.{tape-length}
 use Rattle.spec.specs.{Tape.tape, Tape.names, Refusals.refusal, Refusals.checkOf, Refusals.fits, Refusals.NoneFits, Refusals.Given, declared.Answer.Answer, declared.Answer.the-variants.Written, declared.Answer.the-variants.Refused}
 use Rattle.laws.proofs.Accepted.{check-finds, passes-none, none-accepted, given-range, given-refused, empty-given, long-given}
 use Rattle.laws.proofs.Edited.{edited-size, edited-twice, accepted-own, edited-never-four, only-breaks}
@@ -111,10 +113,10 @@ without-cuts : (m text out : List ℕ) → Ways (NoneFits m) (Due m [] (length t
 without-cuts m text out = check-ways m [] text 0 out (NoneFits m) (λ f. (f, tt), λ a. a .0)
 
 -- the joiner has
-with-cuts : (m cuts out : List ℕ)
-    → Ways (NoneFits m × Rising m cuts) (Due m cuts (length (joined m cuts)) (length out)) (joined m cuts) (liveCount m cuts) out
-    (dueAfter m cuts (joined m cuts) (liveCount m cuts) out)
-with-cuts m cuts out = check-ways m cuts (joined m cuts) (liveCount m cuts) out (NoneFits m × Rising m cuts) (λ a. a, λ a. a)
+with-cuts : (e : Edition) (m cuts out : List ℕ)
+    → Ways (NoneFits m × Rising m cuts) (Due m cuts (length (joined e m cuts)) (length out)) (joined e m cuts) (liveCount m cuts) out
+    (dueAfter m cuts (joined e m cuts) (liveCount m cuts) out)
+with-cuts e m cuts out = check-ways m cuts (joined e m cuts) (liveCount m cuts) out (NoneFits m × Rising m cuts) (λ a. a, λ a. a)
 
 -- Demand 1.
 pub demand1 : (m : List ℕ) → Demand1 m
@@ -124,8 +126,8 @@ demand1 m = record {
       (λ f. inr (rw (kept .answer, f .refused)
       (record { number = given-range (f .given) .0; place = f .given; codes = refl; names = refl }))) (check-finds m);
   naming = λ out out′ r k. settled (without-cuts m (names m) out) k;
-  transcriber = λ out out′ r k. settled (without-cuts m (tape m) out) k;
-  joiner = λ cuts out out′ r k. settled (with-cuts m cuts out) k;
+  transcriber = λ e out out′ r k. settled (without-cuts m (tape e m) out) k;
+  joiner = λ e cuts out out′ r k. settled (with-cuts e m cuts out) k;
 }
 
 -- Demand 2.
@@ -140,12 +142,12 @@ demand2 m = record {
     λ e. ⊎-elim (λ f. absurd (omega (arith, e .0, kept .number ∙ ap checkedNumber (f .0)))) (λ f. rw (← e .0, ← e .1, kept .answer, f .refused) (f .given)) (check-finds m),
     λ g. let e = given-refused m n p g in (kept .number ∙ ap checkedNumber e, kept .place ∙ ap checkedPlace e),
   );
-  counts = λ r kept f.
+  counts = λ r kept f ed.
       let e = none-accepted m f in
-      (kept .codes ∙ ap checkedCodes e ∙ sym (tape-count m), kept .names ∙ ap checkedNames e ∙ sym (names-count m));
-  transcriber = λ out out′ r k. exactly (without-cuts m (tape m) out) k;
+      (kept .codes ∙ ap checkedCodes e ∙ sym (tape-length ed m ∙ tape-count m), kept .names ∙ ap checkedNames e ∙ sym (names-count m));
+  transcriber = λ e out out′ r k. exactly (without-cuts m (tape e m) out) k;
   naming = λ out out′ r k. exactly (without-cuts m (names m) out) k;
-  joiner = λ cuts out out′ r k. exactly (with-cuts m cuts out) k;
+  joiner = λ e cuts out out′ r k. exactly (with-cuts e m cuts out) k;
 }
 
 -- Demand 3.
@@ -155,9 +157,9 @@ demand3 m f = record {
   full = full-rising m;
   every = full-every m;
   tapes = two-tapes m f;
-  joiner = λ cuts s out out′ r h k.
-      let w = demand2 m .joiner cuts out out′ r k .gives h (f, s) in
-      let e = two-tapes m f cuts s .equal in
+  joiner = λ ed cuts s out out′ r h k.
+      let w = demand2 m .joiner ed cuts out out′ r k .gives h (f, s) in
+      let e = two-tapes m f ed cuts s .equal in
       let n = counts-none m cuts in
       record { written = w; equal = (λ q. w .live ∙ n .1 (e .0 q), λ q. e .1 (n .0 (sym (w .live) ∙ q))) };
 }
@@ -291,5 +293,5 @@ level-demands level = record {
   equal = level-equal level;
   marks = level-marks level;
   message = level-accepted level;
-  transcriber = λ a out out′ r k h. demand2 (spoken level) .transcriber out out′ r k .gives h (level-accepted level a);
+  transcriber = λ a e out out′ r k h. demand2 (spoken level) .transcriber e out out′ r k .gives h (level-accepted level a);
 }

@@ -4,7 +4,9 @@ pub mod Word
 pub mod Elided
 pub mod Counting
 pub mod Accepted
+pub mod Editions
 pub mod Codes
+pub mod Makers
 pub mod Cuts
 pub mod Stretch
 pub mod Parts

@@ -3,6 +3,10 @@
 use Rattle.laws.proofs.Kit.{ℕ, suc, _+_, _-_, _<_, _≤_, _≡_, refl, sym, ap, _∙_, Bool, true, false, not, _&&_, and-eq-true-iff, true≢false, _⊎_, ⊎-elim, List, [], _∷_, _++_, append-nil, arith, leb, length, take, drop, getD, length-append, length-drop, List·getD-append, List·getD-eq-default, take-all, getD-append-add, leb-true, le-leb}
 use Rattle.spec.specs.Letters.{between, read, firstByte, isGap, isBreak}
 use Rattle.spec.specs.Codes.{А*, Щ, markOf, isSoundCode, isSound}
+use mathlib.Core.List.{map, map-append}
+use lib.ListN.{length-map}
+use Rattle.spec.specs.{Editions.codeIn, Tape.tape, declared.Edition.Edition}
+use Rattle.laws.proofs.Editions.{read-same, sound-code, mark-own, read-at, last-read}
 use Rattle.spec.specs.{Tape.segment, Tape.sounds, Refusals.checkOf, Joints.markIndex, Joints.wordBefore, Joints.wordAfter, declared.Counts.Counts, declared.Checked.the-variants.Accepted}
 use Rattle.laws.proofs.Codes.{Each, part-spells, read-marks, segment-sounds, unbroken, each-at}
 use Rattle.laws.proofs.Parts.{last-at, onward-cut, part-own, tape-cut, mark-index, mark-there, code-after, onward-alone}
@@ -81,12 +85,18 @@ inside front s rest j h lo hi =
     let e : j ≡ length front + k = omega arith in
     rw (e, getD-append-add front (s ++ rest) k 0, List·getD-append s rest 0 k (omega arith)) (each-at isSound s k h (omega arith))
 
--- a sound is one of 1 to 56
-pub sound-range : (c : ℕ) → isSound c ≡ true → (1 ≤ c) × (c ≤ 56)
+-- the code of a sound is one of 1 to 56
+pub sound-range : (c : ℕ) → isSoundCode c ≡ true → (1 ≤ c) × (c ≤ 56)
 unfolding isSoundCode
 sound-range c s = either (between 1 13 c)
     (λ q. let a = and-eq-true-iff (leb 1 c) (leb c 13) .0 q in (leb-true 1 c (a .0), omega (arith, leb-true c 13 (a .1))))
     (λ q. let a = and-eq-true-iff (leb 16 c) (leb c 56) .0 (rw q at s) in (omega (arith, leb-true 16 c (a .0)), leb-true c 56 (a .1)))
+
+-- where a mark stands on a tape in an edition
+pub mark-code-there : (e : Edition) (m : List ℕ) (c : ℕ) → isBreak (getD m c 0) ≡ true → getD (tape e m) (markIndex m c) 0
+    ≡ markOf (getD m c 0)
+unfolding tape
+mark-code-there e m c b = read-at e (sounds m) (markIndex m c) ∙ ap (codeIn e) (mark-there m c b) ∙ mark-own e (getD m c 0)
 
 module _ (m : List ℕ) where
   module _ {counts : Counts} (accepted : checkOf m ≡ Accepted counts) where
@@ -98,28 +108,41 @@ module _ (m : List ℕ) where
         let j : i < e - suc b = omega (arith, part-length m (suc b) e within) in
         rw (part-at m (suc b) e i j) (l .past (suc b + i) (omega arith) (omega arith))))
 
-    -- The last mark before that of a place is the mark of the last break before it, since every code between them is a sound.
-    pub last-mark : (b e : ℕ) → e ≤ length m → Ends m e → Last isBreak m e b → Last isNoSound (sounds m) (markIndex m e) (markIndex m b)
-    last-mark b e within ends l =
+    -- The last mark before that of a place is the mark of the last break before it, since every code between them is a sound's.
+    pub last-mark : (ed : Edition) (b e : ℕ) → e ≤ length m → Ends m e → Last isBreak m e b
+        → Last isNoSound (tape ed m) (markIndex m e) (markIndex m b)
+    unfolding tape
+    last-mark ed b e within ends l =
         let s = placed m (suc b) e (l .here) (l .below) ends in
         let n = mark-next m b (l .here) in
         record {
           below = omega (arith, s .size, n);
-          here = rw (mark-there m b (l .here)) (mark-both (λ c. isNoSound c ≡ true) (getD m b 0) refl refl);
-          past = λ j lo hi. rw (s .split)
-              (let r = sound-range _ (inside (s .front) (stretch m (suc b) e) (s .rest) j (word-here b e within l _ _) (omega (arith, s .start, n)) (omega (arith, s .start, s .size))) in
+          here = rw (mark-code-there ed m b (l .here)) (mark-both (λ c. isNoSound c ≡ true) (getD m b 0) refl refl);
+          past = λ j lo hi. rw (read-at, s .split)
+              (let r = sound-range _ (sound-code ed _
+              (inside (s .front) (stretch m (suc b) e) (s .rest) j (word-here b e within l _ _) (omega (arith, s .start, n))
+              (omega (arith, s .start, s .size)))) in
               rw (le-leb А* _ (r .0), le-leb _ Щ (r .1)));
         }
 
     -- A voiced code before the mark of a break, on the whole tape, is one that a cut there changes.
-    pub before-told : (c : ℕ) → isBreak (getD m c 0) ≡ true → isVoiced (getD (0 ∷ sounds m) (markIndex m c) 0) ≡ changedBefore m c
-    unfolding changedBefore wordBefore
-    before-told c b =
+    pub before-told : (e : Edition) (c : ℕ) → isBreak (getD m c 0) ≡ true → isVoiced (getD (0 ∷ tape e m) (markIndex m c) 0)
+        ≡ changedBefore m c
+    unfolding changedBefore wordBefore tape
+    before-told e c b =
         let s = segment false (voicedAt m c) (read (take c m)) in
-        rw (tape-cut m c b, last-at 0 s (markOf (getD m c 0) ∷ onward m (suc c)) (markIndex m c) (mark-index m c b))
+        rw (
+          tape-cut m c b,
+          map-append,
+          last-at 0 (map (codeIn e) s) _ (markIndex m c)
+              (length-map s (codeIn e) ∙ mark-index m c b),
+          last-read e s 0 0 refl,
+        )
         (segment-ends false (voicedAt m c) 0 (read (take c m)) refl (part-spells m (accepted-passes m counts accepted) 0 c))
 
   -- And Ы after it, where the next word begins with и or э, is too.
-  pub after-told : (c : ℕ) → isBreak (getD m c 0) ≡ true → (isHigh (getD (sounds m) (suc (markIndex m c)) 0) && isIOrE (firstByte (wordAfter m c))) ≡ changedAfter m (suc c)
-  unfolding changedAfter wordAfter onward
-  after-told c b = rw (code-after m c b) (rw append-nil at (segment-starts (hardAt m (suc c)) false (read (drop (suc c) m)) []))
+  pub after-told : (e : Edition) (c : ℕ) → isBreak (getD m c 0) ≡ true
+      → (isHigh (getD (tape e m) (suc (markIndex m c)) 0) && isIOrE (firstByte (wordAfter m c))) ≡ changedAfter m (suc c)
+  unfolding changedAfter wordAfter onward tape
+  after-told e c b = rw (read-at, read-same e isHigh refl refl, code-after m c b)
+      (rw append-nil at (segment-starts (hardAt m (suc c)) false (read (drop (suc c) m)) []))

@@ -3,7 +3,9 @@
 use Rattle.laws.proofs.Kit.{ℕ, _<_, _≤_, _≡_, refl, sym, _∙_, true, false, List, [], _∷_, _++_, append-assoc, arith, length}
 use Rattle.laws.proofs.Kit.{ap, map, eqb, eqb-true, eqb-false, ne-eqb}
 use Rattle.spec.specs.Letters.{Message, last, more, read, isBreak}
-use Rattle.spec.specs.Tape.{sounds, wordNames, namesOf, names}
+use mathlib.Core.List.{map-append}
+use Rattle.spec.specs.{Editions.codeIn, declared.Edition.Edition}
+use Rattle.spec.specs.Tape.{sounds, tape, wordNames, namesOf, names}
 use Rattle.spec.specs.Phrases.{putByte, phrases, separated}
 use Rattle.spec.specs.Tables.{among}
 use Rattle.spec.specs.SpokenLevels.{Each}
@@ -15,17 +17,22 @@ use Rattle.laws.proofs.Classes.{either, cond-both, cond-same, break-mar
 use Rattle.laws.proofs.PartsAccepted.{Opens, rows-over, rows-after, clear-followed, last-firm}
 use Rattle.laws.proofs.Stretch.{meet, read-join, segment-join}
 
--- A pause splits a tape.
-pub tape-pause : (a b : List ℕ) → sounds (a ++ (pause ∷ b)) ≡ sounds a ++ (63 ∷ sounds b)
+-- A pause splits the sounds of a message,
+sounds-pause : (a b : List ℕ) → sounds (a ++ (pause ∷ b)) ≡ sounds a ++ (63 ∷ sounds b)
 unfolding everything
-tape-pause a b = rw (read-join a b pause refl, segment-join false false (read a) pause (read b))
+sounds-pause a b = rw (read-join a b pause refl, segment-join false false (read a) pause (read b))
+
+-- and so its tape in an edition.
+pub tape-pause : (e : Edition) (a b : List ℕ) → tape e (a ++ (pause ∷ b)) ≡ tape e a ++ (63 ∷ tape e b)
+unfolding tape codeIn
+tape-pause e a b = ap (map (codeIn e)) (sounds-pause a b) ∙ map-append (codeIn e) (sounds a) (63 ∷ sounds b)
 
 -- So the tape of phrases with pauses between them, whatever they are, is their tapes with 63 between them.
-pub tape-separated : (fs : List (List ℕ)) → sounds (separated pause fs) ≡ separated 63 (map sounds fs)
+pub tape-separated : (e : Edition) (fs : List (List ℕ)) → tape e (separated pause fs) ≡ separated 63 (map (tape e) fs)
 unfolding everything
-tape-separated [] = refl
-tape-separated (f ∷ []) = refl
-tape-separated (f ∷ g ∷ fs) = tape-pause f (separated pause (g ∷ fs)) ∙ ap (λ t. sounds f ++ (63 ∷ t)) (tape-separated (g ∷ fs))
+tape-separated e [] = refl
+tape-separated e (f ∷ []) = refl
+tape-separated e (f ∷ g ∷ fs) = tape-pause e f (separated pause (g ∷ fs)) ∙ ap (λ t. tape e f ++ (63 ∷ t)) (tape-separated e (g ∷ fs))
 
 -- A message has a phrase,
 put-some : (b : ℕ) (fs : List (List ℕ)) → 0 < length (putByte b fs)
@@ -72,8 +79,8 @@ phrases-without (b ∷ m) = either (eqb b pause) (λ e. rw e (refl, phrases-with
     (λ e. rw e (put-without b (phrases m) e (phrases-without m)))
 
 -- and its tape is their tapes with 63 between them.
-pub phrases-tape : (m : List ℕ) → sounds m ≡ separated 63 (map sounds (phrases m))
-phrases-tape m = ap sounds (sym (phrases-message m)) ∙ tape-separated (phrases m)
+pub phrases-tape : (e : Edition) (m : List ℕ) → tape e m ≡ separated 63 (map (tape e) (phrases m))
+phrases-tape e m = ap (tape e) (sym (phrases-message m)) ∙ tape-separated e (phrases m)
 
 -- A break of either kind splits the names.
 names-meet : (a : Message) (x : ℕ) (b : Message) → namesOf (meet a x b) ≡ namesOf a ++ namesOf b

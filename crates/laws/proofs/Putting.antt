@@ -1,6 +1,7 @@
 -- Bytes put into a lent output, right before a place or from a place on: what was put beside other bytes was put together with them.
 use Rattle.laws.proofs.Kit.{ℕ, _+_, _-_, _<_, _≤_, arith, add-one, _≡_, refl, sym, ap, _∙_, List, [], _∷_, _++_, append-assoc, append-nil, length, take, drop, set, take-append-drop, length-append, length-take, length-drop, length-take-le, take-append-le, take-take, take-at, drop-at, drop-drop, drop-of-length-le, take-all, set-split}
-use Rattle.spec.specs.{Tape.tape, Layers.TapePromise}
+use Rattle.spec.specs.{Tape.sounds, Tape.tape, Layers.TapePromise, declared.Edition.Edition}
+use Rattle.laws.proofs.Editions.{tape-length}
 use Rattle.laws.specs.Putting.{Put}
 
 -- nothing put leaves the output as it is
@@ -48,9 +49,9 @@ module _ (codes out out′ : List ℕ) (at r : ℕ) (h : at ≤ length out) (p :
       record { place = p .place; bytes = p .bytes ∙ rw (f, put-rest) }
 
 -- the tape that the transcriber promises was put
-pub put-tape : {m out out′ : List ℕ} {end steps : ℕ} → length (tape m) ≤ end → TapePromise m out out′ end steps
-    → Put (tape m) out out′ end (end - length (tape m))
-put-tape h p = record { place = omega (arith, h); bytes = p .output }
+pub put-tape : {e : Edition} {m out out′ : List ℕ} {end steps : ℕ} → length (sounds m) ≤ end → TapePromise e m out out′ end steps
+    → Put (tape e m) out out′ end (end - length (tape e m))
+put-tape {e} {m} h p = record { place = omega (arith, h, tape-length e m); bytes = p .output }
 
 -- codes put before a place as many as they are stand at the start
 pub put-first : (codes out out′ : List ℕ) (at r : ℕ) → at ≡ length codes → Put codes out out′ at r → out′ ≡ codes ++ drop at out

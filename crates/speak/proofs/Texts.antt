@@ -1,6 +1,7 @@
 -- With buffers as long as the longest text the reader refuses with 13 alone and the editor nothing, so what is answered goes by the text.
 use Rattle.laws.proofs.Kit.{ℕ, _<_, _≤_, arith, _≡_, _≢_, sym, ap, _∙_, Bool, true, false, true≢false, ⊎-elim, List, [], _++_, length, take}
 use Rattle.laws.proofs.Kit.{eq-eqb, ne-eqb, le-leb, lt-leb}
+use Rattle.spec.specs.declared.Edition.the-variants.{One}
 use Rattle.spec.specs.Answers.{numberOf, placeOf, within, tapeAnswer}
 use Rattle.spec.specs.Editing.{edited, editAnswer, EditPromise}
 use Rattle.spec.specs.Utf8.{decoded, readTo, readAnswer, ReadPromise}
@@ -61,7 +62,7 @@ module _ (t : List ℕ) {out out′ : List ℕ} {a : Answer} (p : ReadPromise t 
       (read-demands t .settled out out′ a p .ended)
 
   -- what is read is edited and spoken
-  pub text-spoken : {n k : ℕ} → a ≡ Written n k → textAnswer t ≡ tapeAnswer (edited (decoded t)) 8192
+  pub text-spoken : {n k : ℕ} → a ≡ Written n k → textAnswer t ≡ tapeAnswer One (edited (decoded t)) 8192
   unfolding textAnswer afterWriting
   text-spoken e = rw (same-answer, e)
 
@@ -79,7 +80,8 @@ unfolding printedText
 text-long t h = rw (lt-leb (length t) 65536 h)
 
 -- and for any other its answer and a newline.
-pub text-short : (t : List ℕ) → length t ≤ 65536 → printedText t ≡ printedAnswer (textAnswer t) (tape (edited (decoded t))) ++ ascii "\n"
+pub text-short : (t : List ℕ) → length t ≤ 65536 → printedText t
+    ≡ printedAnswer (textAnswer t) (tape One (edited (decoded t))) ++ ascii "\n"
 unfolding printedText
 text-short t h = rw (le-leb (length t) 65536 h)
 

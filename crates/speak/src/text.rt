@@ -15,6 +15,7 @@ use console::text::put_bytes;
 use console::text::put_refusal;
 use editor::edit;
 use spec::Answer;
+use spec::Edition;
 use utf8::reader::read_utf8;
 
 // The longest text that is read.
@@ -37,7 +38,9 @@ fn edit_read(m: &[u8], plain: &mut [u8]) -> usize
 fn put_read(t: &[u8], read: &mut [u8], plain: &mut [u8], print: &mut [u8]) -> usize
     requires { ⌜ (length (now t) ≤ 65536) × (length (now read) ≡ 65536)
         × (length (now plain) ≡ 65536) × (32768 ≤ length (now print)) ⌝ }
-    ensures { λ r. ⌜ Appended (printedAnswer (textAnswer (now (t .entry))) (tape (edited (decoded (now (t .entry)))))) (now (print .entry)) (now (print .exit)) 0 r ⌝ }
+    ensures { λ r. ⌜ Appended (printedAnswer (textAnswer (now (t .entry)))
+        (tape Edition.One (edited (decoded (now (t .entry))))))
+        (now (print .entry)) (now (print .exit)) 0 r ⌝ }
     ensures { λ r. ⌜ r ≤ 32768 ⌝ }
 {
     match read_utf8(t, read) {

@@ -1,4 +1,4 @@
--- The phrase book (paper 02, requests 6 and 7): lists of sets, of books, of lookups and of additions, proved by computing the definitions.
+-- The phrase book (paper 02, requests 6 to 8): lists of sets, of books, of lookups and of additions, proved by computing the definitions.
 -- Assumes nothing.
 use Prim.Native.Nat.{ℕ}
 use Prim.Native.String as text
@@ -12,6 +12,8 @@ use Rattle.spec.specs.SpokenLevels.{bytes}
 use Rattle.spec.specs.Listeners.{mayHear}
 use Rattle.spec.specs.Book.{Phrase, bookStorage, records, Reading, holds, unsound, readBook, bookIn, findAnswer, tapeAfter}
 use Rattle.spec.specs.Book.{NewPhrase, withAddition, addAnswer, locateAnswer}
+use Rattle.spec.specs.declared.Edition.{Edition}
+use Rattle.spec.specs.declared.Edition.the-variants.{One, Two}
 use Rattle.spec.specs.declared.Answer.{Answer}
 use Rattle.spec.specs.declared.Answer.the-variants as answer
 use Rattle.spec.specs.declared.Found.{Found}
@@ -148,31 +150,34 @@ pub record Added : Type 0 where
   pub listener : Listener
   pub buffer : List ℕ
   pub used : ℕ
+  pub edition : Edition
   pub number : ℕ
   pub set : ℕ
   pub message : text.String
   pub answer : Answer
   pub after : List ℕ
 
-abbrev adds : List ℕ → ℕ → ℕ → ℕ → text.String → ℕ → List ℕ → Added
-adds buffer used n set m size after =
+abbrev adds : List ℕ → ℕ → Edition → ℕ → ℕ → text.String → ℕ → List ℕ → Added
+adds buffer used e n set m size after =
     let r = answer.Written size 0 in
-    record { listener = Dispatch; buffer = buffer; used = used; number = n; set = set; message = m; answer = r; after = after }
+    record { listener = Dispatch; buffer = buffer; used = used; edition = e; number = n; set = set; message = m; answer = r; after = after }
 
 abbrev refuses : Listener → List ℕ → ℕ → ℕ → text.String → ℕ → ℕ → Added
 refuses l buffer used n m k p =
     let r = answer.Refused (refusal k p) in
-    record { listener = l; buffer = buffer; used = used; number = n; set = 5; message = m; answer = r; after = buffer }
+    record { listener = l; buffer = buffer; used = used; edition = Two; number = n; set = 5; message = m; answer = r; after = buffer }
 
--- To an empty book with just room, with a byte more, and with a byte less. To a book, whose last bytes stay; a count above the buffer's
--- length. A number that is equal to the last, below it, and any after 65535. Then the order: 17 before the message's refusal, before the
--- book's and before all others; the message's refusal before the book's, 15 before 16 at the end, and 11 last.
+-- To an empty book with just room, with a byte more, in either edition, and with a byte less. To a book, whose last bytes stay; a count
+-- above the buffer's length. A number that is equal to the last, below it, and any after 65535. Then the order: 17 before the message's
+-- refusal, before the book's and before all others; the message's refusal before the book's, 15 before 16 at the end, and 11 last.
 unfoldable pub additions : List Added
 additions =
-    adds (7 ∷ 7 ∷ 7 ∷ 7 ∷ 7 ∷ 7 ∷ 7 ∷ 7 ∷ 7 ∷ 7 ∷ []) 0 1 5 "ду*б" 10 first ∷
-    adds (second ++ (7 ∷ 7 ∷ 7 ∷ [])) 0 1 5 "ду*б" 10 (first ++ (7 ∷ [])) ∷
+    adds (7 ∷ 7 ∷ 7 ∷ 7 ∷ 7 ∷ 7 ∷ 7 ∷ 7 ∷ 7 ∷ 7 ∷ []) 0 One 1 5 "ду*б" 10 first ∷
+    adds (second ++ (7 ∷ 7 ∷ 7 ∷ [])) 0 One 1 5 "ду*б" 10 (first ++ (7 ∷ [])) ∷
+    adds (first ++ first) 0 One 3 5 "я" 9 (82 ∷ 159 ∷ 3 ∷ 0 ∷ 5 ∷ 2 ∷ 0 ∷ 28 ∷ 8 ∷ 39 ∷ first) ∷
+    adds (first ++ first) 0 Two 3 5 "я" 9 (82 ∷ 159 ∷ 3 ∷ 0 ∷ 5 ∷ 2 ∷ 0 ∷ 28 ∷ 10 ∷ 39 ∷ first) ∷
     refuses Dispatch (7 ∷ second) 0 1 "ду*б" 11 10 ∷
-    adds (first ++ first) 10 770 250 "а*" 18 (first ++ second ++ (6 ∷ 39 ∷ [])) ∷
+    adds (first ++ first) 10 One 770 250 "а*" 18 (first ++ second ++ (6 ∷ 39 ∷ [])) ∷
     refuses Dispatch first 1000 770 "а*" 11 18 ∷
     refuses Dispatch (first ++ first) 10 1 "а*" 16 10 ∷
     refuses Dispatch (first ++ first) 10 0 "а*" 16 10 ∷
@@ -187,7 +192,7 @@ additions =
     refuses Dispatch first 10 1 "а*" 16 10 ∷ []
 
 abbrev asks : Added → NewPhrase
-asks a = record { number = a .number; set = a .set; message = bytes (a .message) }
+asks a = record { edition = a .edition; number = a .number; set = a .set; message = bytes (a .message) }
 
 abbrev answerOf : Added → Answer
 answerOf a = addAnswer bookStorage (a .listener) (bookIn (a .buffer) (a .used)) (asks a) (length (a .buffer))

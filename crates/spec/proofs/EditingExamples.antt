@@ -8,6 +8,7 @@ use Rattle.spec.specs.Alphabet.{gap, «а»}
 use Rattle.spec.specs.Tables.{ascii}
 use Rattle.spec.specs.Refusals.{refusal}
 use Rattle.spec.specs.Answers.{tapeAnswer}
+use Rattle.spec.specs.declared.Edition.the-variants.{One}
 use Rattle.spec.specs.Editing.{edited, editAnswer}
 use Rattle.spec.specs.declared.Answer.{Answer}
 use Rattle.spec.specs.declared.Answer.the-variants.{Written, Refused}
@@ -66,6 +67,6 @@ answered-right = refl
 unfoldable pub long : List ℕ
 long = replicate 4096 gap ++ («а» ∷ [])
 
-pub long-spoken : (tapeAnswer long 9 ∷ tapeAnswer (edited long) 9 ∷ []) ≡ (Refused (refusal 2 0) ∷ Written 1 0 ∷ [])
+pub long-spoken : (tapeAnswer One long 9 ∷ tapeAnswer One (edited long) 9 ∷ []) ≡ (Refused (refusal 2 0) ∷ Written 1 0 ∷ [])
 unfolding everything long
 long-spoken = refl

@@ -1,6 +1,7 @@
 pub mod BookExamples
 pub mod Computed
 pub mod EditingExamples
+pub mod EditionExamples
 pub mod LevelExamples
 pub mod NameExamples
 pub mod PhraseExamples

@@ -5,6 +5,7 @@ use mathlib.Core.Path.{_≡_, refl}
 use mathlib.Core.List.{List, [], _∷_, map}
 use Rattle.spec.specs.Alphabet.{gap, pause, mark, «а», «б», «в», «д», «о», «р», «т», «у», «ы»}
 use Rattle.spec.specs.Tape.{tape}
+use Rattle.spec.specs.declared.Edition.the-variants.{One}
 use Rattle.spec.specs.Phrases.{phrases, separated}
 use Rattle.spec.proofs.Computed.{everything}
 
@@ -31,6 +32,6 @@ unfolding everything phrased
 phrased-right = refl
 
 -- and their tapes with 63 between them are the message's
-pub phrased-tapes : map (λ e. separated 63 (map tape (e .phrases))) phrased ≡ map (λ e. tape (e .message)) phrased
+pub phrased-tapes : map (λ e. separated 63 (map (tape One) (e .phrases))) phrased ≡ map (λ e. tape One (e .message)) phrased
 unfolding everything phrased
 phrased-tapes = refl

@@ -7,6 +7,7 @@ use lib.ListN.{replicate}
 use Rattle.spec.specs.Alphabet.{gap, pause, mark, «а», «б», «к», «о», «ъ», «ь», «я»}
 use Rattle.spec.specs.Refusals.{refusal}
 use Rattle.spec.specs.Answers.{joinAnswer}
+use Rattle.spec.specs.declared.Edition.the-variants.{One}
 use Rattle.spec.specs.declared.Answer.the-variants.{Refused}
 use Rattle.spec.proofs.Computed.{everything}
 
@@ -66,6 +67,7 @@ turnedAway =
     (record { message = «а» ∷ gap ∷ «б» ∷ []; cuts = 0 ∷ []; room = 9999; number = 12; place = 0 }) ∷
     []
 
-pub turned-away : map (λ e. joinAnswer (e .message) (e .cuts) (e .room)) turnedAway ≡ map (λ e. Refused (refusal (e .number) (e .place))) turnedAway
+pub turned-away : map (λ e. joinAnswer One (e .message) (e .cuts) (e .room)) turnedAway
+    ≡ map (λ e. Refused (refusal (e .number) (e .place))) turnedAway
 unfolding everything turnedAway flatten
 turned-away = refl

@@ -13,6 +13,7 @@ use Rattle.spec.specs.Voicing.{codesOf}
 use Rattle.spec.specs.Tape.{tape}
 use Rattle.spec.specs.Joints.{joined}
 use Rattle.spec.specs.Answers.{tapeAnswer, joinAnswer}
+use Rattle.spec.specs.declared.Edition.the-variants.{One}
 use Rattle.spec.specs.declared.Answer.{Answer}
 use Rattle.spec.specs.declared.Syllable.{Syllable}
 use Rattle.spec.specs.declared.Answer.the-variants.{Written}
@@ -97,10 +98,10 @@ expected e = record { whole = e .whole; parts = e .parts; transcribed = Written 
 
 abbrev pub found : Example → Heard
 found e = record {
-  whole = tape (e .message);
-  parts = joined (e .message) (e .cuts);
-  transcribed = tapeAnswer (e .message) room;
-  joins = joinAnswer (e .message) (e .cuts) room;
+  whole = tape One (e .message);
+  parts = joined One (e .message) (e .cuts);
+  transcribed = tapeAnswer One (e .message) room;
+  joins = joinAnswer One (e .message) (e .cuts) room;
 }
 
 pub words : map found examples ≡ map expected examples

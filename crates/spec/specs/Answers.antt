@@ -11,6 +11,7 @@ use Rattle.spec.specs.Numbers.{shortOutput, misplacedCut}
 use Rattle.spec.specs.Tape.{tape, names}
 use Rattle.spec.specs.Refusals.{refusal, checkOf}
 use Rattle.spec.specs.Joints.{joined, liveCount, badCut}
+use Rattle.spec.specs.declared.Edition.{Edition}
 use Rattle.spec.specs.declared.Checked.{Checked}
 use Rattle.spec.specs.declared.Answer.{Answer}
 use Rattle.spec.specs.declared.Checked.the-variants as checked
@@ -70,16 +71,16 @@ outputAfter (Refused r) text out = out
 unfoldable pub nameAnswer : List ℕ → ℕ → Answer
 nameAnswer m room = afterCheck (checkOf m) (within room (length (names m)) 0)
 
--- the transcriber
-unfoldable pub tapeAnswer : List ℕ → ℕ → Answer
-tapeAnswer m room = afterCheck (checkOf m) (within room (length (tape m)) 0)
+-- the transcriber, in an edition
+unfoldable pub tapeAnswer : Edition → List ℕ → ℕ → Answer
+tapeAnswer e m room = afterCheck (checkOf m) (within room (length (tape e m)) 0)
 
 -- the joiner: number 12 after the check's and before 11
-unfoldable pub joinAnswer : List ℕ → List ℕ → ℕ → Answer
-joinAnswer m cuts room =
+unfoldable pub joinAnswer : Edition → List ℕ → List ℕ → ℕ → Answer
+joinAnswer e m cuts room =
     afterCheck (checkOf m)
     (cond (eqb (badCut m cuts) (length cuts))
-    (within room (length (joined m cuts)) (liveCount m cuts))
+    (within room (length (joined e m cuts)) (liveCount m cuts))
     (Refused (refusal misplacedCut (badCut m cuts))))
 
 -- What an operation promises of its answer r and of what the lent output held, out, and holds
@@ -104,11 +105,13 @@ pub record CheckPromise (m : List ℕ) (r : Checked) : Type 0 where
 abbrev pub NamePromise : List ℕ → List ℕ → List ℕ → Answer → Type 0
 NamePromise m out out′ r = Promise (nameAnswer m (length out)) (names m) out out′ r
 
-abbrev pub TranscribePromise : List ℕ → List ℕ → List ℕ → Answer → Type 0
-TranscribePromise m out out′ r = Promise (tapeAnswer m (length out)) (tape m) out out′ r
+abbrev pub TranscribePromise : Edition → List ℕ → List ℕ → List ℕ → Answer → Type 0
+TranscribePromise e m out out′ r =
+    Promise (tapeAnswer e m (length out)) (tape e m) out out′ r
 
-abbrev pub JoinPromise : List ℕ → List ℕ → List ℕ → List ℕ → Answer → Type 0
-JoinPromise m cuts out out′ r = Promise (joinAnswer m cuts (length out)) (joined m cuts) out out′ r
+abbrev pub JoinPromise : Edition → List ℕ → List ℕ → List ℕ → List ℕ → Answer → Type 0
+JoinPromise e m cuts out out′ r =
+    Promise (joinAnswer e m cuts (length out)) (joined e m cuts) out out′ r
 
 -- A promise carried on in another form: some answer keeps it, and r says that answer.
 pub record Carried {A R : Type 0} (Kept : A → Type 0) (Said : A → R → Type 0) (r : R) : Type 0 where

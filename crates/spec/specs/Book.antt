@@ -1,4 +1,4 @@
--- Paper 02, requests 6 and 7, a phrase book: taped phrases under numbers, each with its set of
+-- Paper 02, requests 6, 7 and 8, a phrase book: taped phrases under numbers, each with its set of
 -- listeners, in a lent buffer.
 -- Assumes nothing: these are definitions.
 use Prim.Native.Nat.{ℕ, zero, suc, _+_, _-_, _*_, _/_, _%_, _<_, _≤_}
@@ -13,6 +13,7 @@ use Rattle.spec.specs.Tables.{same}
 use Rattle.spec.specs.Refusals.{refusal, checkOf}
 use Rattle.spec.specs.Answers.{within, afterCheck, Promise}
 use Rattle.spec.specs.Listeners.{mayHear, mayWrite, withheld}
+use Rattle.spec.specs.declared.Edition.{Edition}
 use Rattle.spec.specs.declared.Listener.{Listener}
 use Rattle.spec.specs.declared.Refusal.{Refusal}
 use Rattle.spec.specs.declared.Answer.{Answer}
@@ -153,8 +154,9 @@ afterBook (holds fs) n bookEnd a =
     cond (leb (leastAfter 0 fs) n) a (answer.Refused (refusal numberNotAbove bookEnd))
 afterBook (unsound r) n bookEnd a = answer.Refused r
 
--- what an addition asks for: a message under a number, for a set of listeners
+-- what an addition asks for: a message in an edition under a number, for a set of listeners
 pub record NewPhrase : Type 0 where
+  pub edition : Edition
   pub number : ℕ
   pub set : ℕ
   pub message : List ℕ
@@ -251,14 +253,15 @@ module _ (st : Storage) where
     pub answer : r ≡ findAnswer l (readBook (bookIn buffer used)) n
     pub tape : new ≡ tapeAfter l (readBook (bookIn buffer used)) n old
 
-  -- Request 6, the writer: the phrase that an addition makes, with the message's tape, and the book
-  -- with the addition
+  -- Request 6, the writer: the phrase that an addition makes, with the message's tape in the
+  -- edition that it names (request 8), and the book with the addition. A record does not tell the
+  -- edition.
   abbrev pub phraseOf : NewPhrase → Phrase
   phraseOf x = record {
     number = x .number;
     set = x .set;
-    count = length (tape (x .message));
-    stored = st .store (tape (x .message));
+    count = length (tape (x .edition) (x .message));
+    stored = st .store (tape (x .edition) (x .message));
   }
 
   unfoldable pub withAddition : List ℕ → NewPhrase → List ℕ

@@ -254,8 +254,8 @@ module _ (st : Storage) where
 
 -- A book in the plain storage, whose bytes behind a record's head are the tape itself.
 pub record PlainDemands (buffer : List ℕ) (used : ℕ) : Type 0 where
-  -- the phrase that an addition makes has the message's tape
-  pub tape : (x : NewPhrase) → tapeOf plain (phraseOf plain x) ≡ tape (x .message)
+  -- the phrase that an addition makes has the message's tape in its edition
+  pub tape : (x : NewPhrase) → tapeOf plain (phraseOf plain x) ≡ tape (x .edition) (x .message)
   -- the book gets longer by a head, 7 bytes, and by at most two bytes for each byte of the message
   pub most : (x : NewPhrase) → let book = bookIn buffer used in
       length (withAddition plain book x) ≤ length book + (7 + 2 * length (x .message))

@@ -179,6 +179,11 @@ abbrev pub Ш : ℕ
 abbrev pub Щ : ℕ
 Щ = 56
 
+-- The reduced vowel that the rows of е, я and а make (paper 02, request 8). It has no code of its
+-- own: each edition reads it as one, Э1 or И1.
+abbrev pub ИЭ : ℕ
+ИЭ = 58
+
 -- 'Codes', the codes of a gap and of a pause
 unfoldable pub markOf : ℕ → ℕ
 markOf b = cond (eqb b pause) 63 0
@@ -190,9 +195,9 @@ isMarkCode c = eqb c 0 || eqb c 63
 unfoldable pub isSoundCode : ℕ → Bool
 isSoundCode c = between А* Э2 c || between Б Щ c
 
--- what the passes make of a word: each sound is its code
+-- what the passes make of a word: the sounds that are codes, and ИЭ
 abbrev pub isSound : ℕ → Bool
-isSound c = isSoundCode c
+isSound c = isSoundCode c || eqb c ИЭ
 
 -- what can stand on a tape
 unfoldable pub isCode : ℕ → Bool

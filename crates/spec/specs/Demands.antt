@@ -1,8 +1,8 @@
 -- The operator's three demands (paper 00) as statements over what the operations promise. Each
 -- operation's contract is its promise, and `demand1`, `demand2` and `demand3` of crate laws prove
 -- these of it. What the requests of paper 02 add has a file each: EditDemands, Utf8Demands,
--- LevelDemands, BookDemands. That no step goes outside the lent memory and that every step ends is
--- no statement over values: it is proved of each function by the language.
+-- LevelDemands, BookDemands, EditionDemands. That no step goes outside the lent memory and that
+-- every step ends is no statement over values: it is proved of each function by the language.
 -- Assumes nothing: these are definitions.
 use Prim.Native.Nat.{ℕ, _<_, _≤_}
 use mathlib.Core.Path.{_≡_}
@@ -19,6 +19,7 @@ use Rattle.spec.specs.Joints.{DiffersAt, isLive, NoneLive, liveCount, Fi
 use Rattle.spec.specs.Answers.{numberOf, placeOf, lengthOf, liveOf, checkedNumber}
 use Rattle.spec.specs.Answers.{checkedPlace, checkedCodes, checkedNames, CheckPromise}
 use Rattle.spec.specs.Answers.{NamePromise, TranscribePromise, JoinPromise}
+use Rattle.spec.specs.declared.Edition.{Edition}
 use Rattle.spec.specs.declared.Checked.{Checked}
 use Rattle.spec.specs.declared.Answer.{Answer}
 
@@ -68,11 +69,13 @@ pub record Demand1 (m : List ℕ) : Type 0 where
   -- and so each operation that is lent an output: carried out, or refused with every byte left
   pub naming : (out out′ : List ℕ) (r : Answer) → NamePromise m out out′ r
       → Settled (Due m [] (length (names m)) (length out)) (names m) 0 out out′ r
-  pub transcriber : (out out′ : List ℕ) (r : Answer) → TranscribePromise m out out′ r
-      → Settled (Due m [] (length (tape m)) (length out)) (tape m) 0 out out′ r
-  pub joiner : (cuts out out′ : List ℕ) (r : Answer) → JoinPromise m cuts out out′ r
-      → Settled (Due m cuts (length (joined m cuts)) (length out))
-      (joined m cuts) (liveCount m cuts) out out′ r
+  pub transcriber : (e : Edition) (out out′ : List ℕ) (r : Answer)
+      → TranscribePromise e m out out′ r
+      → Settled (Due m [] (length (tape e m)) (length out)) (tape e m) 0 out out′ r
+  pub joiner : (e : Edition) (cuts out out′ : List ℕ) (r : Answer)
+      → JoinPromise e m cuts out out′ r
+      → Settled (Due m cuts (length (joined e m cuts)) (length out))
+      (joined e m cuts) (liveCount m cuts) out out′ r
 
 -- An operation accepts exactly what it must, where Accepted says what that is, and refuses exactly
 -- as it must.
@@ -91,39 +94,42 @@ pub record Demand2 (m : List ℕ) : Type 0 where
   pub accepts : (r : Checked) → CheckPromise m r → (checkedNumber r ≡ 0) ↔ NoneFits m
   pub refuses : (r : Checked) → CheckPromise m r → (n p : ℕ) → 1 ≤ n
       → ((checkedNumber r ≡ n) × (checkedPlace r ≡ p)) ↔ Given m n p
-  -- it tells how much must be lent
-  pub counts : (r : Checked) → CheckPromise m r → NoneFits m
-      → (checkedCodes r ≡ length (tape m)) × (checkedNames r ≡ length (names m))
+  -- it tells how much must be lent, for the tape in either edition
+  pub counts : (r : Checked) → CheckPromise m r → NoneFits m → (e : Edition)
+      → (checkedCodes r ≡ length (tape e m)) × (checkedNames r ≡ length (names m))
   -- the transcriber accepts exactly the same and gives the tape that the passes define, and the
   -- naming operation the names
-  pub transcriber : (out out′ : List ℕ) (r : Answer) → TranscribePromise m out out′ r
-      → Exactly (NoneFits m) (Due m [] (length (tape m)) (length out)) (tape m) 0 out out′ r
+  pub transcriber : (e : Edition) (out out′ : List ℕ) (r : Answer)
+      → TranscribePromise e m out out′ r
+      → Exactly (NoneFits m) (Due m [] (length (tape e m)) (length out)) (tape e m) 0 out out′ r
   pub naming : (out out′ : List ℕ) (r : Answer) → NamePromise m out out′ r
       → Exactly (NoneFits m) (Due m [] (length (names m)) (length out)) (names m) 0 out out′ r
   -- the joiner judges its list of cuts as exactly
-  pub joiner : (cuts out out′ : List ℕ) (r : Answer) → JoinPromise m cuts out out′ r
-      → Exactly (NoneFits m × Rising m cuts) (Due m cuts (length (joined m cuts)) (length out)) (joined m cuts) (liveCount m cuts) out out′ r
+  pub joiner : (e : Edition) (cuts out out′ : List ℕ) (r : Answer)
+      → JoinPromise e m cuts out out′ r
+      → Exactly (NoneFits m × Rising m cuts) (Due m cuts (length (joined e m cuts)) (length out))
+      (joined e m cuts) (liveCount m cuts) out out′ r
 
--- The first tape is the whole message's, `tape m`; the second its parts' and the marks of the cuts
--- between them, `joined m cuts`.
-pub record TwoTapes (m cuts : List ℕ) : Type 0 where
+-- The two tapes in an edition. The first is the whole message's, `tape e m`; the second its parts'
+-- and the marks of the cuts between them, `joined e m cuts`.
+pub record TwoTapes (e : Edition) (m cuts : List ℕ) : Type 0 where
   -- each part is an accepted message of its own
   pub parts : EachPart NoneFits m cuts
   -- whatever the list, there are as many codes on the one as on the other
-  pub lengths : length (joined m cuts) ≡ length (tape m)
+  pub lengths : length (joined e m cuts) ≡ length (tape e m)
   -- a live cut of the list makes them differ, and nothing else does
-  pub equal : (joined m cuts ≡ tape m) ↔ NoneLive m cuts
+  pub equal : (joined e m cuts ≡ tape e m) ↔ NoneLive m cuts
   -- each cut of the list has its mark in both tapes, at one and the same index
-  pub whole : (c : ℕ) → CutOf c cuts → SplitAt m c (tape m)
-  pub pieces : (c : ℕ) → CutOf c cuts → SplitAt m c (joined m cuts)
+  pub whole : (c : ℕ) → CutOf c cuts → SplitAt m c (tape e m)
+  pub pieces : (c : ℕ) → CutOf c cuts → SplitAt m c (joined e m cuts)
   -- and a live one is heard there: a code beside that mark is another
   pub differs : (c : ℕ) → CutOf c cuts → isLive m c ≡ true
-      → DiffersAt (tape m) (joined m cuts) (markIndex m c)
+      → DiffersAt (tape e m) (joined e m cuts) (markIndex m c)
 
 -- The output begins with the second tape, and a count of 0 tells that the first would be no other.
-pub record Joins (m cuts out out′ : List ℕ) (r : Answer) : Type 0 where
-  pub written : CarriedOut (joined m cuts) (liveCount m cuts) out out′ r
-  pub equal : (joined m cuts ≡ tape m) ↔ (liveOf r ≡ 0)
+pub record Joins (e : Edition) (m cuts out out′ : List ℕ) (r : Answer) : Type 0 where
+  pub written : CarriedOut (joined e m cuts) (liveCount m cuts) out out′ r
+  pub equal : (joined e m cuts ≡ tape e m) ↔ (liveOf r ≡ 0)
 
 -- Demand 3, for an accepted message m.
 pub record Demand3 (m : List ℕ) : Type 0 where
@@ -131,9 +137,9 @@ pub record Demand3 (m : List ℕ) : Type 0 where
   pub empty : Rising m []
   pub full : Rising m (breaks m)
   pub every : (c : ℕ) → isBreak (getD m c 0) ≡ true → CutOf c (breaks m)
-  -- one claim over the whole list
-  pub tapes : (cuts : List ℕ) → Rising m cuts → TwoTapes m cuts
+  -- one claim over the whole list, in either edition, in which both tapes are read
+  pub tapes : (e : Edition) (cuts : List ℕ) → Rising m cuts → TwoTapes e m cuts
   -- the joiner, with room for the second tape, whatever stood there before
-  pub joiner : (cuts : List ℕ) → Rising m cuts → (out out′ : List ℕ) (r : Answer)
-      → length (joined m cuts) ≤ length out
-      → JoinPromise m cuts out out′ r → Joins m cuts out out′ r
+  pub joiner : (e : Edition) (cuts : List ℕ) → Rising m cuts → (out out′ : List ℕ) (r : Answer)
+      → length (joined e m cuts) ≤ length out
+      → JoinPromise e m cuts out out′ r → Joins e m cuts out out′ r

@@ -14,6 +14,7 @@ use Rattle.spec.specs.Codes.{markOf, isMarkCode}
 use Rattle.spec.specs.Voicing.{voices}
 use Rattle.spec.specs.Vowels.{endsHard}
 use Rattle.spec.specs.Tape.{sounds, tape}
+use Rattle.spec.specs.declared.Edition.{Edition}
 
 -- a strictly rising list of places of breaks of the message, none below the least
 abbrev pub RisingFrom : List ℕ → ℕ → List ℕ → Type 0
@@ -44,9 +45,9 @@ joinedFrom reading m a [] = reading (drop a m)
 joinedFrom reading m a (c ∷ cuts) =
     reading (take (c - a) (drop a m)) ++ (markOf (getD m c 0) ∷ joinedFrom reading m (suc c) cuts)
 
--- the second tape: the parts' tapes
-unfoldable pub joined : List ℕ → List ℕ → List ℕ
-joined m cuts = joinedFrom tape m 0 cuts
+-- the second tape: the parts' tapes, all in the same edition
+unfoldable pub joined : Edition → List ℕ → List ℕ → List ℕ
+joined e m cuts = joinedFrom (tape e) m 0 cuts
 
 -- a claim on each of these parts
 abbrev pub EachPartFrom : (List ℕ → Type 0) → List ℕ → ℕ → List ℕ → Type 0
@@ -105,8 +106,8 @@ unfoldable pub beginsWithIOrE : List Letter → Bool
 beginsWithIOrE [] = false
 beginsWithIOrE (l ∷ w) = eqb (l .byte) «и» || (eqb (l .byte) «э» && not (l .stressed))
 
--- (a): an obstruent before the cut, and sounds that voice it just after its mark in the whole
--- message's tape
+-- (a): an obstruent before the cut, and sounds that voice it just after its mark among those of the
+-- whole message, which the tape of either edition tells alike (EditionDemands)
 unfoldable pub liveByVoice : List ℕ → ℕ → Bool
 liveByVoice m c = endsInObstruent (wordBefore m c) && voices (drop (suc (markIndex m c)) (sounds m))
 

@@ -12,6 +12,7 @@ use Rattle.spec.specs.Tape.{tape}
 use Rattle.spec.specs.Refusals.{NoneFits}
 use Rattle.spec.specs.Answers.{numberOf, lengthOf, TranscribePromise}
 use Rattle.spec.specs.SpokenLevels.{levelWords, Each, marksIn, spoken, InRange, LevelPromise}
+use Rattle.spec.specs.declared.Edition.{Edition}
 use Rattle.spec.specs.declared.Answer.{Answer}
 use Rattle.spec.specs.Demands.{CarriedOut, Settled, Exactly}
 
@@ -41,7 +42,8 @@ pub record LevelDemands (level : ℤ) : Type 0 where
   pub marks : Each (λ w. marksIn w ≡ 1) (levelWords level)
   -- the words are an accepted message
   pub message : InRange level → NoneFits (spoken level)
-  -- so the transcriber, lent an output long enough, gives its tape
-  pub transcriber : InRange level → (out out′ : List ℕ) (r : Answer)
-      → TranscribePromise (spoken level) out out′ r → length (tape (spoken level)) ≤ length out
-      → CarriedOut (tape (spoken level)) 0 out out′ r
+  -- so the transcriber, lent an output long enough, gives its tape, in either edition
+  pub transcriber : InRange level → (e : Edition) (out out′ : List ℕ) (r : Answer)
+      → TranscribePromise e (spoken level) out out′ r
+      → length (tape e (spoken level)) ≤ length out
+      → CarriedOut (tape e (spoken level)) 0 out out′ r

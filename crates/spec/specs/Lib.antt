@@ -3,6 +3,7 @@ pub mod Alphabet
 pub mod Tables
 pub mod Letters
 pub mod Codes
+pub mod Editions
 pub mod Elision
 pub mod Syllables
 pub mod Vowels
@@ -27,4 +28,5 @@ pub mod EditDemands
 pub mod Utf8Demands
 pub mod LevelDemands
 pub mod BookDemands
+pub mod EditionDemands
 pub mod Printed

@@ -1,6 +1,6 @@
 -- Paper 01, 'Joints', the program: the text that it prints for a message, in ASCII. The text that a
 -- second program prints for a text in UTF-8, with paper 02's slips 1 and 2 before it; and that a
--- third prints for a level in decimal, with slip 5 before it.
+-- third prints for a level in decimal, with slip 5 before it. All three keep edition 1 (slip 8).
 -- Assumes nothing: these are definitions.
 use Prim.Native.Nat.{ℕ, zero, suc, _+_, _-_, _*_, _/_, _%_}
 use mathlib.Core.Bool.{Bool, true, cond, _&&_, not}
@@ -14,6 +14,7 @@ use Rattle.spec.specs.Answers.{tapeAnswer}
 use Rattle.spec.specs.Editing.{edited}
 use Rattle.spec.specs.Utf8.{decoded, readAnswer}
 use Rattle.spec.specs.SpokenLevels.{spoken, levelAnswer}
+use Rattle.spec.specs.declared.Edition.the-variants.{One}
 use Rattle.spec.specs.declared.Answer.{Answer}
 use Rattle.spec.specs.declared.Answer.the-variants.{Written, Refused}
 
@@ -40,7 +41,7 @@ printedAnswer (Refused r) codes = ascii "refused " ++ (decimal (r .number) ++ (a
 -- The whole text for a message m: the transcriber's answer, lent two bytes of output for each byte
 -- of the longest message, and a newline.
 unfoldable pub printed : List ℕ → List ℕ
-printed m = printedAnswer (tapeAnswer m 8192) (tape m) ++ ascii "\n"
+printed m = printedAnswer (tapeAnswer One m 8192) (tape One m) ++ ascii "\n"
 
 -- what is answered after another operation: its refusal, where it has one
 unfoldable pub afterWriting : Answer → Answer → Answer
@@ -50,14 +51,14 @@ afterWriting (Refused r) a = Refused r
 -- A text t in UTF-8 is read, lent as much as it has, then edited and transcribed as a message is;
 -- the editor, lent as much, refuses nothing.
 unfoldable pub textAnswer : List ℕ → Answer
-textAnswer t = afterWriting (readAnswer t (length t)) (tapeAnswer (edited (decoded t)) 8192)
+textAnswer t = afterWriting (readAnswer t (length t)) (tapeAnswer One (edited (decoded t)) 8192)
 
 -- The whole text for a text t in UTF-8. The program's own buffer has 65,536 bytes: for a longer
 -- text nothing is printed, since that is no refusal of the papers.
 unfoldable pub printedText : List ℕ → List ℕ
 printedText t =
     cond (leb (length t) 65536)
-    (printedAnswer (textAnswer t) (tape (edited (decoded t))) ++ ascii "\n") []
+    (printedAnswer (textAnswer t) (tape One (edited (decoded t))) ++ ascii "\n") []
 
 -- A level in decimal, in ASCII, where 45 is the minus sign and 48 to 57 are the digits: the text
 -- begins with a minus sign or with none,
@@ -86,8 +87,9 @@ levelIn t =
 
 -- a level is spoken, lent as much as any takes, and its words are transcribed as a message is
 unfoldable pub spokenAnswer : ℤ → Answer
-spokenAnswer level = afterWriting (levelAnswer level 54) (tapeAnswer (spoken level) 8192)
+spokenAnswer level = afterWriting (levelAnswer level 54) (tapeAnswer One (spoken level) 8192)
 
 -- The whole text for a text t in decimal; nothing where it is no number.
 unfoldable pub printedLevel : List ℕ → List ℕ
-printedLevel t = cond (isDecimal t) (printedAnswer (spokenAnswer (levelIn t)) (tape (spoken (levelIn t))) ++ ascii "\n") []
+printedLevel t = cond (isDecimal t) (printedAnswer (spokenAnswer (levelIn t))
+    (tape One (spoken (levelIn t))) ++ ascii "\n") []

@@ -1,10 +1,13 @@
--- Paper 01: the tape of a message by the five passes, and its syllable names.
+-- Paper 01, with paper 02, request 8: the tape of a message by the five passes, in an edition, and
+-- its syllable names.
 -- Assumes nothing: these are definitions.
 use Prim.Native.Nat.{ℕ}
 use mathlib.Core.Bool.{Bool, false, _&&_}
-use mathlib.Core.List.{List, _∷_, _++_}
+use mathlib.Core.List.{List, _∷_, _++_, map}
 use Rattle.spec.specs.Letters.{Letter, Message, last, more, read, isGap}
 use Rattle.spec.specs.Codes.{markOf}
+use Rattle.spec.specs.Editions.{codeIn}
+use Rattle.spec.specs.declared.Edition.{Edition}
 use Rattle.spec.specs.Elision.{elide}
 use Rattle.spec.specs.Syllables.{factsOf, namesFrom}
 use Rattle.spec.specs.Vowels.{endsHard}
@@ -29,9 +32,9 @@ segment hard next (more w x r) =
 unfoldable pub sounds : List ℕ → List ℕ
 sounds m = segment false false (read m)
 
--- the tape of a message: these, each as its code
-abbrev pub tape : List ℕ → List ℕ
-tape m = sounds m
+-- the tape of a message in an edition: these, each as its code
+unfoldable pub tape : Edition → List ℕ → List ℕ
+tape e m = map (codeIn e) (sounds m)
 
 -- the names of a word, through passes 1 and 2
 unfoldable pub wordNames : List Letter → List ℕ

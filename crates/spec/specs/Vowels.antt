@@ -1,5 +1,5 @@
--- Paper 01, pass 3, with paper 02, request 4: the hard boundary, the sounds of vowels, and which
--- have a glide. The words here have been through pass 1.
+-- Paper 01, pass 3, with paper 02, requests 4 and 8: the hard boundary, the sounds of vowels, and
+-- which have a glide. The words here have been through pass 1.
 -- Assumes nothing: these are definitions.
 use Prim.Native.Nat.{ℕ}
 use mathlib.Core.Bool.{Bool, true, false, cond, _&&_, _||_}
@@ -8,7 +8,7 @@ use lib.Dec.{eqb}
 use Rattle.spec.specs.Alphabet.{«а», «е», «и», «о», «у», «ы», «ь», «э», «ю», «я», «ё»}
 use Rattle.spec.specs.Tables.{among, _gives_, entry}
 use Rattle.spec.specs.Letters.{Letter, isHardOnly, isPaired, isSoftOnly, isSign}
-use Rattle.spec.specs.Codes.{А*, О*, Э*, Ы*, И*, У*, А1, Э1, Ы1, И1, У1, А2, Э2}
+use Rattle.spec.specs.Codes.{А*, О*, Э*, Ы*, И*, У*, А1, Э1, Ы1, И1, У1, А2, Э2, ИЭ}
 use Rattle.spec.specs.declared.Cover.{Cover}
 use Rattle.spec.specs.declared.Cover.the-variants.{Bare, Covered}
 use Rattle.spec.specs.declared.Level.{Level}
@@ -45,11 +45,13 @@ unfoldable pub initial : ℕ → Bool
 initial p = eqb p 0
 
 -- The vowel table, a row a vowel. p is the letter before ("after"); hard says that a hard boundary
--- stands right before this letter; s is the vowel's syllable.
+-- stands right before this letter; s is the vowel's syllable. Where the paper's rows of а, е and я
+-- have Э1 these have ИЭ, which edition 1 reads as Э1 and edition 2 as И1 (paper 02, request 8).
 module _ (hard : Bool) (p : ℕ) (s : Syllable) where
   -- pass 3, row а: reduced one way after a soft-only consonant (class Q), and kept А1 where initial
   unfoldable pub rowА : ℕ
-  rowА = byLevel (s .level) А* (cond (isSoftOnly p) Э1 А1) (cond (initial p) А1 (cond (isSoftOnly p) Э2 А2))
+  rowА = byLevel (s .level) А* (cond (isSoftOnly p) ИЭ А1)
+      (cond (initial p) А1 (cond (isSoftOnly p) Э2 А2))
 
   -- pass 3, row о
   unfoldable pub rowО : ℕ
@@ -69,7 +71,8 @@ module _ (hard : Bool) (p : ℕ) (s : Syllable) where
 
   -- pass 3, row е: after a hard-only consonant (class T) it is Ы1 or А2
   unfoldable pub rowЕ : ℕ
-  rowЕ = byLevel (s .level) Э* (cond (isHardOnly p) Ы1 Э1) (cond (initial p) Э1 (cond (isHardOnly p) А2 Э2))
+  rowЕ = byLevel (s .level) Э* (cond (isHardOnly p) Ы1 ИЭ)
+      (cond (initial p) ИЭ (cond (isHardOnly p) А2 Э2))
 
   -- pass 3, row ё: the same at every level
   unfoldable pub rowЁ : ℕ
@@ -81,7 +84,7 @@ module _ (hard : Bool) (p : ℕ) (s : Syllable) where
 
   -- pass 3, row я
   unfoldable pub rowЯ : ℕ
-  rowЯ = byLevel (s .level) А* Э1 (cond (initial p) Э1 Э2)
+  rowЯ = byLevel (s .level) А* ИЭ (cond (initial p) ИЭ Э2)
 
   -- pass 3, row и: Ы after a hard-only consonant or behind a hard boundary
   unfoldable pub rowИ : ℕ

@@ -24,6 +24,12 @@ pub struct Syllable {
     pub level: Level,
 }
 
+// The two readings of a tape (paper 02, request 8): that of paper 01, and the newer one.
+pub enum Edition {
+    One,
+    Two,
+}
+
 // Why a message is turned away, by the paper's number, and where.
 pub struct Refusal {
     pub number: u8,

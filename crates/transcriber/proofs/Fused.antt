@@ -12,7 +12,7 @@ use Rattle.spec.specs.Syllables.{Facts, factsOf, syllableOf}
 use Rattle.consonants.specs.Sounds.{consonantCode}
 use Rattle.vowels.specs.VowelSounds.{vowelCodes}
 use Rattle.consonants.specs.Following.{Following, stepped, following}
-use Rattle.consonants.proofs.Following.{tone-following, code-following}
+use Rattle.consonants.proofs.Following.{tone-following, soft-following}
 use Rattle.transcriber.specs.Fused.{letterCodes, fusedFrom}
 use Rattle.laws.proofs.Classes.{cond-app, cond-same, either, among-same, vowel-quiet, vowel-single}
 use Rattle.laws.proofs.Elided.{elide-cases, soft-elide, syllable-elide, phones-free}
@@ -48,7 +48,7 @@ consonant-sound : (next : Bool) (b : ℕ) (soft : Bool) (xs : List Phone) (t : L
     → Same next (record { letter = b; softened = soft; code = writtenCode b } ∷ xs) (consonantCode b soft (following next t) ∷ t)
 unfolding voice voiceOne palatalize stepped consonantCode
 consonant-sound next b soft xs t s = record {
-  codes = rw (s .codes, tone-following, s .tone, code-following next t);
+  codes = rw (s .codes, tone-following, s .tone, ← soft-following next t);
   tone = rw (tone-following, s .tone) (consonant-tone b soft (following next t));
 }
 

@@ -5,7 +5,7 @@ use Rattle.laws.proofs.Kit.{getD, drop}
 use Rattle.spec.specs.Letters.{Letter, Message, last, more, putLetter, read, firstWord, isMark, isBreak, isGap}
 use Rattle.spec.specs.Syllables.{Facts, factsOf}
 use Rattle.spec.specs.Voicing.{voices}
-use Rattle.spec.specs.Tape.{segment, sounds, tape}
+use Rattle.spec.specs.Tape.{segment, sounds}
 use Rattle.spec.specs.{Codes.markOf, Vowels.endsHardFrom, Vowels.endsHard}
 use Rattle.letters.specs.Places.{lastAt, wordAt, letterOf, Steady}
 use Rattle.letters.proofs.Left.{mark-within, word-put, read-letter, read-mark, read-break, read-end}
@@ -81,7 +81,7 @@ voices-start hard r =
 
 module _ (m : List ℕ) (steady : Steady m) where
   -- the whole tape is the tape at the first place
-  pub tape-start : tapeAt m 0 ≡ tape m
+  pub tape-start : tapeAt m 0 ≡ sounds m
   unfolding tapeAt sounds lastAt lastButOneAt hardAt wordAt
   tape-start = rw (whole-first m) (sym (start-tape false (read m)))
 

@@ -1,6 +1,8 @@
 -- The walk from the right, one byte at a time: what a break, a mark and a letter put on the tape, and what then stands right of their place.
 use Rattle.laws.proofs.Kit.{ℕ, suc, _+_, _%_, _<_, _≤_, arith, _≡_, refl, sym, ap, _∙_, Bool, true, false, cond, _&&_, not, true≢false, List, [], _∷_, _++_, map, eqb, length, getD, le-leb, lt-leb, ne-eqb}
 use Rattle.spec.specs.Letters.{small, firstByte, isBreak, isGap, isMark}
+use lib.ListN.{length-map}
+use Rattle.spec.specs.{Vowels.vowelSound, Vowels.glides, Editions.codeIn, declared.Edition.Edition}
 use Rattle.spec.specs.Codes.{J, markOf, isSoundCode, isSound}
 use Rattle.spec.specs.{Phones.softens, Refusals.vowelByte, Refusals.signByte, Refusals.consonantByte, declared.Level.Level}
 use Rattle.letters.specs.Classes.{classes, classOf, isBreakClass, isSignClass, isConsonantClass, isVowelClass, isSofteningClass, elidedAt}
@@ -8,15 +10,18 @@ use Rattle.letters.specs.Classes.{pauseClass, softSignClass}
 use Rattle.letters.specs.Places.{lastAt, Steady, letterOf, wordAt}
 use Rattle.letters.proofs.Left.{mark-within, word-letter, word-mark, word-break, word-end}
 use Rattle.letters.proofs.{Bytes.by-class, Computed.everything, Silent.class-spoken, Silent.elided-at}
-use Rattle.laws.proofs.{Classes.cond-same, Classes.where-same, Codes.vowel-sound, MarkIndex.sound-range, Putting.put-none, Classes.below}
+use Rattle.laws.proofs.Editions.{read-same, sound-code, own-code, mark-own}
+use Rattle.laws.proofs.{Classes.cond-same, Classes.where-same, Codes.vowel-makes, Codes.made-sound, MarkIndex.sound-range, Putting.put-none}
+use Rattle.laws.proofs.{Classes.below}
 use Rattle.laws.specs.Putting.{Put}
-use Rattle.consonants.specs.Following.{Following, followingEnd, stepped, putBefore, voicesOver, followingBy}
+use Rattle.letters.specs.Filling.{MayStep}
+use Rattle.consonants.specs.Following.{Following, acting, followingEnd, stepped, putBefore, voicesOver, followingBy}
 use Rattle.consonants.specs.Sounds.{consonantCode, Tells, codeBefore, Heard, soundTable}
 use Rattle.vowels.specs.VowelSounds.{vowelCodes, VowelAt, Sung, sungCodes}
 use Rattle.transcriber.specs.{Fused.letterCodes, declared.Right.Right}
 use Rattle.stress.specs.{Places.hardAt, Places.syllableAt, declared.LevelRun.LevelRun}
 use Rattle.transcriber.specs.Places.{tapeAt, followingAt, codesAt}
-use Rattle.transcriber.specs.Walk.{Stands, begunOf, pieceAt, Ready, ReadyFor, Stepped}
+use Rattle.transcriber.specs.Walk.{Stands, begunOf, pieceAt, Ready, ReadyFor, Stepped, SteppedAlike}
 use Rattle.stress.specs.Levels.{countedBy, numbered, endRun, stepOver, StepDue, LookDue, Looked}
 use Rattle.vowels.specs.declared.Vowel.{Vowel}
 use Rattle.stress.proofs.Levelling.{levels-found, levels-due, levels-over, break-due, levels-break, levels-end, levels-turn}
@@ -34,11 +39,20 @@ tells-over : {s : ℕ} {x : Bool} {f : Following} (soft : Bool) → Tells s x f 
 tells-over {s} soft h = rw (h .follows) at (tells (s % 64) soft (omega arith))
 
 -- a sound's code, whatever comes after it
-tells-sound : (c : ℕ) (soft : Bool) (f : Following) → isSound c ≡ true → Tells (c + cond soft 64 0) soft (stepped c f)
+tells-code : (c : ℕ) (soft : Bool) (f : Following) → isSoundCode c ≡ true → Tells (c + cond soft 64 0) soft (stepped c f)
 unfolding followingBy stepped
-tells-sound c soft f h =
+tells-code c soft f h =
     let r = sound-range c h in
     rw (ne-eqb c 57 (λ e. omega arith), ne-eqb c 0 (λ e. omega arith)) at (tells c soft (omega arith))
+
+-- and of a sound that two editions read apart either code, since a vowel does nothing to the sound before it
+code-acts : (e : Edition) (c : ℕ) (f : Following) → stepped (codeIn e c) f ≡ stepped c f
+unfolding everything stepped acting
+code-acts e c f = read-same e (λ x. stepped x f) refl refl c
+
+tells-sound : (e : Edition) (c : ℕ) (soft : Bool) (f : Following) → isSound c ≡ true
+    → Tells (codeIn e c + cond soft 64 0) soft (stepped c f)
+tells-sound e c soft f h = rw (code-acts e c f) at (tells-code (codeIn e c) soft f (sound-code e c h))
 
 -- the two ends of a word
 tells-end : (voices : Bool) → Tells (cond voices 57 0) false (followingEnd voices)
@@ -124,11 +138,13 @@ module _ {m out : List ℕ} {i : ℕ} {r : Right} (a : Ready m out i r) where
   run-ready e = levels-due e (a .steady) (a .within) (a .stands .levels)
 
   -- a letter has put its codes, and left of it stands the same word with these sounds and this letter first
-  letter-steps : {s v x : Bool} {out′ codes : List ℕ} {at sound : ℕ} {l : LevelRun} → Spelt (getD m i 0) s v x → codesAt m i ≡ codes
-      → Tells sound x (putBefore codes (followingAt m (suc i))) → l ≡ stepOver (r .levels) (getD m i 0) → Put codes out out′ (r .at) at
-      → Stepped m out out′ i r (record { at = at; sound = sound; levels = l })
+  letter-steps : (ed : Edition) {s v x : Bool} {out′ codes : List ℕ} {at sound : ℕ} {l : LevelRun} → Spelt (getD m i 0) s v x
+      → codesAt m i ≡ codes
+      → Tells sound x (putBefore codes (followingAt m (suc i))) → l ≡ stepOver (r .levels) (getD m i 0)
+      → Put (map (codeIn ed) codes) out out′ (r .at) at
+      → Stepped ed m out out′ i r (record { at = at; sound = sound; levels = l })
   unfolding pieceAt firstByte letterOf
-  letter-steps p e t l q =
+  letter-steps ed p e t l q =
       let y = a .steady in
       let h = a .within in
       record {
@@ -142,14 +158,14 @@ module _ {m out : List ℕ} {i : ℕ} {r : Right} (a : Ready m out i r) where
   -- a letter that is not heard puts nothing
   silent-steps : {s x : Bool} {seen : ℕ} {l : LevelRun} → Spelt (getD m i 0) s false x → codesAt m i ≡ []
       → seen ≡ r .sound % 64 + cond x 64 0 → l ≡ stepOver (r .levels) (getD m i 0)
-      → Stepped m out out i r (record { at = r .at; sound = seen; levels = l })
-  silent-steps {x = x} p e n l = rw n (letter-steps p e (tells-over x (a .stands .sound)) l (put-none out (r .at)))
+      → SteppedAlike m out out i r (record { at = r .at; sound = seen; levels = l })
+  silent-steps {x = x} p e n l ed = rw n (letter-steps ed p e (tells-over x (a .stands .sound)) l (put-none out (r .at)))
 
   -- nor does a mark
   pub mark-steps : {l : LevelRun} → isMark (getD m i 0) ≡ true → l ≡ stepOver (r .levels) (getD m i 0)
-      → Stepped m out out i r (record { at = r .at; sound = r .sound; levels = l })
+      → SteppedAlike m out out i r (record { at = r .at; sound = r .sound; levels = l })
   unfolding pieceAt
-  mark-steps k l =
+  mark-steps k l ed =
       let y = a .steady in
       let h = a .within in
       let b = mark-within (getD m i 0) k in
@@ -169,7 +185,7 @@ spelt-sign a = spelt-by a true false (λ x. eqb x 5) refl
 -- they are not heard
 pub sign-steps : {m out : List ℕ} {i c seen : ℕ} {r : Right} {l : LevelRun} → ReadyFor isSignClass m out i c r
     → seen ≡ r .sound % 64 + cond (eqb c softSignClass) 64 0 → l ≡ stepOver (r .levels) (getD m i 0)
-    → Stepped m out out i r (record { at = r .at; sound = seen; levels = l })
+    → SteppedAlike m out out i r (record { at = r .at; sound = seen; levels = l })
 sign-steps {m} {i = i} a = silent-steps (a .ready) (spelt-sign a) (codes-sign m (a .ready .steady) i (a .ready .within) (spelt-sign a))
 
 module _ {m out : List ℕ} {i c : ℕ} {r : Right} (a : ReadyFor isBreakClass m out i c r) where
@@ -189,9 +205,9 @@ module _ {m out : List ℕ} {i c : ℕ} {r : Right} (a : ReadyFor isBreakClass m
   pub break-steps : {out′ : List ℕ} {at sound : ℕ} {l q : LevelRun} (pause : Bool) → eqb c pauseClass ≡ pause
       → sound ≡ cond (not pause && voicesOver (followingBy (r .sound % 64))) 57 0
       → l ≡ stepOver (r .levels) (getD m i 0) → Looked m i l q → Put (cond pause 63 0 ∷ []) out out′ (r .at) at
-      → Stepped m out out′ i r (record { at = at; sound = sound; levels = q })
+      → SteppedAlike m out out′ i r (record { at = at; sound = sound; levels = q })
   unfolding pieceAt
-  break-steps pause k t l e q =
+  break-steps pause k t l e q ed =
       let y = a .ready .steady in
       let h = a .ready .within in
       let b = breaks in
@@ -203,7 +219,7 @@ module _ {m out : List ℕ} {i c : ℕ} {r : Right} (a : ReadyFor isBreakClass m
               (tells-end (not pause && voicesOver (followingAt m (suc i))));
           levels = levels-break m y i h (a .ready .stands .levels) b (rw l at e);
         };
-        put = rw (b, break-code (getD m i 0) (y .bytes i) b, x) q;
+        put = rw (b, mark-own ed (getD m i 0), break-code (getD m i 0) (y .bytes i) b, x) q;
       }
 
 module _ {m out : List ℕ} {i c : ℕ} {r : Right} (a : ReadyFor isConsonantClass m out i c r) where
@@ -222,7 +238,7 @@ module _ {m out : List ℕ} {i c : ℕ} {r : Right} (a : ReadyFor isConsonantCla
 
   -- a silent one is not heard
   pub elided-steps : {seen : ℕ} {l : LevelRun} → elidedAt m i ≡ true → seen ≡ r .sound % 64 + 0 → l ≡ stepOver (r .levels) (getD m i 0)
-      → Stepped m out out i r (record { at = r .at; sound = seen; levels = l })
+      → SteppedAlike m out out i r (record { at = r .at; sound = seen; levels = l })
   elided-steps e n l = silent-steps (a .ready) spelt (codes-silent m (a .ready .steady) i (a .ready .within) spelt e) n l
 
   module _ {code : ℕ} (heard : elidedAt m i ≡ false) (coded : code ≡ codeBefore (small (getD m i 0)) (r .sound)) where
@@ -239,11 +255,12 @@ module _ {m out : List ℕ} {i c : ℕ} {r : Right} (a : ReadyFor isConsonantCla
     -- and which is what stands right of the letter before
     pub consonant-steps : {out′ : List ℕ} {at : ℕ} {l : LevelRun} → l ≡ stepOver (r .levels) (getD m i 0)
         → Put (code ∷ []) out out′ (r .at) at
-        → Stepped m out out′ i r (record { at = at; sound = code; levels = l })
-    consonant-steps l q =
-        let x : isSound code ≡ true = rw coded (code-read soundTable (getD m i 0) (r .sound) refl (a .ready .steady .bytes i) consonant-before .sound) in
+        → SteppedAlike m out out′ i r (record { at = at; sound = code; levels = l })
+    consonant-steps l q ed =
+        let x : isSoundCode code ≡ true = rw coded
+        (code-read soundTable (getD m i 0) (r .sound) refl (a .ready .steady .bytes i) consonant-before .sound) in
         let z : code + 0 ≡ code = omega arith in
-        letter-steps (a .ready) spelt codes (rw z at (tells-sound code false (followingAt m (suc i)) x)) l q
+        letter-steps (a .ready) ed spelt codes (rw z at (tells-code code false (followingAt m (suc i)) x)) l (rw (own-code ed code x) q)
 
 module _ {m out : List ℕ} {i c : ℕ} {r : Right} (a : ReadyFor isVowelClass m out i c r) where
   -- of the vowels the highest classes soften
@@ -258,33 +275,47 @@ module _ {m out : List ℕ} {i c : ℕ} {r : Right} (a : ReadyFor isVowelClass m
       let h = a .ready .within in
       record { within = h; steady = y; class = a .class; level = e ∙ levels-found m y i h (a .ready .stands .levels) (vowel-spelt .break) }
 
-  module _ {v : Vowel} (s : Sung m i v) where
+  -- its sound, and with the glide where it has one
+  abbrev vowel : ℕ
+  vowel = vowelSound (hardAt m i) (lastAt m i) (syllableAt m i) (small (getD m i 0))
+
+  abbrev sung : List ℕ
+  sung = vowelCodes (hardAt m i) (lastAt m i) (small (getD m i 0)) (syllableAt m i)
+
+  sung-heard : codesAt m i ≡ sung
+  sung-heard =
+      let t = a .ready .steady .bytes i in
+      let e = class-spoken m i t (λ e. true≢false (sym (vowel-spelt .sings) ∙ by-class (getD m i 0) t .vowel ∙ ap isVowelClass e)) in
+      codes-heard m (a .ready .steady) i (a .ready .within) vowel-spelt e
+
+  module _ {ed : Edition} {v : Vowel} (s : Sung ed m i v) where
     -- its codes
-    sung-codes : codesAt m i ≡ sungCodes v
-    unfolding vowelCodes
-    sung-codes =
-        let t = a .ready .steady .bytes i in
-        let e = class-spoken m i t (λ e. true≢false (sym (vowel-spelt .sings) ∙ by-class (getD m i 0) t .vowel ∙ ap isVowelClass e)) in
-        codes-heard m (a .ready .steady) i (a .ready .within) vowel-spelt e ∙ rw (← s .sound, ← s .glide)
+    sung-codes : map (codeIn ed) sung ≡ sungCodes v
+    unfolding vowelCodes isSoundCode
+    sung-codes = rw (s .code, s .glide) (by (glides (lastAt m i) (syllableAt m i .cover) (small (getD m i 0))))
+      where
+        by : (g : Bool) → map (codeIn ed) (cond g (J ∷ vowel ∷ []) (vowel ∷ [])) ≡ cond g (J ∷ codeIn ed vowel ∷ []) (codeIn ed vowel ∷ [])
+        by true = rw (own-code ed J refl)
+        by false = refl
 
     -- for which there is room
     pub vowel-room : length (sungCodes v) ≤ r .at
-    vowel-room = letter-room (a .ready) vowel-spelt sung-codes
+    vowel-room = omega (arith, letter-room (a .ready) vowel-spelt sung-heard, ap length sung-codes, length-map sung (codeIn ed))
 
     -- their first is what stands right of the letter before
-    first-tells : (soft : Bool) (f : Following) → Tells (cond (v .glide) J (v .sound) + cond soft 64 0) soft (putBefore (sungCodes v) f)
-    unfolding vowelByte isSoundCode
-    first-tells soft f = by (v .glide)
+    first-tells : (soft : Bool) (f : Following) → Tells (cond (v .glide) J (v .code) + cond soft 64 0) soft (putBefore sung f)
+    unfolding vowelByte vowelCodes isSoundCode
+    first-tells soft f = rw (s .code, s .glide) (by (glides (lastAt m i) (syllableAt m i .cover) (small (getD m i 0))))
       where
-        by : (g : Bool) → Tells (cond g J (v .sound) + cond soft 64 0) soft (putBefore (cond g (J ∷ v .sound ∷ []) (v .sound ∷ [])) f)
-        by true = tells-sound J soft _ refl
-        by false = tells-sound (v .sound) soft f (rw (s .sound) (vowel-sound _ _ _ (small (getD m i 0)) (vowel-spelt .sings)))
+        by : (g : Bool) → Tells (cond g J (codeIn ed vowel) + cond soft 64 0) soft (putBefore (cond g (J ∷ vowel ∷ []) (vowel ∷ [])) f)
+        by true = tells-code J soft _ refl
+        by false = tells-sound ed vowel soft f (made-sound _ vowel (vowel-makes _ _ _ (small (getD m i 0)) (vowel-spelt .sings)))
 
-    pub vowel-steps : {out′ : List ℕ} {at first seen : ℕ} {l : LevelRun} → first ≡ cond (v .glide) J (v .sound)
+    pub vowel-steps : {out′ : List ℕ} {at first seen : ℕ} {l : LevelRun} → first ≡ cond (v .glide) J (v .code)
         → seen ≡ first + cond (isSofteningClass c) 64 0
         → l ≡ stepOver (r .levels) (getD m i 0) → Put (sungCodes v) out out′ (r .at) at
-        → Stepped m out out′ i r (record { at = at; sound = seen; levels = l })
-    vowel-steps f e l q = letter-steps (a .ready) vowel-spelt sung-codes (rw (e, f) (first-tells _ _)) l q
+        → Stepped ed m out out′ i r (record { at = at; sound = seen; levels = l })
+    vowel-steps f e l q = letter-steps (a .ready) ed vowel-spelt sung-heard (rw (e, f) (first-tells _ _)) l (rw sung-codes q)
 
 -- what stands right of the message's end
 pub stands-end : {m : List ℕ} → Steady m → {n : ℕ} {l : LevelRun} → Looked m (length m) (endRun 0 0 false) l
@@ -298,6 +329,17 @@ stands-end {m} steady e = record {
 stands-begun : {m : List ℕ} {i : ℕ} {r : Right} → Stands m i r → Stands m i (begunOf r)
 stands-begun s = record { sound = s .sound; levels = levels-turn (s .levels) }
 
--- so the byte at the place may be stepped to
+-- there is as much room for a piece's codes as for its sounds and marks
+pub ready-read : (e : Edition) {m out : List ℕ} {i : ℕ} {r : Right}
+    → MayStep (λ j. Stands m j r) (map (codeIn e) (pieceAt m i)) m out i (r .at) → Ready m out i r
+ready-read e {m} {i = i} y = record {
+  within = y .within;
+  steady = y .steady;
+  stands = y .stands;
+  room = omega (arith, y .room, length-map (pieceAt m i) (codeIn e));
+  place = y .place;
+}
+
+-- where a turn begins the byte at the place may be stepped to as before
 pub ready-begun : {m out : List ℕ} {i : ℕ} {r : Right} → Ready m out i r → Ready m out i (begunOf r)
 ready-begun y = record { within = y .within; steady = y .steady; stands = stands-begun (y .stands); room = y .room; place = y .place }

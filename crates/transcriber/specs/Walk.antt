@@ -3,12 +3,12 @@
 use Prim.Native.Nat.{ℕ, _<_, _≤_}
 use mathlib.Core.Path.{_≡_}
 use mathlib.Core.Bool.{Bool, true, cond}
-use mathlib.Core.List.{List, [], _∷_}
+use mathlib.Core.List.{List, [], _∷_, map}
 use lib.ListN.{length, getD}
 use Rattle.spec.specs.Letters.{firstByte, isBreak, isMark}
 use Rattle.spec.specs.Codes.{markOf}
 use Rattle.spec.specs.Phones.{softens}
-use Rattle.spec.specs.Tape.{tape}
+use Rattle.spec.specs.{Editions.codeIn, Tape.sounds, declared.Edition.Edition}
 use Rattle.letters.specs.Places.{Steady, wordAt}
 use Rattle.letters.specs.Filling.{MayStep, DidStep}
 use Rattle.letters.specs.Classes.{classes, classOf, isBreakClass}
@@ -38,7 +38,7 @@ pub record Stands (m : List ℕ) (i : ℕ) (r : Right) : Type 0 where
 abbrev pub begunOf : Right → Right
 begunOf r = record { at = r .at; sound = r .sound; levels = turnOf (r .levels) }
 
--- what the byte at place i puts on the tape
+-- the sounds or the mark that the byte at place i puts on the tape
 unfoldable pub pieceAt : List ℕ → ℕ → List ℕ
 pieceAt m i = cond (isBreak (getD m i 0)) (markOf (getD m i 0) ∷ []) (cond (isMark (getD m i 0)) [] (codesAt m i))
 
@@ -46,8 +46,14 @@ pieceAt m i = cond (isBreak (getD m i 0)) (markOf (getD m i 0) ∷ []) (cond (is
 abbrev pub Ready : List ℕ → List ℕ → ℕ → Right → Type 0
 Ready m out i r = MayStep (λ j. Stands m j r) (pieceAt m i) m out i (r .at)
 
-abbrev pub Stepped : List ℕ → List ℕ → List ℕ → ℕ → Right → Right → Type 0
-Stepped m out out′ i r q = DidStep (λ j. Stands m j q) (pieceAt m i) out out′ i (r .at) (q .at)
+-- the sounds and marks that it puts are put as codes of edition e
+abbrev pub Stepped : Edition → List ℕ → List ℕ → List ℕ → ℕ → Right → Right → Type 0
+Stepped e m out out′ i r q =
+    DidStep (λ j. Stands m j q) (map (codeIn e) (pieceAt m i)) out out′ i (r .at) (q .at)
+
+-- so they are whatever the edition is
+abbrev pub SteppedAlike : List ℕ → List ℕ → List ℕ → ℕ → Right → Right → Type 0
+SteppedAlike m out out′ i r q = (e : Edition) → Stepped e m out out′ i r q
 
 -- so that its byte is of class c, which passes a test
 pub record ReadyFor (test : ℕ → Bool) (m out : List ℕ) (i c : ℕ) (r : Right) : Type 0 where
@@ -64,5 +70,5 @@ pub record BreakReady (m out : List ℕ) (i c : ℕ) (r : Right) (l : LevelRun) 
 pub record MayWrite (t s m out : List ℕ) (end : ℕ) : Type 0 where
   pub lent : Lent t s
   pub steady : Steady m
-  pub room : length (tape m) ≤ end
+  pub room : length (sounds m) ≤ end
   pub place : end ≤ length out

@@ -11,7 +11,7 @@ ghost use Rattle.laws.specs.Putting.{Put};
 ghost use Rattle.vowels.specs.VowelSounds.{sungCodes};
 ghost use Rattle.stress.specs.Levels.{stepsOf};
 ghost use Rattle.transcriber.specs.Walk.{begunOf, Lent, ClassAt, Ready, ReadyFor, BreakReady};
-ghost use Rattle.transcriber.specs.Walk.{Stepped, MayWrite};
+ghost use Rattle.transcriber.specs.Walk.{Stepped, SteppedAlike, MayWrite};
 use crate::Right;
 use crate::tables::lay_tables;
 use consonants::VOICELESS_END;
@@ -29,6 +29,7 @@ use message::answers::refused;
 use message::check::check;
 use spec::Answer;
 use spec::Checked;
+use spec::Edition;
 use spec::Refusal;
 use spec::alphabet;
 use spec::codes;
@@ -58,7 +59,7 @@ fn put_break(
     s: &SoundTable,
 ) -> Right
     requires { ⌜ Lent (now t) (now s) × BreakReady (now m) (now out) i c r passed ⌝ }
-    ensures { λ q. ⌜ Stepped (now (m .entry)) (now (out .entry)) (now (out .exit)) i r q ⌝ }
+    ensures { λ q. ⌜ SteppedAlike (now (m .entry)) (now (out .entry)) (now (out .exit)) i r q ⌝ }
 {
     let levels = look_back(m, i, passed, t);
     if c == classes::PAUSE {
@@ -112,7 +113,7 @@ fn put_consonant(
     s: &SoundTable,
 ) -> Right
     requires { ⌜ Lent (now t) (now s) × ReadyFor isConsonantClass (now m) (now out) i c r ⌝ }
-    ensures { λ q. ⌜ Stepped (now (m .entry)) (now (out .entry)) (now (out .exit)) i r q ⌝ }
+    ensures { λ q. ⌜ SteppedAlike (now (m .entry)) (now (out .entry)) (now (out .exit)) i r q ⌝ }
 {
     let b = m[i];
     let levels = levels::step(r.levels, b, t);
@@ -133,7 +134,7 @@ fn put_sung(out: &mut [u8], at: usize, v: Vowel) -> usize
     requires { ⌜ (length (sungCodes v) ≤ at) × (at ≤ length (now out)) ⌝ }
     ensures { λ r. ⌜ Put (sungCodes v) (now (out .entry)) (now (out .exit)) at r ⌝ }
 {
-    let place = put(out, at, v.sound);
+    let place = put(out, at, v.code);
     if v.glide {
         return put(out, place, codes::GLIDE);
     }
@@ -141,13 +142,21 @@ fn put_sung(out: &mut [u8], at: usize, v: Vowel) -> usize
 }
 
 // A vowel puts its sound, and a glide before it where it has one. c is its class.
-fn put_vowel(m: &[u8], i: usize, c: usize, r: Right, out: &mut [u8], t: &ClassTable) -> Right
+fn put_vowel(
+    e: Edition,
+    m: &[u8],
+    i: usize,
+    c: usize,
+    r: Right,
+    out: &mut [u8],
+    t: &ClassTable,
+) -> Right
     requires { ⌜ (now t ≡ classes) × ReadyFor isVowelClass (now m) (now out) i c r ⌝ }
-    ensures { λ q. ⌜ Stepped (now (m .entry)) (now (out .entry)) (now (out .exit)) i r q ⌝ }
+    ensures { λ q. ⌜ Stepped e (now (m .entry)) (now (out .entry)) (now (out .exit)) i r q ⌝ }
 {
     let levels = levels::step(r.levels, m[i], t);
     let level = level_of(r.levels);
-    let vowel = vowel_at(m, i, c, level, t);
+    let vowel = vowel_at(e, m, i, c, level, t);
     let at = put_sung(out, r.at, vowel);
     let sound = sound_of(first_code(vowel), classes::FIRST_PALATALIZING <= c);
     Right { at, sound, levels }
@@ -156,14 +165,22 @@ fn put_vowel(m: &[u8], i: usize, c: usize, r: Right, out: &mut [u8], t: &ClassTa
 // The byte at place i. The levels' step is taken by vowels and consonants for themselves and once
 // for all else, in each case before anything is written: so the compiler asks for the byte and its
 // class once.
-fn step(m: &[u8], i: usize, r: Right, out: &mut [u8], t: &ClassTable, s: &SoundTable) -> Right
+fn step(
+    e: Edition,
+    m: &[u8],
+    i: usize,
+    r: Right,
+    out: &mut [u8],
+    t: &ClassTable,
+    s: &SoundTable,
+) -> Right
     requires { ⌜ Lent (now t) (now s) × Ready (now m) (now out) i r ⌝ }
-    ensures { λ q. ⌜ Stepped (now (m .entry)) (now (out .entry)) (now (out .exit)) i r q ⌝ }
+    ensures { λ q. ⌜ Stepped e (now (m .entry)) (now (out .entry)) (now (out .exit)) i r q ⌝ }
 {
     let b = m[i];
     let c = class_of(b, t);
     if classes::PLAIN_VOWEL <= c {
-        return put_vowel(m, i, c, r, out, t);
+        return put_vowel(e, m, i, c, r, out, t);
     }
     if classes::HARD_ONLY <= c {
         return put_consonant(m, i, c, r, out, t, s);
@@ -189,13 +206,14 @@ fn begun(r: Right) -> Right
     Right { at, sound, levels }
 }
 
-// Puts the tape of an accepted message right before place end of the output, and tells what stands
-// right of the message's start: where the tape begins, and in how many steps the levels were found.
+// Puts the tape of an accepted message, in an edition, right before place end of the output, and
+// tells what stands right of the message's start: where the tape begins, and in how many steps the
+// levels were found.
 // It is the one caller of the step, so that the state stays in registers.
-fn walk(m: &[u8], out: &mut [u8], end: usize, t: &ClassTable, s: &SoundTable) -> Right
+fn walk(e: Edition, m: &[u8], out: &mut [u8], end: usize, t: &ClassTable, s: &SoundTable) -> Right
     requires { ⌜ MayWrite (now t) (now s) (now m) (now out) end ⌝ }
     ensures { λ r.
-        ⌜ Put (tape (now (m .entry))) (now (out .entry)) (now (out .exit)) end (r .at)
+        ⌜ Put (tape e (now (m .entry))) (now (out .entry)) (now (out .exit)) end (r .at)
         × (stepsOf (r .levels) ≡ levelSteps (now (m .entry))) ⌝ }
 {
     let mut i = m.len();
@@ -207,15 +225,16 @@ fn walk(m: &[u8], out: &mut [u8], end: usize, t: &ClassTable, s: &SoundTable) ->
     };
     while 0 < i {
         i -= 1;
-        r = step(m, i, begun(r), out, t, s);
+        r = step(e, m, i, begun(r), out, t, s);
     }
     r
 }
 
-// Puts the tape of an accepted message right before place end of the output, and tells in how many
-// steps the levels were found. The tables are lent, since a copy of them for each part of a message
-// would cost more than the part.
+// Puts the tape of an accepted message, in an edition, right before place end of the output, and
+// tells in how many steps the levels were found. The tables are lent, since a copy of them for each
+// part of a message would cost more than the part.
 pub fn write_tape<'a>(
+    e: Edition,
     m: &[u8],
     out: &mut [u8],
     end: usize,
@@ -223,16 +242,16 @@ pub fn write_tape<'a>(
     s: &'a SoundTable,
 ) -> usize
     requires { ⌜ Lent (now t) (now s) × TapeDue (now m) (now out) end ⌝ }
-    ensures { λ k. ⌜ TapePromise (now (m .entry)) (now (out .entry)) (now (out .exit)) end k ⌝ }
+    ensures { λ k. ⌜ TapePromise e (now (m .entry)) (now (out .entry)) (now (out .exit)) end k ⌝ }
 {
-    let r = walk(m, out, end, t, s);
+    let r = walk(e, m, out, end, t, s);
     steps_taken(r.levels)
 }
 
-// The transcriber (paper 01): writes the tape of the message at the start of the lent output, or
-// refuses and leaves every byte.
-pub fn transcribe(m: &[u8], out: &mut [u8]) -> Answer
-    ensures { λ r. ⌜ TranscribePromise (now (m .entry)) (now (out .entry)) (now (out .exit)) r ⌝ }
+// The transcriber (paper 01): writes the tape of the message, in an edition, at the start of the
+// lent output, or refuses and leaves every byte.
+pub fn transcribe(e: Edition, m: &[u8], out: &mut [u8]) -> Answer
+    ensures { λ r. ⌜ TranscribePromise e (now (m .entry)) (now (out .entry)) (now (out .exit)) r ⌝ }
 {
     let checked = check(m);
     let Checked::Accepted(counts) = checked else {
@@ -246,6 +265,6 @@ pub fn transcribe(m: &[u8], out: &mut [u8]) -> Answer
         });
     }
     let tables = lay_tables();
-    write_tape(m, out, n, &tables.bytes, &tables.sounds);
+    write_tape(e, m, out, n, &tables.bytes, &tables.sounds);
     Answer::Written { length: n, live: 0 }
 }

@@ -1,3 +1,4 @@
 pub mod Boundaries
 pub mod Keys
+pub mod Readings
 pub mod VowelSounds

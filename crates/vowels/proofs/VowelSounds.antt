@@ -1,6 +1,7 @@
 -- A vowel's sound and glide by what the code reads off the bytes beside it are those that passes 2 and 3 make of it.
 use Rattle.laws.proofs.Kit.{ℕ, _<_, _≤_, _≡_, List, arith, length, getD}
-use Rattle.spec.specs.{Letters.small, Vowels.glides, declared.Cover.Cover, declared.Level.Level, declared.Syllable.Syllable}
+use Rattle.spec.specs.{Letters.small, Vowels.glides, declared.Edition.Edition, declared.Cover.Cover, declared.Level.Level}
+use Rattle.spec.specs.{declared.Syllable.Syllable}
 use Rattle.letters.specs.{Classes.classCount, Classes.classOf, Places.lastAt, Places.Steady}
 use Rattle.letters.proofs.Bytes.{by-class}
 use Rattle.stress.specs.Before.{classBefore, syllableBy}
@@ -27,12 +28,12 @@ module _ {m : List ℕ} {i c : ℕ} {level : Level} (a : VowelAt m i c level) wh
   class-small = rw (a .class) (by-class (getD m i 0) (a .steady .bytes i) .class)
 
   -- what is found of it by the letter before it, the class of the byte before, its own class, and the level is what the passes make of it
-  pub sung-by : {k : ℕ} {s : Syllable} {v : Vowel} → k ≡ classBefore m i → s ≡ syllableBy k level
-      → RowAt (rowOf (small (getD m i 0))) m i s (v .sound) → v .glide ≡ glideBy c (s .cover) k → Sung m i v
+  pub sung-by : {e : Edition} {k : ℕ} {s : Syllable} {v : Vowel} → k ≡ classBefore m i → s ≡ syllableBy k level
+      → RowAt e (rowOf (small (getD m i 0))) m i s (v .code) → v .glide ≡ glideBy c (s .cover) k → Sung e m i v
   sung-by {s = s} e y o g =
       let h : i ≤ length m = omega (arith, a .within) in
       let z : syllableAt m i ≡ s = rw (y, e, a .level) (syllable-raw m (a .steady) i (a .within)) in
       record {
-        sound = rw (z, hard-raw m (a .steady) i h) (o (lastAt m i) (told-at m (a .steady) i h));
+        code = rw (z, hard-raw m (a .steady) i h) (o (lastAt m i) (told-at m (a .steady) i h));
         glide = rw (z, glide-raw m (a .steady) i (a .within) (s .cover), ← a .class, ← e) g;
       }

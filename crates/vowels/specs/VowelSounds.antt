@@ -14,6 +14,8 @@ use Rattle.spec.specs.declared.Cover.{Cover}
 use Rattle.spec.specs.declared.Syllable.{Syllable}
 use Rattle.stress.specs.Before.{classBefore}
 use Rattle.spec.specs.Codes.{J}
+use Rattle.spec.specs.Editions.{codeIn}
+use Rattle.spec.specs.declared.Edition.{Edition}
 use lib.ListN.{length, getD}
 use Rattle.letters.specs.Places.{lastAt, Steady, ByteTells}
 use Rattle.spec.specs.declared.Level.{Level}
@@ -23,7 +25,7 @@ use Rattle.vowels.specs.declared.LetterBefore.{LetterBefore}
 use Rattle.vowels.specs.declared.LetterBefore.the-variants.{None, Byte}
 use Rattle.vowels.specs.declared.Vowel.{Vowel}
 
--- the codes of a vowel b after p
+-- the sounds of a vowel b after p
 unfoldable pub vowelCodes : Bool → ℕ → ℕ → Syllable → List ℕ
 vowelCodes hard p b s =
     let v = vowelSound hard p s b in
@@ -40,6 +42,11 @@ Told (Byte p) q = (isBreak p ≡ false) × ByteTells p q
 abbrev pub ByRow : (Bool → ℕ → Syllable → ℕ) → Bool → LetterBefore → Syllable → ℕ → Type 0
 ByRow row hard before s r = (q : ℕ) → Told before q → r ≡ row hard q s
 
+-- r is its code in edition e
+abbrev pub ByRowIn : Edition → (Bool → ℕ → Syllable → ℕ) → Bool → LetterBefore → Syllable → ℕ
+    → Type 0
+ByRowIn e row hard before s r = (q : ℕ) → Told before q → r ≡ codeIn e (row hard q s)
+
 -- the letter before place i
 unfoldable pub letterBefore : List ℕ → ℕ → LetterBefore
 letterBefore m i = cond (isBreakClass (classBefore m i)) None (Byte (byteBefore m i))
@@ -51,9 +58,9 @@ hardBefore m i =
     eqb (classBefore m i) gapClass
     && hardEnd (small (byteBefore m (i - 2))) (small (byteBefore m (i - 1)))
 
--- r is what a row says at place i
-abbrev pub RowAt : (Bool → ℕ → Syllable → ℕ) → List ℕ → ℕ → Syllable → ℕ → Type 0
-RowAt row m i s r = ByRow row (hardBefore m i) (letterBefore m i) s r
+-- r is the code in edition e of what a row says at place i
+abbrev pub RowAt : Edition → (Bool → ℕ → Syllable → ℕ) → List ℕ → ℕ → Syllable → ℕ → Type 0
+RowAt e row m i s r = ByRowIn e row (hardBefore m i) (letterBefore m i) s r
 
 -- the row of the vowel b
 abbrev pub rowOf : ℕ → Bool → ℕ → Syllable → ℕ
@@ -72,10 +79,11 @@ pub record VowelAt (m : List ℕ) (i c : ℕ) (n : Level) : Type 0 where
   pub class : c ≡ classOf (getD m i 0)
   pub level : n ≡ levelAt m i
 
--- v is what passes 2 and 3 make of the vowel at place i
-pub record Sung (m : List ℕ) (i : ℕ) (v : Vowel) : Type 0 where
-  pub sound : v .sound ≡ vowelSound (hardAt m i) (lastAt m i) (syllableAt m i) (small (getD m i 0))
+-- v is what passes 2 and 3 make of the vowel at place i, in edition e
+pub record Sung (e : Edition) (m : List ℕ) (i : ℕ) (v : Vowel) : Type 0 where
+  pub code : v .code
+      ≡ codeIn e (vowelSound (hardAt m i) (lastAt m i) (syllableAt m i) (small (getD m i 0)))
   pub glide : v .glide ≡ glides (lastAt m i) (syllableAt m i .cover) (small (getD m i 0))
 
 abbrev pub sungCodes : Vowel → List ℕ
-sungCodes v = cond (v .glide) (J ∷ v .sound ∷ []) (v .sound ∷ [])
+sungCodes v = cond (v .glide) (J ∷ v .code ∷ []) (v .code ∷ [])

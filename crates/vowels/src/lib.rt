@@ -1,15 +1,17 @@
-// The sounds of vowels (paper 01, pass 3): an arm for each row. A row that asks of the letter
-// before is a function of it: that letter's class, or the boundary where there is no letter,
-// chooses the sounds, and the level one of them.
+// The sounds of vowels (paper 01, pass 3) as codes of an edition: an arm for each row. A row that
+// asks of the letter before is a function of it: that letter's class, or the boundary where there
+// is no letter, chooses the sounds, and the level one of them.
 ghost use mathlib.Core.Path.{_≡_};
 ghost use mathlib.Core.Bool.{false, cond};
 ghost use Prim.Native.Nat.{_<_};
 ghost use Rattle.spec.specs.Letters.{small};
 ghost use Rattle.spec.specs.Vowels.{byLevel, byStress, rowА, rowО, rowЭ, rowЕ, rowЯ, rowИ};
 ghost use Rattle.spec.specs.Codes.{J};
+ghost use Rattle.spec.specs.Editions.{reduced};
 ghost use Rattle.letters.specs.Classes.{classCount, classes, isSignClass};
 ghost use Rattle.stress.specs.Before.{Before, coverClass};
-ghost use Rattle.vowels.specs.VowelSounds.{ByRow, RowAt, glideBy, rowOf, VowelAt, Sung};
+ghost use Rattle.vowels.specs.VowelSounds.{ByRow, ByRowIn, RowAt, glideBy, rowOf};
+ghost use Rattle.vowels.specs.VowelSounds.{VowelAt, Sung};
 use boundary::hard_before;
 use boundary::letter_before;
 use letter_classes::is_hard_only;
@@ -17,6 +19,7 @@ use letter_classes::is_soft_only;
 use letters::classes;
 use letters::classes::ClassTable;
 use spec::Cover;
+use spec::Edition;
 use spec::Level;
 use spec::Syllable;
 use spec::alphabet;
@@ -34,9 +37,9 @@ pub enum LetterBefore {
     Byte(u8),
 }
 
-// What a vowel puts on the tape: its sound, and whether a glide stands before it.
+// What a vowel puts on the tape: its code, and whether a glide stands before it.
 pub struct Vowel {
-    pub sound: u8,
+    pub code: u8,
     pub glide: bool,
 }
 
@@ -64,15 +67,26 @@ fn by_level(s: Syllable, stressed: u8, first: u8, second: u8) -> u8
     }
 }
 
-// Row а: of the letters before it only ч щ й change it, and at level 2 that there is none.
-fn row_a(s: Syllable, before: LetterBefore) -> u8
-    ensures { λ r. ⌜ ByRow rowА false before s r ⌝ }
+// The code of the reduced vowel of а, е and я (paper 02, request 8).
+fn reduced_vowel(e: Edition) -> u8
+    ensures { λ r. ⌜ r ≡ reduced e ⌝ }
 {
+    match e {
+        Edition::One => codes::E1,
+        Edition::Two => codes::I1,
+    }
+}
+
+// Row а: of the letters before it only ч щ й change it, and at level 2 that there is none.
+fn row_a(e: Edition, s: Syllable, before: LetterBefore) -> u8
+    ensures { λ r. ⌜ ByRowIn e rowА false before s r ⌝ }
+{
+    let reduced = reduced_vowel(e);
     match before {
         LetterBefore::None => by_level(s, codes::A_STRESSED, codes::A1, codes::A1),
         LetterBefore::Byte(p) => {
             if is_soft_only(p) {
-                return by_level(s, codes::A_STRESSED, codes::E1, codes::E2);
+                return by_level(s, codes::A_STRESSED, reduced, codes::E2);
             }
             by_level(s, codes::A_STRESSED, codes::A1, codes::A2)
         }
@@ -110,27 +124,29 @@ fn row_e(s: Syllable, before: LetterBefore, hard: bool) -> u8
 }
 
 // Row е: of the letters before it only ж ш ц change it, and at level 2 that there is none.
-fn row_ie(s: Syllable, before: LetterBefore) -> u8
-    ensures { λ r. ⌜ ByRow rowЕ false before s r ⌝ }
+fn row_ie(e: Edition, s: Syllable, before: LetterBefore) -> u8
+    ensures { λ r. ⌜ ByRowIn e rowЕ false before s r ⌝ }
 {
+    let reduced = reduced_vowel(e);
     match before {
-        LetterBefore::None => by_level(s, codes::E_STRESSED, codes::E1, codes::E1),
+        LetterBefore::None => by_level(s, codes::E_STRESSED, reduced, reduced),
         LetterBefore::Byte(p) => {
             if is_hard_only(p) {
                 return by_level(s, codes::E_STRESSED, codes::Y1, codes::A2);
             }
-            by_level(s, codes::E_STRESSED, codes::E1, codes::E2)
+            by_level(s, codes::E_STRESSED, reduced, codes::E2)
         }
     }
 }
 
 // Row я: it matters only whether it is initial.
-fn row_ya(s: Syllable, before: LetterBefore) -> u8
-    ensures { λ r. ⌜ ByRow rowЯ false before s r ⌝ }
+fn row_ya(e: Edition, s: Syllable, before: LetterBefore) -> u8
+    ensures { λ r. ⌜ ByRowIn e rowЯ false before s r ⌝ }
 {
+    let reduced = reduced_vowel(e);
     match before {
-        LetterBefore::None => by_level(s, codes::A_STRESSED, codes::E1, codes::E1),
-        LetterBefore::Byte(_) => by_level(s, codes::A_STRESSED, codes::E1, codes::E2),
+        LetterBefore::None => by_level(s, codes::A_STRESSED, reduced, reduced),
+        LetterBefore::Byte(_) => by_level(s, codes::A_STRESSED, reduced, codes::E2),
     }
 }
 
@@ -154,22 +170,22 @@ fn row_i(s: Syllable, before: LetterBefore, hard: bool) -> u8
     }
 }
 
-// The sound of the vowel b, small or capital, of syllable s at place i: an arm for each row. The
+// The code of the vowel b, small or capital, of syllable s at place i: an arm for each row. The
 // byte before has class k.
-fn vowel_sound(b: u8, s: Syllable, m: &[u8], i: usize, k: usize) -> u8
+fn vowel_code(e: Edition, b: u8, s: Syllable, m: &[u8], i: usize, k: usize) -> u8
     requires { ⌜ Before (now m) i k ⌝ }
-    ensures { λ r. ⌜ RowAt (rowOf (small b)) (now (m .entry)) i s r ⌝ }
+    ensures { λ r. ⌜ RowAt e (rowOf (small b)) (now (m .entry)) i s r ⌝ }
 {
     match b {
-        alphabet::A | alphabet::CAPITAL_A => row_a(s, letter_before(m, i, k)),
+        alphabet::A | alphabet::CAPITAL_A => row_a(e, s, letter_before(m, i, k)),
         alphabet::O | alphabet::CAPITAL_O => row_o(s, letter_before(m, i, k)),
         alphabet::U | alphabet::CAPITAL_U => by_stress(s, codes::U_STRESSED, codes::U1),
         alphabet::YERU | alphabet::CAPITAL_YERU => by_stress(s, codes::Y_STRESSED, codes::Y1),
         alphabet::E | alphabet::CAPITAL_E => row_e(s, letter_before(m, i, k), hard_before(m, i, k)),
-        alphabet::IE | alphabet::CAPITAL_IE => row_ie(s, letter_before(m, i, k)),
+        alphabet::IE | alphabet::CAPITAL_IE => row_ie(e, s, letter_before(m, i, k)),
         alphabet::IO | alphabet::CAPITAL_IO => codes::O_STRESSED,
         alphabet::YU | alphabet::CAPITAL_YU => by_stress(s, codes::U_STRESSED, codes::U1),
-        alphabet::YA | alphabet::CAPITAL_YA => row_ya(s, letter_before(m, i, k)),
+        alphabet::YA | alphabet::CAPITAL_YA => row_ya(e, s, letter_before(m, i, k)),
         alphabet::I | alphabet::CAPITAL_I => row_i(s, letter_before(m, i, k), hard_before(m, i, k)),
         _ => 0, // no vowel
     }
@@ -198,24 +214,24 @@ fn has_glide(c: usize, s: Syllable, k: usize) -> bool
     }
 }
 
-// The vowel at place i, of class c and this level.
-pub fn vowel_at(m: &[u8], i: usize, c: usize, level: Level, t: &ClassTable) -> Vowel
+// The vowel at place i, of class c and this level, in an edition.
+pub fn vowel_at(e: Edition, m: &[u8], i: usize, c: usize, level: Level, t: &ClassTable) -> Vowel
     requires { ⌜ (now t ≡ classes) × VowelAt (now m) i c level ⌝ }
-    ensures { λ v. ⌜ Sung (now (m .entry)) i v ⌝ }
+    ensures { λ v. ⌜ Sung e (now (m .entry)) i v ⌝ }
 {
     let k = class_before(m, i, t);
     let s = syllable_by(k, level);
-    let sound = vowel_sound(m[i], s, m, i, k);
+    let code = vowel_code(e, m[i], s, m, i, k);
     let glide = has_glide(c, s, k);
-    Vowel { sound, glide }
+    Vowel { code, glide }
 }
 
 // The first of its codes.
 pub fn first_code(v: Vowel) -> u8
-    ensures { λ r. ⌜ r ≡ cond (v .glide) J (v .sound) ⌝ }
+    ensures { λ r. ⌜ r ≡ cond (v .glide) J (v .code) ⌝ }
 {
     if v.glide {
         return codes::GLIDE;
     }
-    v.sound
+    v.code
 }

@@ -5,6 +5,7 @@
 use super::written_cut;
 use crate::book::{book, record, records, MARK};
 use crate::book_trial::Lent;
+use crate::edition::Edition;
 use crate::gen::Rng;
 use crate::unit::{DISPATCH, LISTENERS};
 
@@ -83,9 +84,9 @@ impl Asked {
     }
 
     /// Looks up the phrase, those beside it and one that the book has, for the listener and for one
-    /// of the three; has the listener add the message, and dispatch too, and one that is good; and
-    /// says what is wrong with the library's answers.
-    pub fn compare(&self, rng: &mut Rng) -> Result<(), String> {
+    /// of the three; has the listener add the message in an edition, and dispatch too, and one that
+    /// is good; and says what is wrong with the library's answers.
+    pub fn compare(&self, rng: &mut Rng, edition: Edition) -> Result<(), String> {
         let lent = Lent::new(&self.buffer, self.used);
         let (phrase, set) = (self.phrase, self.set);
         let beside = [phrase.wrapping_sub(1), phrase.wrapping_add(1)];
@@ -94,10 +95,10 @@ impl Asked {
             lent.lookup(self.listener, phrase).among_others(rng)?;
             lent.lookup(another, phrase).among_others(rng)?;
         }
-        lent.addition(self.listener, phrase, set, &self.msg)
+        lent.addition(self.listener, edition, phrase, set, &self.msg)
             .among_others(rng)?;
         for msg in [&self.msg[..], GOOD] {
-            let addition = lent.addition(DISPATCH, phrase, set, msg);
+            let addition = lent.addition(DISPATCH, edition, phrase, set, msg);
             let (added, buffer) = addition.among_others(rng)?;
             if added.number == 0 {
                 let after = Lent::new(&buffer, added.used);

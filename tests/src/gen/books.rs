@@ -3,6 +3,7 @@
 
 use super::{message, noise, Rng};
 use crate::book::{record, HEAD, MARK};
+use crate::edition::EDITIONS;
 use crate::refusals::Refusal;
 use crate::transcription::transcribe;
 use crate::unit::LISTENERS;
@@ -81,7 +82,7 @@ pub fn any_tape(rng: &mut Rng) -> Vec<u8> {
         5 => vec![0; length],
         6 if rng.one_in(20) => noise::bytes(rng, usize::from(u16::MAX) - length + 1),
         6 => noise::bytes(rng, 245 + length),
-        _ => transcribe(&message(rng, length)),
+        _ => transcribe(rng.pick(&EDITIONS), &message(rng, length)),
     }
 }
 

@@ -10,11 +10,17 @@ unfolding outputAfter
 govorun-book-add-spec =
     tie.close
     (tie.spec
-    (λ c κs. search needs) (λ c. search needs) (λ c κs. search needs) (λ c κs. search needs) (λ c. search needs) (λ c κs. search needs) (λ c κs. search needs) (λ c. search needs)
+    (λ c κs. search needs) (λ c. search needs) (λ c κs. search needs) (λ c κs. search needs) (λ c κs. search needs) (λ c. search needs)
+    (λ c κs. search needs) (λ c κs. search needs) (λ c. search needs)
     (λ c.
     let a = c .before .before .before in
-    let l = a .before .before .before in
-    record { answer = a .add .result; promise = rw (sym (l .before .before .named-by .ensures) ∙ l .l .given .1) (a .add .ensures); said = c .tell-added .ensures })
+    let e = a .before .before in
+    let l = e .before .before in
+    record {
+      answer = a .add .result;
+      promise = rw (sym (l .before .before .named-by .ensures) ∙ l .l .given .1) (rw (e .edition-of .ensures) at (a .add .ensures));
+      said = c .tell-added .ensures;
+    })
     (λ c.
     let n = c .before .before in
     record {

@@ -1,7 +1,7 @@
 -- The check's refusal is answered, then the book's, then a buffer that is too short; and else the record is written behind the book.
 use Rattle.laws.proofs.Kit.{_≤_, _≡_, sym, _∙_, arith, length, length-take-le, needs}
 use Rattle.spec.specs.Book.{addAnswer, afterListener}
-use Rattle.spec.specs.{Tape.tape, Refusals.checkOf, declared.Checked.the-variants.Accepted}
+use Rattle.spec.specs.{Tape.sounds, Refusals.checkOf, declared.Checked.the-variants.Accepted}
 use Rattle.laws.proofs.{Accepted.accepted-counts, Accepted.accepted-passes, Sizes.tape-size}
 use Rattle.message.proofs.Answering.{answered-refused}
 use Rattle.book.proofs.Promised.{add-refused, add-short, add-written}
@@ -13,7 +13,8 @@ accepted : (c : tie.After-checked) → checkOf (c .before .before .before .befor
 accepted c = sym (c .before .before .check .ensures .answer) ∙ c .checked .given .1
 
 -- with as many codes as its tape, which are few
-counted : (c : tie.After-checked) → c .checked .given .0 .0 .codes ≡ length (tape (c .before .before .before .before .before .args .m .now))
+counted : (c : tie.After-checked) → c .checked .given .0 .0 .codes
+    ≡ length (sounds (c .before .before .before .before .before .args .m .now))
 counted c = accepted-counts (c .before .before .before .before .before .args .m .now) (c .checked .given .0 .0) (accepted c) .0
 
 few : (c : tie.After-checked) → c .checked .given .0 .0 .codes ≤ 8192

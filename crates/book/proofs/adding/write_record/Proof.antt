@@ -1,7 +1,8 @@
 -- The head is put, and the tape right behind it.
-use Rattle.laws.proofs.Kit.{_+_, _-_, _≡_, arith, length, needs}
+use Rattle.laws.proofs.Kit.{_+_, _-_, _≡_, sym, _∙_, arith, length, needs}
 use Rattle.spec.specs.{Tape.tape, Book.recordMark, Book.twoBytes, Book.headOf, Book.recordOf}
 use Rattle.laws.proofs.Putting.{put-behind, put-length, put-tape}
+use Rattle.laws.proofs.Editions.{tape-length}
 use Rattle.book.proofs.adding.write_record.Statement.{statement}
 use Rattle.book.proofs.adding.write_record.Tie as tie
 
@@ -33,5 +34,8 @@ write-record-spec =
     let s = h .before .before .before .before in
     let p = h .put-head .ensures in
     let q = put-tape (omega (arith, p .place, s .pre .codes)) (w .write-tape .ensures) in
-    let e : h .put-head .result + s .args .n - length (tape (s .args .m .now)) ≡ h .put-head .result = omega (arith, s .pre .codes) in
-    rw (← s .pre .codes) (put-behind (omega (arith, p .place, s .pre .room)) p (rw e at q))))
+    let n : length (tape (s .args .edition) (s .args .m .now)) ≡ s .args .n = tape-length (s .args .edition) (s .args .m .now)
+    ∙ sym (s .pre .codes) in
+    let e : h .put-head .result + s .args .n - length (tape (s .args .edition) (s .args .m .now))
+    ≡ h .put-head .result = omega (arith, n) in
+    rw n (put-behind (omega (arith, p .place, s .pre .room)) p (rw e at q))))

@@ -25,7 +25,8 @@ returns-4 c =
     let f = w .before .before .before .before .before .before in
     let b = f .before .before in
     let j = w .write-joined in
-    join-written _ _ _ (accepted b) (b .bad-cut .ensures) (f .before .if1 .left) (f .if2 .left) (j .last .1 .1 .0) (j .result) (j .ensures)
+    join-written _ _ _ (accepted b) (b .bad-cut .ensures) (f .before .if1 .left) (f .if2 .left) _ (j .last .1 .1 .1 .0) (j .result)
+    (j .ensures)
 
 pub join-spec : {M : Type 1} → statement M
 unfolding joinAnswer
@@ -35,8 +36,8 @@ join-spec =
     (search needs) (search needs) (search needs) (search needs)
     (λ c. let k = c .before .before .before in rw (c .refused .ensures, k .check .ensures .answer) (answered-refused _ _ (sym (k .check .ensures .answer) ∙ c .before .enum-told .given .1)))
     (search needs)
-    (λ c. let b = c .before in join-cut _ _ _ (accepted b) (b .bad-cut .ensures) (c .if1 .taken))
-    (λ c. let b = c .before .before in join-short _ _ _ (accepted b) (b .bad-cut .ensures) (c .before .if1 .left) (c .if2 .taken))
+    (λ c. let b = c .before in join-cut _ _ _ (accepted b) (b .bad-cut .ensures) _ (c .if1 .taken))
+    (λ c. let b = c .before .before in join-short _ _ _ (accepted b) (b .bad-cut .ensures) (c .before .if1 .left) _ (c .if2 .taken))
     (search needs) (search needs)
     (λ c. sym (length-take-le _ _ (c .before .before .if2 .left)))
     write-joined-requires

@@ -7,10 +7,10 @@ use Rattle.joiner.proofs.join.write_joined.Statement.{statement}
 use Rattle.joiner.proofs.join.write_joined.Tie as tie
 
 abbrev Inv-loop : tie.InvT-loop
-Inv-loop m cuts out₀ t s n whole p₀ k₀ out p k = Laid m cuts k out p
+Inv-loop edition m cuts out₀ t s n whole p₀ k₀ out p k = Laid edition m cuts k out p
 
 abbrev μ-loop : tie.MeasureT-loop
-μ-loop m cuts out₀ t s n whole p₀ k₀ out p k = k
+μ-loop edition m cuts out₀ t s n whole p₀ k₀ out p k = k
 
 returns : tie.Need-returns Inv-loop μ-loop
 returns c =

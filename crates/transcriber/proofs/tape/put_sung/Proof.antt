@@ -25,6 +25,7 @@ put-sung-spec =
     put-requires-2
     (search needs)
     (λ c. let g = c .before .before in let p = g .before .before .before .before .before in let s = p .before .before .before in
-    rw (g .before .before .if1 .taken) (put-over (s .args .v .sound ∷ []) (J ∷ []) _ _ _ _ _ _ (s .pre .1) (p .put .ensures) (g .put2 .ensures)))
+    rw (g .before .before .if1 .taken) (put-over (s .args .v .code ∷ []) (J ∷ []) _ _ _ _ _ _ (s .pre .1) (p .put .ensures)
+    (g .put2 .ensures)))
     (search needs)
     (λ c. rw (c .if1 .left) (c .before .before .before .put .ensures)))

@@ -1,6 +1,6 @@
 -- Each class of byte is handled by its own function, and a byte of an accepted message has one.
 use Rattle.laws.proofs.Kit.{ℕ, Bool, true, _<_, _≡_, arith, getD, needs, eq-eqb, ne-eqb}
-use Rattle.spec.specs.Letters.{isMark}
+use Rattle.spec.specs.{Letters.isMark, declared.Edition.Edition}
 use Rattle.transcriber.specs.Walk.{ReadyFor}
 use Rattle.stress.proofs.Raw.{between-true, vowel-class, break-class}
 use Rattle.transcriber.proofs.Walking.{run-ready, sign-steps, mark-steps}
@@ -10,6 +10,10 @@ use Rattle.transcriber.proofs.tape.step.Tie as tie
 -- where the class is known
 abbrev start : tie.After-class-of → tie.Start
 start k = k .before .before .before .before
+
+-- the edition that is written
+abbrev edition : tie.After-class-of → Edition
+edition k = start k .args .e
 
 -- the byte is one
 byte : (k : tie.After-class-of) → let s = start k in getD (s .args .m .now) (s .args .i) 0 < 256
@@ -40,12 +44,16 @@ step-spec =
     (λ c κs. let k = c .before .before in (start k .pre .0 .byte, tested k (vowel-class (byte k) (k .class-of .ensures) (c .before .if1 .taken))))
     (search needs) (λ c. search needs)
     (λ c κs. let e = c .before .before in let k = e .before in (start k .pre .0, tested k (between-true 6 9 _ (c .before .if2 .taken) (omega (arith, e .if1 .left)))))
-    (search needs) (λ c. search needs)
+    (search needs)
+    (λ c. let p = c .before .before in p .put-consonant .ensures (edition (p .before .before .before .before)))
     (λ c κs. let s = start (c .before .before) in run-ready (s .pre .1) (s .pre .0 .byte))
     (search needs) (search needs)
-    (λ c. let o = c .before in let t = o .before in let q = t .before in
-    rw (c .pass-over .ensures) (sign-steps (tested (q .before .before .before) (between-true 4 5 _ (t .if3 .taken) (omega (arith, q .before .if2 .left)))) (o .seen-over .ensures) (q .step .ensures)))
+    (λ c. let o = c .before in let t = o .before in let q = t .before in let k = q .before .before .before in
+    rw (c .pass-over .ensures) (sign-steps (tested k (between-true 4 5 _ (t .if3 .taken) (omega (arith, q .before .if2 .left))))
+    (o .seen-over .ensures) (q .step .ensures) (edition k)))
     (search needs)
-    (λ c. let t = c .before in let q = t .before .before in rw (c .pass-over2 .ensures) (mark-steps (start (q .before .before .before) .pre .1) (eq-eqb _ 42 (t .if4 .taken)) (q .step .ensures)))
+    (λ c. let t = c .before in let q = t .before .before in let k = q .before .before .before in
+    rw (c .pass-over2 .ensures) (mark-steps (start k .pre .1) (eq-eqb _ 42 (t .if4 .taken)) (q .step .ensures) (edition k)))
     put-break-requires
-    (search needs) (λ c. search needs))
+    (search needs)
+    (λ c. let p = c .before .before in p .put-break .ensures (edition (p .before .before .before .before .before .before .before))))

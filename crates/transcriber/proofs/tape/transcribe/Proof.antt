@@ -1,7 +1,7 @@
 -- The check's refusal is answered, then a lent output that is too short; an accepted message is steady and has as many codes as the check counted, so its tape is written.
 use Rattle.laws.proofs.Kit.{_≡_, sym, _∙_, arith, length, needs}
 use Rattle.spec.specs.{Tape.tape, Refusals.checkOf, Answers.tapeAnswer, declared.Checked.the-variants.Accepted}
-use Rattle.laws.proofs.Accepted.{accepted-counts}
+use Rattle.laws.proofs.{Accepted.accepted-counts, Editions.tape-length}
 use Rattle.message.proofs.Answering.{answered-refused, answered-short, answered-written}
 use Rattle.transcriber.proofs.Promised.{tape-first}
 use Rattle.transcriber.proofs.tape.transcribe.Statement.{statement}
@@ -12,16 +12,25 @@ accepted : (c : tie.After-checked) → checkOf (c .before .before .before .befor
 accepted c = sym (c .before .before .check .ensures .answer) ∙ c .checked .given .1
 
 -- with as many codes as its tape
-counted : (c : tie.After-checked) → c .checked .given .0 .0 .codes ≡ length (tape (c .before .before .before .before .before .args .m .now))
-counted c = accepted-counts (c .before .before .before .before .before .args .m .now) (c .checked .given .0 .0) (accepted c) .0
+counted : (c : tie.After-checked) → let s = c .before .before .before .before .before .args in
+    c .checked .given .0 .0 .codes ≡ length (tape (s .e) (s .m .now))
+counted c = let s = c .before .before .before .before .before .args in
+    accepted-counts (s .m .now) (c .checked .given .0 .0) (accepted c) .0 ∙ sym (tape-length (s .e) (s .m .now))
 
 write-tape-requires : tie.Need-write-tape-requires
 write-tape-requires c κs =
     let a = c .before .before .before .before in
     let e = a .before in
     let k = e .before .before in
-    let n = k .checked .given .0 .0 in
-    (a .lay-tables .ensures, record { counts = n; accepted = accepted k; room = omega (arith, counted k); place = e .if1 .left })
+    let n = k .checked .given .0 .0 in (
+      a .lay-tables .ensures,
+      record {
+        counts = n;
+        accepted = accepted k;
+        room = omega (arith, accepted-counts _ n (accepted k) .0);
+        place = e .if1 .left;
+      },
+    )
 
 pub transcribe-spec : {M : Type 1} → statement M
 unfolding tapeAnswer
