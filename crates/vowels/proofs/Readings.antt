@@ -1,5 +1,5 @@
--- A row that has one sound for each level, read in an edition: what the level chooses among the codes of three sounds is the code of what it
--- chooses among the sounds.
+-- A row that has one sound for each level, read in an edition: what the level chooses among the codes of three sounds is the code of what
+-- it chooses among the sounds.
 use Rattle.laws.proofs.Kit.{ℕ, _≡_, refl, sym, _∙_}
 use Rattle.spec.specs.{Editions.codeIn, Vowels.byLevel, declared.Edition.Edition, declared.Level.Level, declared.Syllable.Syllable}
 use Rattle.spec.specs.declared.Level.the-variants.{Stressed, First, Second}
