@@ -1,2 +1,4 @@
+#![tactic(auto)]
+
 pub mod adding;
 pub mod lookup;

@@ -1,6 +1,8 @@
 // The C interface: include/govorun.h says what each function promises. Each carries its operation's
 // promise on in numbers: four, three for a text of any length or an addition to a book, five for a
 // lookup.
+#![tactic(auto)]
+
 ghost use Rattle.spec.specs.Answers.{CheckPromise, NamePromise, TranscribePromise, JoinPromise};
 ghost use Rattle.spec.specs.Answers.{Carried};
 ghost use Rattle.spec.specs.Editing.{EditPromise};

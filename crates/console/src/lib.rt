@@ -1,3 +1,5 @@
+#![tactic(auto)]
+
 pub mod standard;
 pub mod text;
 

@@ -1,4 +1,6 @@
 // The sounds of consonants (paper 01, passes 4 and 5), by the table of sounds.
+#![tactic(auto)]
+
 ghost use Rattle.std.specs.Prelude.{◌≡◌, cond, ◌+◌, ◌%◌};
 ghost use Rattle.spec.specs.Letters.{small};
 ghost use Rattle.consonants.specs.Following.{voices_over, following_by};

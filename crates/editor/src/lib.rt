@@ -1,6 +1,8 @@
 // The editor (paper 02, slip 1). The breaks at the ends are taken off and the last word is found
 // first. So each word before it ends at a break and each run of breaks at a word, and the loops
 // over them ask for no end.
+#![tactic(auto)]
+
 ghost use Rattle.std.specs.Prelude.{◌≡◌, ◌∷◌, ◌+◌, ◌<◌, ◌≤◌, length, take};
 ghost use Rattle.spec.specs.Alphabet.{gap, pause};
 ghost use Rattle.spec.specs.Tables.{among};

@@ -1,5 +1,7 @@
 // The program for levels: all of standard input is a level in decimal, and what is answered for its
 // words is printed.
+#![tactic(auto)]
+
 mod level;
 
 use console::Input;

@@ -1,4 +1,6 @@
 // The program: all of standard input is the message, and its text is printed.
+#![tactic(auto)]
+
 use console::Input;
 use console::standard::read_input;
 use console::text::{TEXT, print_message};

@@ -1,3 +1,5 @@
+#![tactic(auto)]
+
 pub mod join;
 mod joints;
 

@@ -252,9 +252,10 @@ module _ (st : Storage) where
         → OneByOne st buffer used additions
         → Holding (last_buffer buffer additions) (last_used used additions) (fs ++ accepted st additions)
     holding_all {fs = fs} [] now kept = rw (append-nil fs) now
-    holding_all {fs = fs} (a ∷ more) now kept =
+    holding_all {buffer = buffer} {used = used} {fs = fs} (a ∷ more) now kept =
         let next = holding_next now (sound_next kept.0 now.sound sized) in
-        rw (added_all a.answer fs (accepted st more) (added a)) at (holding_all more next kept.1)
+        rw (added_all a.answer fs (accepted st more) (added a)) at
+        (holding_all {buffer = a.after} {used = used_after a.answer used} {fs = fs ++ added_by a.answer (added a) []} more next kept.1)
 
     -- After every list of additions to an empty book it holds just the tapes of those accepted.
     pub additions_kept : (buffer : List ℕ) (additions : List Addition) → AdditionsKept st buffer additions

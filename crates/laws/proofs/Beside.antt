@@ -1,7 +1,8 @@
 -- What the codes at the two ends of a stretch tell of the bits that come from its neighbours: the last one is voiced just where the bit of what follows voices an obstruent, and at the
 -- start и and э sound Ы just behind a hard boundary. Why: only pass 4's last step looks at what follows, and only the first letter's row at what stands before.
 use Rattle.laws.proofs.Kit.{ℕ, suc, ◌≡◌, refl, sym, ◌∙◌, Bool, true, false, cond, not, ◌&&◌, and-true, and-false, and-eq-true_iff, true≢false, List, [], ◌∷◌, ◌++◌, append_assoc, not-true}
-use Rattle.spec.specs.Letters.{Letter, Message, last, more, first_byte, first_word, last_word, obstruents, is_obstruent}
+use Rattle.spec.specs.Letters.{Letter, Message, last, more, first_byte, first_word, last_word, obstruents, is_obstruent, is_gap}
+use Rattle.spec.specs.Vowels.{ends_hard}
 use Rattle.spec.specs.Voicing.{voiced, voiceless, voiced_code, voiceless_code, tone_of, toned, voice_one, voice}
 use Rattle.spec.specs.{Codes.mark_of, Phones.Phone, Palatalization.is_soft, Palatalization.first_code, Palatalization.palatalize}
 use Rattle.spec.specs.{Tape.word_tape, Tape.segment, Joints.ends_in_obstruent, Joints.begins_with_i_or_e}
@@ -56,7 +57,7 @@ mark_unvoiced x = mark_both (λ c. is_voiced c ≡ false) x refl refl
 pub segment_ends : (h n : Bool) (d : ℕ) (r : Message) → is_voiced d ≡ false → Spells r → is_voiced (last_code_from d (segment h n r)) ≡ (n && ends_in_obstruent (last_word r))
 unfolding segment last_word word_tape mark_of
 segment_ends h n d (last w) e s = ends_voiced n d _ e (λ _. word_fine h w s) ∙ rw (word_toned h w)
-segment_ends h n d (more w x r) e s = rw last_append (segment_ends _ n (mark_of x) r (mark_unvoiced x) s.1)
+segment_ends h n d (more w x r) e s = rw last_append (segment_ends (is_gap x && ends_hard w) n (mark_of x) r (mark_unvoiced x) s.1)
 
 -- so it does at the start of a stretch
 pub segment_starts : (h n : Bool) (r : Message) (u : List ℕ) → (is_high (first_code (segment h n r ++ u)) && is_i_or_e (first_byte (first_word r))) ≡ (h && begins_with_i_or_e (first_word r))

@@ -247,7 +247,7 @@ marks_append (c ∷ s) t = rw (marks_append s t) (sym (cond_app (λ (x : List �
 segment_marks : (h n : Bool) (r : Message) → Spells r → marks_of (segment h n r) ≡ marks_in r
 unfolding segment marks_in
 segment_marks h n (last w) s = sounds_unmarked _ (word_sounds h n w s)
-segment_marks h n (more w x r) s = rw (marks_append, sounds_unmarked _ (word_sounds h _ w s.0), marks_mark, segment_marks _ n r s.1)
+segment_marks h n (more w x r) s = rw (marks_append, sounds_unmarked _ (word_sounds h _ w s.0), marks_mark, segment_marks (is_gap x && ends_hard w) n r s.1)
 
 -- The marks on the tape of bytes are those of their breaks, in order, whatever stands around them.
 pub bytes_marks : (h n : Bool) (p : List ℕ) → Spells (read p) → marks_of (segment h n (read p)) ≡ break_marks p
@@ -290,7 +290,7 @@ module _ (e : Edition) where
   segment_codes h n (more w x r) s =
       let v = is_gap x && voices (segment (is_gap x && ends_hard w) n r) in
       rw (map-append, mark_own) (each_append is_code (map (code_in e) (word_tape h v w)) _
-      (read_codes (word_tape h v w) (word_sounds h v w s.0)) (mark_code x, segment_codes _ n r s.1))
+      (read_codes (word_tape h v w) (word_sounds h v w s.0)) (mark_code x, segment_codes (is_gap x && ends_hard w) n r s.1))
 
   -- so are those of each tape of an accepted message, whole or in parts
   module _ (m : List ℕ) (p : Passes m) where

@@ -1,10 +1,11 @@
 -- The two editions of an accepted message: each sound is one that its letter makes, so where the letter is е, я or а it is ИЭ just where
 -- edition 1 has Э1, and elsewhere it is no ИЭ, and both editions have the same code.
 use Rattle.laws.proofs.Kit.{ℕ, ◌≡◌, refl, sym, ap, ◌∙◌, Bool, true, false, and-false, and-eq-true_iff, true≢false, List, [], ◌∷◌}
-use Rattle.laws.proofs.Kit.{◌++◌, map, eqb, eqb-true, length, take, append-nil, take-length, not-true, suc}
+use Rattle.laws.proofs.Kit.{◌++◌, ◌&&◌, map, eqb, eqb-true, length, take, append-nil, take-length, not-true, suc}
 use mathlib.Core.List.{map-append}
 use lib.ListN.{length-map}
-use Rattle.spec.specs.Letters.{Letter, Message, last, more, read}
+use Rattle.spec.specs.Letters.{Letter, Message, last, more, read, is_gap}
+use Rattle.spec.specs.Vowels.{ends_hard}
 use Rattle.spec.specs.Codes.{Э1, ИЭ, mark_of, is_sound_code, is_sound}
 use Rattle.spec.specs.{Tables.among, Editions.reduced, Editions.code_in, Elision.elide, Syllables.Facts, Syllables.facts_of}
 use Rattle.spec.specs.{Phones.phones_from, Refusals.NoneFits}
@@ -68,7 +69,7 @@ segment_newer hard next (last w) s =
     rw (append-nil (makers_from 0 (elide w)), append-nil (word_tape hard next w)) at (newer_word hard next w [] [] s
     (record { differ = refl; made = refl }))
 segment_newer hard next (more w x r) s =
-    newer_word hard _ w _ _ s.0 (newer_more (mark_reads x x) (segment_newer _ next r s.1))
+    newer_word hard _ w _ _ s.0 (newer_more (mark_reads x x) (segment_newer (is_gap x && ends_hard w) next r s.1))
 
 -- What holds of both editions of an accepted message.
 pub both_editions : (m : List ℕ) → NoneFits m → BothEditions m

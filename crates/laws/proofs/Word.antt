@@ -83,7 +83,7 @@ pub elide_ends : (d : Bool) (p : ℕ) (w : List Letter) → ends_in_obstruent_fr
 unfolding elide_from ends_in_obstruent_from
 elide_ends d p [] = refl
 elide_ends d p (l ∷ w) =
-    either (elides p l.byte w) (λ q. rw q (elide_ends d l.byte w ∙ elided_ends p l.byte d _ w q)) (λ q. rw q (elide_ends _ l.byte w))
+    either (elides p l.byte w) (λ q. rw q (elide_ends d l.byte w ∙ elided_ends p l.byte d _ w q)) (λ q. rw q (elide_ends (cond (is_sign l.byte) d (is_obstruent l.byte)) l.byte w))
 
 -- the last sound of a word is of its last letter, signs passed over
 pub word_toned : (h : Bool) (w : List Letter) → ends_toned false (phones_from h (facts_of w) 0 (elide w)) ≡ ends_in_obstruent w

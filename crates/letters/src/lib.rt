@@ -1,3 +1,5 @@
+#![tactic(auto)]
+
 pub mod classes;
 pub mod classify;
 pub mod elision;

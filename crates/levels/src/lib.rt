@@ -1,4 +1,6 @@
 // Spoken levels (paper 02, slip 5): the words of a level, put into the lent output.
+#![tactic(auto)]
+
 ghost use Rattle.std.specs.Prelude.{◌≡◌, ◌≤◌, leb, length, pos, nat_abs};
 ghost use Rattle.spec.specs.SpokenLevels.{spoken, InRange, LevelPromise};
 ghost use Rattle.laws.specs.Putting.{Put};

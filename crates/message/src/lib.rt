@@ -1,3 +1,5 @@
+#![tactic(auto)]
+
 pub mod answers;
 pub mod check;
 mod kinds;

@@ -1,5 +1,7 @@
 // The naming operation: one walk over the message from its end, which writes the syllable names
 // from their end.
+#![tactic(auto)]
+
 ghost use Rattle.std.specs.Prelude.{◌≡◌, ◌++◌, drop};
 ghost use Rattle.letters.specs.Classes.{classes};
 ghost use Rattle.spec.specs.Syllables.{incomplete, name_of};

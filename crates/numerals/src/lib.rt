@@ -1,5 +1,7 @@
 // The words of numbers, put into a lent output one after the other: the table of paper 02, slip 5,
 // row by row.
+#![tactic(auto)]
+
 ghost use Rattle.std.specs.Prelude.{[], ◌∷◌, ◌<◌, ◌≤◌, length};
 ghost use Rattle.spec.specs.SpokenLevels.{units, teens, tens, hundreds, feminine, word_in};
 ghost use Rattle.spec.specs.SpokenLevels.{thousand, thousands};

@@ -1,5 +1,7 @@
 // The record of a phrase (paper 02, requests 6 and 7): a head of mark, number, set of listeners and
 // length, and then the tape.
+#![tactic(auto)]
+
 ghost use Rattle.std.specs.Prelude.{◌≡◌, [], ◌∷◌, ◌+◌, ◌<◌, ◌≤◌, length, drop};
 ghost use Rattle.spec.specs.Book.{book_storage, head_size, pair_at, span_in, has_record_mark, is_record};
 ghost use Rattle.spec.specs.Book.{two_bytes, head_of};

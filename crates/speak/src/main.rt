@@ -1,5 +1,7 @@
 // The program for texts in UTF-8: all of standard input is the text, and what is answered for it is
 // printed.
+#![tactic(auto)]
+
 mod text;
 
 use console::Input;

@@ -1,5 +1,6 @@
 // The types and the named numbers that the papers' definitions and the operations share. This crate
 // has no function: specs/ is what people must believe.
+#![tactic(auto)]
 
 pub mod alphabet;
 pub mod codes;

@@ -1,3 +1,5 @@
+#![tactic(auto)]
+
 pub mod before;
 pub mod levels;
 pub mod syllables;

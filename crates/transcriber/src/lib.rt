@@ -1,3 +1,5 @@
+#![tactic(auto)]
+
 pub mod tables;
 pub mod tape;
 

@@ -1,3 +1,5 @@
+#![tactic(auto)]
+
 pub mod reader;
 mod tables;
 pub mod writer;

@@ -1,6 +1,8 @@
 // The sounds of vowels (paper 01, pass 3) as codes of an edition: an arm for each row. A row that
 // asks of the letter before is a function of it: that letter's class, or the boundary where there
 // is no letter, chooses the sounds, and the level one of them.
+#![tactic(auto)]
+
 ghost use Rattle.std.specs.Prelude.{◌≡◌, false, cond, ◌<◌};
 ghost use Rattle.spec.specs.Letters.{small};
 ghost use Rattle.spec.specs.Vowels.{by_level, by_stress, rowА, rowО, rowЭ, rowЕ, rowЯ, rowИ};
