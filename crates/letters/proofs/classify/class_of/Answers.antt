@@ -1,5 +1,5 @@
 -- The table has the class of each byte.
-use Rattle.laws.proofs.Kit.{◌<◌, arith, rules}
+use Rattle.laws.proofs.Kit.{◌<◌, arith}
 use Rattle.letters.proofs.{Bytes.by_class, Tabulated.class_read}
 use Rattle.letters.proofs.classify.class_of.Goals as goal
 

@@ -1,5 +1,5 @@
 -- The rules ask of consonants, and a folded letter is one of them just when the small letter is; the letter after an elided one is one of five.
-use Rattle.laws.proofs.Kit.{ℕ, ◌<◌, ◌≡◌, refl, sym, ◌∙◌, or-false, map, arith, eqb, rules}
+use Rattle.laws.proofs.Kit.{ℕ, ◌<◌, ◌≡◌, refl, sym, ◌∙◌, or-false, map, arith, eqb}
 use Rattle.spec.specs.{Alphabet.«д», Alphabet.«т», Tables.among, Letters.small, Elision.elides_among}
 use Rattle.laws.proofs.Classes.{among_same, below_same}
 use Rattle.laws.proofs.Elided.{before_other}

@@ -1,5 +1,5 @@
 -- The code's test is the definition's.
-use Rattle.laws.proofs.Kit.{le-leb, lt-leb, rules}
+use Rattle.laws.proofs.Kit.{le-leb, lt-leb}
 use Rattle.letters.proofs.elision.fold_case.Goals as goal
 
 pub returns-then-b-lt-FIRST_CAPITAL : goal.returns-then-b-lt-FIRST_CAPITAL

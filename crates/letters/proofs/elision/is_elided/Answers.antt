@@ -1,5 +1,5 @@
 -- `message::letters::is_elided` meets its contract: the bytes are those beside the place, and nothing is silent at the start or end of a message.
-use Rattle.laws.proofs.Kit.{ℕ, ◌+◌, ◌≤◌, and-false, arith, length, List·getD-eq-default, rules}
+use Rattle.laws.proofs.Kit.{ℕ, ◌+◌, ◌≤◌, and-false, arith, length, List·getD-eq-default}
 use Rattle.spec.specs.{Letters.small, Elision.elides_t, Elision.elides_d, Elision.elides_among}
 use Rattle.letters.specs.Classes.{letter_at, byte_before, elided_at}
 use Rattle.letters.proofs.Before.{before_at_lem}

@@ -1,5 +1,4 @@
 -- A store right before a place is a code put there.
-use Rattle.laws.proofs.Kit.{rules}
 use Rattle.laws.proofs.Putting.{put_one}
 use Rattle.letters.proofs.output.put.Goals as goal
 
