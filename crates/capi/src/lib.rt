@@ -27,7 +27,7 @@ use utf8::reader::read_utf8;
 use utf8::writer::write_utf8;
 
 #[repr(C)]
-#[derive(Drop)]
+#[derive(Clone, Copy)]
 pub struct GovorunAnswer {
     pub number: u32,
     pub place: u32,
@@ -36,7 +36,7 @@ pub struct GovorunAnswer {
 }
 
 #[repr(C)]
-#[derive(Drop)]
+#[derive(Clone, Copy)]
 pub struct GovorunCounts {
     pub number: u32,
     pub place: u32,
@@ -45,7 +45,7 @@ pub struct GovorunCounts {
 }
 
 #[repr(C)]
-#[derive(Drop)]
+#[derive(Clone, Copy)]
 pub struct GovorunText {
     pub number: u32,
     pub place: usize,
@@ -53,7 +53,7 @@ pub struct GovorunText {
 }
 
 #[repr(C)]
-#[derive(Drop)]
+#[derive(Clone, Copy)]
 pub struct GovorunAdded {
     pub number: u32,
     pub place: usize,
@@ -61,7 +61,7 @@ pub struct GovorunAdded {
 }
 
 #[repr(C)]
-#[derive(Drop)]
+#[derive(Clone, Copy)]
 pub struct GovorunFound {
     pub number: u32,
     pub place: usize,
@@ -216,7 +216,7 @@ fn tell_added(a: Answer) -> GovorunAdded
 }
 
 // Whom a caller in C names: a listener, or someone who is none.
-#[derive(Drop)]
+#[derive(Clone, Copy)]
 pub enum Named {
     Known(Listener),
     Other,

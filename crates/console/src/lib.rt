@@ -4,7 +4,7 @@ pub mod standard;
 pub mod text;
 
 // What came of standard input: so many bytes, or a read failed.
-#[derive(Drop)]
+#[derive(Clone, Copy)]
 pub enum Input {
     Bytes(usize),
     Failed,

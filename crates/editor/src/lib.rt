@@ -17,14 +17,14 @@ use spec::alphabet::{GAP, PAUSE};
 use spec::{Answer, Refusal, numbers};
 
 // A run of breaks: how many bytes it has, and the break that it becomes.
-#[derive(Drop)]
+#[derive(Clone, Copy)]
 pub struct Run {
     pub length: usize,
     pub becomes: u8,
 }
 
 // How far the walk goes over a word and the breaks behind it: in the text, and in what is edited.
-#[derive(Drop)]
+#[derive(Clone, Copy)]
 pub struct Stride {
     pub read: usize,
     pub put: usize,

@@ -4,7 +4,7 @@ pub mod join;
 mod joints;
 
 // What a cut changes: the last code before it, the first code after it.
-#[derive(Drop)]
+#[derive(Clone, Copy)]
 pub struct Changes {
     pub before: bool,
     pub after: bool,
@@ -13,7 +13,7 @@ pub struct Changes {
 // How far the second tape is laid, from the right: from the mark of place e on, which stands at
 // index at of the tape. How many cuts there are live, in how many steps were the levels found so
 // far, and does the cut at place e change the last code before it?
-#[derive(Drop)]
+#[derive(Clone, Copy)]
 pub struct Progress {
     pub e: usize,
     pub at: usize,
@@ -24,7 +24,7 @@ pub struct Progress {
 
 // What the writing of the second tape counts: the live cuts, and the steps that found the levels.
 // No answer shows the steps, so the compiler leaves them out.
-#[derive(Drop)]
+#[derive(Clone, Copy)]
 pub struct JoinCounts {
     pub live: usize,
     pub steps: usize,

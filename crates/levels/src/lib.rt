@@ -15,7 +15,7 @@ pub const LONGEST: usize = 54;
 
 // The parts that a number of centimetres is spoken in: how many thousands; the hundreds and the
 // tens as they are, 0 to 900 and 0 to 90; and the units.
-#[derive(Drop)]
+#[derive(Clone, Copy)]
 pub struct Parts {
     pub thousands: usize,
     pub hundreds: usize,

@@ -8,7 +8,7 @@ mod pairs;
 // What the check has seen of a message when it stands at a place: the kind of what stands before
 // it, a place from which the letters of the word are still to be counted, another before which none
 // of them is a 65th, and the codes and names so far.
-#[derive(Drop)]
+#[derive(Clone, Copy)]
 pub struct Seen {
     pub at: usize,
     pub kind: usize,
@@ -18,7 +18,7 @@ pub struct Seen {
 }
 
 // What one byte more comes to: a fault's number, or what is seen after it.
-#[derive(Drop)]
+#[derive(Clone, Copy)]
 pub enum Step {
     Fault(u8),
     Next(Seen),

@@ -27,7 +27,7 @@ use stress::{LevelRun, levels};
 
 // What stands right of a place of the message, in the walk from its end: where the names written so
 // far begin, and the run of the levels.
-#[derive(Drop)]
+#[derive(Clone, Copy)]
 pub struct NameState {
     pub at: usize,
     pub levels: LevelRun,

@@ -8,63 +8,63 @@ pub mod numbers;
 
 // The syllable that a vowel closes (paper 01, pass 2): whether anything stands before the vowel in
 // it, and how near the stress is.
-#[derive(Drop)]
+#[derive(Clone, Copy)]
 pub enum Cover {
     Bare,
     Covered,
 }
 
 // Levels S, 1 and 2.
-#[derive(Drop)]
+#[derive(Clone, Copy)]
 pub enum Level {
     Stressed,
     First,
     Second,
 }
 
-#[derive(Drop)]
+#[derive(Clone, Copy)]
 pub struct Syllable {
     pub cover: Cover,
     pub level: Level,
 }
 
 // The two readings of a tape (paper 02, request 8): that of paper 01, and the newer one.
-#[derive(Drop)]
+#[derive(Clone, Copy)]
 pub enum Edition {
     One,
     Two,
 }
 
 // Why a message is turned away, by the paper's number, and where.
-#[derive(Drop)]
+#[derive(Clone, Copy)]
 pub struct Refusal {
     pub number: u8,
     pub place: usize,
 }
 
 // How long the answers for an accepted message are: codes of its tape, syllable names.
-#[derive(Drop)]
+#[derive(Clone, Copy)]
 pub struct Counts {
     pub codes: usize,
     pub names: usize,
 }
 
 // What the message check answers.
-#[derive(Drop)]
+#[derive(Clone, Copy)]
 pub enum Checked {
     Accepted(Counts),
     Refused(Refusal),
 }
 
 // What an operation on a lent output answers. The live count is the joiner's; the others answer 0.
-#[derive(Drop)]
+#[derive(Clone, Copy)]
 pub enum Answer {
     Written { length: usize, live: usize },
     Refused(Refusal),
 }
 
 // Who calls the phrase book (paper 02, slip 7).
-#[derive(Drop)]
+#[derive(Clone, Copy)]
 pub enum Listener {
     Pump,
     Road,
@@ -72,14 +72,14 @@ pub enum Listener {
 }
 
 // What a lookup in the phrase book tells: the tape was handed back, or why not.
-#[derive(Drop)]
+#[derive(Clone, Copy)]
 pub enum Found {
     Tape,
     Refused(Refusal),
 }
 
 // The same with the tape's place in the lent buffer, for callers in C.
-#[derive(Drop)]
+#[derive(Clone, Copy)]
 pub enum Located {
     At { start: usize, length: usize },
     Refused(Refusal),

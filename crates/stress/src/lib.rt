@@ -6,7 +6,7 @@ pub mod syllables;
 
 // What the run of the levels' step carries from place to place, to the left: counts and flags, and
 // nothing else of the message.
-#[derive(Drop)]
+#[derive(Clone, Copy)]
 pub struct LevelRun {
     pub before: usize, // count: the steps of the walk's turns before this one; no answer shows it
     pub steps: usize, // count: the steps since; the compiler leaves both counts out

@@ -5,14 +5,14 @@ mod tables;
 pub mod writer;
 
 // How far a text is readable: so many octets of it, which become so many bytes.
-#[derive(Drop)]
+#[derive(Clone, Copy)]
 pub struct Extent {
     pub octets: usize,
     pub bytes: usize,
 }
 
 // The two octets of a letter.
-#[derive(Drop)]
+#[derive(Clone, Copy)]
 pub struct Letter {
     pub lead: u8,
     pub next: u8,

@@ -26,14 +26,14 @@ mod letter_classes;
 
 // The letter before another of its word: the byte before that one, which is the letter's, small or
 // capital, or the mark of a stressed vowel; none at the word's start.
-#[derive(Drop)]
+#[derive(Clone, Copy)]
 pub enum LetterBefore {
     None,
     Byte(u8),
 }
 
 // What a vowel puts on the tape: its code, and whether a glide stands before it.
-#[derive(Drop)]
+#[derive(Clone, Copy)]
 pub struct Vowel {
     pub code: u8,
     pub glide: bool,
