@@ -1,5 +1,5 @@
 -- The answer is the test's.
-use Rattle.laws.proofs.Kit.{arith, rules}
+use Rattle.laws.proofs.Kit.{arith}
 use Rattle.consonants.proofs.sound_of.Goals as goal
 
 pub returns-then-soft : goal.returns-then-soft

@@ -1,5 +1,4 @@
--- The bytes passed so far are letters, so what stands before them tells of the word's marks, and each was one step; a mark or a break, or the message's start, then tells all. The measure is j.
-use Rattle.laws.proofs.Kit.{ℕ, suc, ◌+◌, ◌-◌, ◌≤◌, ◌≡◌, refl, ◌∙◌, true, false, true≢false, false≢true, arith, needs, List, get_or}
+use Rattle.laws.proofs.Kit.{ℕ, suc, ◌+◌, ◌-◌, ◌≤◌, ◌≡◌, refl, ◌∙◌, true, false, true≢false, false≢true, arith, List, get_or}
 use Rattle.spec.specs.{Letters.is_break, Letters.is_mark, LevelSteps.back_at}
 use Rattle.letters.specs.Places.{Steady}
 use Rattle.letters.proofs.{Bytes.vowel_break, Bytes.vowel_mark, Left.mark_within}
@@ -7,17 +6,9 @@ use Rattle.stress.specs.{declared.LevelRun.LevelRun, Places.mark_before}
 use Rattle.stress.specs.Levels.{step_over, end_run, Looked}
 use Rattle.laws.proofs.LevelSteps.{back_most}
 use Rattle.stress.proofs.Levelling.{step_by, back_letter, back_mark, back_break}
-use Rattle.stress.proofs.levels.look_back.Statement.{statement}
-use Rattle.stress.proofs.levels.look_back.Tie as tie
-
--- the run has come to place j
-record Ahead (m : List ℕ) (i : ℕ) (s : LevelRun) (j : ℕ) (ahead : LevelRun) : Type 0 where
-  pub within : j ≤ i
-  pub marked : ahead.marked ≡ false
-  pub tells : mark_before m j ≡ mark_before m i
-  pub steps : ahead.steps + back_at m j ≡ s.steps + back_at m i
-  pub before : ahead.before ≡ s.before
-  pub since : ahead.since + j ≤ i + 2
+use Rattle.stress.proofs.levels.look_back.Goals as goal
+use Rattle.stress.proofs.levels.look_back.Goals.{After-shared_slice_known-in-loop-j-1}
+use Rattle.stress.proofs.levels.look_back.Invariants.{Ahead}
 
 module _ {m : List ℕ} {i k : ℕ} {s ahead : LevelRun} (a : Ahead m i s (suc k) ahead) where
   -- over a letter it goes on
@@ -61,19 +52,11 @@ start : {m : List ℕ} {i : ℕ} {s ahead q : LevelRun} → Ahead m i s 0 ahead 
 unfolding mark_before back_at
 start a e = rw e (record { since = refl; marked = a.tells; steps = omega (arith, a.steps); before = a.before })
 
-abbrev invariant_loop : tie.invariant_loop
-invariant_loop m i t j₀ ahead₀ j ahead = Ahead m i ahead₀ j ahead
-
-abbrev decreases_loop : tie.decreases_loop
-decreases_loop m i t j₀ ahead₀ j ahead = j
-
 -- what is known in a turn of the loop
-turn : (c : tie.After-shared-slice-known2 invariant_loop decreases_loop) → let l = c.before.before in let s = l.before.before in
-    Ahead s.args.m.now s.args.i s.args.s (suc (l.loop.j - 1)) l.loop.ahead
+turn : (c : After-shared_slice_known-in-loop-j-1) → Ahead c.args.m.now c.args.i c.args.s (suc (c.loop-j.j - 1)) c.loop-j.ahead
 turn c =
-    let l = c.before.before in
-    let e : suc (l.loop.j - 1) ≡ l.loop.j = omega (arith, c.before.loop-test.true) in
-    rw e l.loop.invariant
+    let e : suc (c.loop-j.j - 1) ≡ c.loop-j.j = omega (arith, c.loop-j-test.true) in
+    rw e c.loop-j.invariant
 
 -- the step met a mark or a break, or neither
 module _ {m : List ℕ} {i k : ℕ} {s ahead q : LevelRun} (a : Ahead m i s (suc k) ahead) (stepped : q ≡ step_over ahead (get_or m k 0)) where
@@ -87,26 +70,35 @@ module _ {m : List ℕ} {i k : ℕ} {s ahead q : LevelRun} (a : Ahead m i s (suc
       refl (omega arith) refl refl)
       (λ n e. absurd (true≢false e)) (λ b e. absurd (true≢false e)) (λ b n v e. letter a b n refl (omega arith) refl refl))
 
-pub look_back_spec : {M : Type 1} → statement M
-look_back_spec =
-    tie.close
-    (tie.spec
-    invariant_loop decreases_loop
-    (λ c. let p = c.before.requires in
-    record { within = omega arith; marked = p.marked; tells = refl; steps = refl; before = refl; since = omega (arith, p.since) })
-    (λ c. omega (arith, c.loop-test.true))
-    (λ c. omega (arith, c.before.before.loop.invariant.within, c.before.before.before.before.requires.within))
-    (λ c κs. let a = turn c in let s = c.before.before.before.before in let p = s.requires in let y = p.steady in
+pub loop-j-init : goal.loop-j-init
+loop-j-init c =
+    let p = c.requires in
+    record { within = omega arith; marked = p.marked; tells = refl; steps = refl; before = refl; since = omega (arith, p.since) }
+
+pub overflow_sub-j : goal.overflow_sub-j
+overflow_sub-j c = omega (arith, c.loop-j-test.true)
+
+pub bounds-m-j : goal.bounds-m-j
+bounds-m-j c = omega (arith, c.loop-j.invariant.within, c.requires.within)
+
+pub step-ahead-requires : goal.step-ahead-requires
+step-ahead-requires c =
+    let a = turn (goal.at.step-ahead-requires c).After-shared_slice_known-in-loop-j-1 in let p = c.requires in let y = p.steady in
     record {
       table = p.table;
       named = y.named _ (omega (arith, a.within, p.within));
-      steps = omega (arith, a.steps, p.steps, back_most s.args.m.now s.args.i, p.within, y.short);
+      steps = omega (arith, a.steps, p.steps, back_most c.args.m.now c.args.i, p.within, y.short);
       since = omega (arith, a.since, p.within, y.short);
-    })
-    (search needs)
-    (λ c. let k = c.before.before in rw c.at-word-end.ensures (edged (turn k.before) k.step.ensures c.before.if1.true))
-    (λ c. omega (arith, c.before.before.before.loop-test.true))
-    (λ c. let k = c.before in
-    inside (turn k.before) k.step.ensures k.before.before.before.before.before.requires.steady c.if1.false)
-    (search needs)
-    (λ c. let l = c.before.before in let e : l.loop.j ≡ 0 = omega (arith, c.before.loop-test.false) in start (rw e at l.loop.invariant) c.at-word-end2.ensures))
+    }
+
+pub returns-then-ahead : goal.returns-then-ahead
+returns-then-ahead c = rw c.at_word_end.ensures (edged (turn (goal.at.returns-then-ahead c).After-shared_slice_known-in-loop-j-1) c.step-ahead.ensures c.if-ahead.true)
+
+pub loop-j-smaller : goal.loop-j-smaller
+loop-j-smaller c = omega (arith, c.loop-j-test.true)
+
+pub loop-j-preserved : goal.loop-j-preserved
+loop-j-preserved c = inside (turn (goal.at.loop-j-preserved c).After-shared_slice_known-in-loop-j-1) c.step-ahead.ensures c.requires.steady c.if-ahead.false
+
+pub returns : goal.returns
+returns c = let e : c.loop-j.j ≡ 0 = omega (arith, c.loop-j-test.false) in start (rw e at c.loop-j.invariant) c.at_word_end-2.ensures

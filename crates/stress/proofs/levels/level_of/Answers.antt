@@ -1,10 +1,10 @@
 -- Of 0 and 1 syllables each counts, and of more two where the word has a mark, else one; that number is the level's.
-use Rattle.laws.proofs.Kit.{ℕ, zero, suc, ◌+◌, ◌<◌, ◌≤◌, ◌≡◌, refl, ◌∙◌, Bool, true, false, ⊎_elim, arith, needs}
+use Rattle.laws.proofs.Kit.{ℕ, zero, suc, ◌+◌, ◌<◌, ◌≤◌, ◌≡◌, refl, ◌∙◌, Bool, true, false, ⊎_elim, arith}
 use mir.Val.{bool_byte}
 use Rattle.spec.specs.declared.Level.TheVariants.{Second}
 use Rattle.stress.specs.Levels.{Least, counted_by, numbered}
-use Rattle.stress.proofs.levels.level_of.Statement.{statement}
-use Rattle.stress.proofs.levels.level_of.Tie as tie
+use Rattle.stress.proofs.levels.level_of.Goals as goal
+use Rattle.stress.proofs.levels.level_of.Goals.{After-least}
 
 fewer : (n : ℕ) (marked : Bool) → n < 1 + bool_byte marked → n ≡ counted_by n marked
 fewer zero marked h = refl
@@ -34,15 +34,20 @@ larger (suc zero) a b = absurd (b refl)
 larger (suc (suc n)) a b = refl
 
 -- the number that was found
-found : (k : tie.After-least) → let s = k.before.before.args.s in k.least.result ≡ counted_by s.since s.marked
-found k = counts _ _ k.least.ensures
+found : (c : After-least) → let s = c.args.s in c.least.result ≡ counted_by s.since s.marked
+found c = counts _ _ c.least.ensures
 
-pub level_of_spec : {M : Type 1} → statement M
-level_of_spec =
-    tie.close
-    (tie.spec
-    (search needs) (λ c. omega (arith, small c.before.args.s.marked)) (search needs)
-    (λ c. rw (← found c.before, c.match.keys1))
-    (λ c. rw (← found c.before, c.match.keys2))
-    (λ c. rw (← found c.before, c.match.keys3))
-    (λ c. rw (← found c.before) (larger _ c.match.rest.0.0.1 c.match.rest.0.1)))
+pub overflow_add-s : goal.overflow_add-s
+overflow_add-s c = omega (arith, small c.args.s.marked)
+
+pub returns-in-0 : goal.returns-in-0
+returns-in-0 c = rw (← found (goal.at.returns-in-0 c).After-least, c.in-0.is)
+
+pub returns-in-1 : goal.returns-in-1
+returns-in-1 c = rw (← found (goal.at.returns-in-1 c).After-least, c.in-1.is)
+
+pub returns-in-2 : goal.returns-in-2
+returns-in-2 c = rw (← found (goal.at.returns-in-2 c).After-least, c.in-2.is)
+
+pub returns-in_default : goal.returns-in_default
+returns-in_default c = rw (← found (goal.at.returns-in_default c).After-least) (larger _ c.in_default.in_default-own.rest.0.0.1 c.in_default.in_default-own.rest.0.1)

@@ -1,0 +1,45 @@
+-- The entry tells the case: a fault, or a byte that is passed unless it is a 65th letter.
+use Rattle.laws.proofs.Kit.{◌<◌, ◌≡◌, cond, add-one, arith, length, rules}
+use Rattle.message.specs.Steps.{fault_here}
+use Rattle.message.proofs.Checking.{sees_small, sees_more, stop_here, full_here, Gives, gives}
+use Rattle.letters.proofs.Bytes.{by_class}
+use Rattle.message.proofs.check.step.Goals as goal
+use Rattle.message.proofs.check.step.Goals.{After-class_of-c, After-entry_at-e, After-is_too_many}
+
+-- the check stands at one
+byte : (c : After-class_of-c) → c.count_on-counted.result.at < length c.args.m.now
+byte c = omega (arith, c.count_on-counted.ensures.place, c.requires.byte)
+
+-- what its entry has
+here : (c : After-entry_at-e) → let r = c.count_on-counted.ensures in Gives r.sees (byte (goal.at.After-entry_at-e c).After-class_of-c) c.class_of-c.ensures c.entry_at-e.ensures.0
+here c = gives c.count_on-counted.ensures.sees (byte (goal.at.After-entry_at-e c).After-class_of-c) c.class_of-c.ensures c.entry_at-e.ensures.0
+
+-- its fault without a second stop
+fault : (c : After-is_too_many) → fault_here c.args.m.now c.count_on-counted.result.at ≡ cond c.is_too_many.result 10 0
+fault c =
+    let r = c.count_on-counted.ensures in
+    rw c.is_too_many.ensures (full_here r.sees (byte (goal.at.After-is_too_many c).After-class_of-c) c.class_of-c.ensures c.entry_at-e.ensures.0 c.if-e.false r.full)
+
+pub returns : goal.returns
+returns c =
+    let r = c.count_on-counted in
+    let z = rw c.if-is_too_many.false at (fault (goal.at.returns c).After-is_too_many) in
+    (rw (add-one r.result.at, c.next_kind-kind.ensures) (sees_more r.ensures.sees (byte (goal.at.returns c).After-class_of-c) c.class_of-c.ensures c.entry_at-e.ensures.0 _ z (omega (arith, c.silent_at.ensures.0, (here (goal.at.returns c).After-entry_at-e).enough))), omega (arith, r.ensures.place))
+
+pub entry_at-e-requires : goal.entry_at-e-requires
+entry_at-e-requires c = let b = sees_small c.count_on-counted.ensures.sees in let h = byte (goal.at.entry_at-e-requires c).After-class_of-c in search rules
+
+pub returns-then-e : goal.returns-then-e
+returns-then-e c = let r = c.count_on-counted.ensures in rw (← r.place) (stop_here r.sees (byte (goal.at.returns-then-e c).After-class_of-c) c.class_of-c.ensures c.entry_at-e.ensures.0 c.if-e.true)
+
+pub returns-then-is_too_many : goal.returns-then-is_too_many
+returns-then-is_too_many c = (rw (← c.count_on-counted.ensures.place, fault (goal.at.returns-then-is_too_many c).After-is_too_many, c.if-is_too_many.true), search rules)
+
+pub next_kind-kind-requires : goal.next_kind-kind-requires
+next_kind-kind-requires c = let r = c.count_on-counted in let b = by_class _ (r.ensures.sees.bytes r.result.at) in search rules
+
+pub overflow_add-sum : goal.overflow_add-sum
+overflow_add-sum c = let b = sees_small c.count_on-counted.ensures.sees in let h = byte (goal.at.overflow_add-sum c).After-class_of-c in search rules
+
+pub overflow_sub-sum : goal.overflow_sub-sum
+overflow_sub-sum c = let g = here (goal.at.overflow_sub-sum c).After-entry_at-e in search rules
