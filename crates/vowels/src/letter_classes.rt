@@ -7,6 +7,7 @@ ghost use Rattle.spec.specs.Letters.{small, is_hard_only, is_paired, is_soft_onl
 use spec::alphabet;
 
 // Class T: ж ш ц.
+#[tactic(auto, using(std::proofs::lemmas::Bool::Decides::nat_tests), unfolding(spec::specs::Letters::small, spec::specs::Letters::is_hard_only, spec::specs::Tables::among))]
 pub fn is_hard_only(b: u8) -> bool
     ensures { result ≡ is_hard_only (small b) }
 {
@@ -18,6 +19,7 @@ pub fn is_hard_only(b: u8) -> bool
 }
 
 // Class P: б в г д з к л м н п р с т ф х.
+#[tactic(auto, using(std::proofs::lemmas::Bool::Decides::nat_tests), unfolding(spec::specs::Letters::small, spec::specs::Letters::is_paired, spec::specs::Tables::among))]
 pub fn is_paired(b: u8) -> bool
     ensures { result ≡ is_paired (small b) }
 {
@@ -37,6 +39,7 @@ pub fn is_paired(b: u8) -> bool
 }
 
 // Class Q: ч щ й.
+#[tactic(auto, using(std::proofs::lemmas::Bool::Decides::nat_tests), unfolding(spec::specs::Letters::small, spec::specs::Letters::is_soft_only, spec::specs::Tables::among))]
 pub fn is_soft_only(b: u8) -> bool
     ensures { result ≡ is_soft_only (small b) }
 {

@@ -1,11 +1,11 @@
 -- After ь the letter before it decides, and any other letter by itself.
-use Rattle.laws.proofs.Kit.{ℕ, ◌<◌, ◌≡◌, refl, false, ◌||◌, or-false, ◌⊎◌, ⊎_elim, eqb, arith, needs}
+use Rattle.laws.proofs.Kit.{ℕ, ◌<◌, ◌≡◌, refl, false, ◌||◌, or-false, ◌⊎◌, ⊎_elim, eqb, arith}
 use Rattle.spec.specs.Alphabet.{«ь»}
 use Rattle.spec.specs.{Letters.small, Letters.is_hard_only, Letters.is_paired, Vowels.hard_end}
 use Rattle.letters.proofs.Computed.{everything}
 use Rattle.vowels.proofs.Keys.{none, neither, outside}
-use Rattle.vowels.proofs.boundary.ends_hard.Statement.{statement}
-use Rattle.vowels.proofs.boundary.ends_hard.Tie as tie
+use Rattle.vowels.proofs.boundary.ends_hard.Goals as goal
+use Rattle.vowels.proofs.boundary.ends_hard.Goals.{In_default}
 
 -- ь, small or capital
 abbrev SoftSign : ℕ → Type 0
@@ -27,17 +27,15 @@ unfolding hard_end
 other_end q b h n = rw (no_sign b h n, or-false (is_paired (small b)))
 
 -- where it does
-other : (c : tie.At-match-rest)
-    → let s = c.before in
-    hard_end (small s.args.q) (small s.args.p) ≡ (is_hard_only (small s.args.p) || is_paired (small s.args.p))
-other c = let s = c.before in other_end (small s.args.q) s.args.p (omega (arith, s.ranges.p)) c.match.rest.1
+other : (c : In_default)
+    → hard_end (small c.args.q) (small c.args.p) ≡ (is_hard_only (small c.args.p) || is_paired (small c.args.p))
+other c = other_end (small c.args.q) c.args.p (omega (arith, c.ranges.p)) c.in_default.in_default-own.rest.1
 
-pub ends_hard_spec : {M : Type 1} → statement M
-ends_hard_spec =
-    tie.close
-    (tie.spec
-    (search needs) (search needs)
-    (λ c. let k = c.before in rw (other k.before, ← k.is-hard-only2.ensures, c.if1.true))
-    (search needs)
-    (λ c. let s = c.before.before in rw (soft_end (small s.args.q) s.args.p c.before.match.keys1) c.is-hard-only.ensures)
-    (λ c. let k = c.before.before in rw (other k.before, ← k.is-hard-only2.ensures, c.before.if1.false) c.is-paired.ensures))
+pub returns-then-is_hard_only : goal.returns-then-is_hard_only
+returns-then-is_hard_only c = rw (other (goal.at.returns-then-is_hard_only c).In_default, ← c.is_hard_only-in_default.ensures, c.if-is_hard_only.true)
+
+pub returns-in-252 : goal.returns-in-252
+returns-in-252 c = rw (soft_end (small c.args.q) c.args.p c.in-252.is) c.is_hard_only.ensures
+
+pub returns-else-is_hard_only : goal.returns-else-is_hard_only
+returns-else-is_hard_only c = rw (other (goal.at.returns-else-is_hard_only c).In_default, ← c.is_hard_only-in_default.ensures, c.if-is_hard_only.false) c.is_paired.ensures
