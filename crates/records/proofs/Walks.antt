@@ -1,10 +1,10 @@
 -- The walk over a book, place by place: what is read at a place of the bytes is what stands at the start of the bytes from there on.
 use Rattle.laws.proofs.Kit.{ℕ, suc, ◌+◌, ◌*◌, ◌<◌, ◌≤◌, ◌≡◌, refl, sym, ap, ◌∙◌, true, false, ⊎_elim, ◌&&◌, and-true, List, [], ◌∷◌}
-use Rattle.laws.proofs.Kit.{add-one, arith, eqb, leb, length, drop, length-append, get_or, get_or-drop, length-drop, length-take-le, take_all}
-use Rattle.laws.proofs.Kit.{drop_of_length-le, drop-drop, le-leb, lt-leb, eqb-true, eqb-false, ne_eqb, eq-eqb}
-use Rattle.spec.specs.Book.{Phrase, book_storage, record_of, records, head_size, record_mark, pair_at, number_in, length_in, span_in, phrase_in}
-use Rattle.spec.specs.Book.{has_record_mark, is_whole, is_record, row15, row16, Bytes, book_in, Reading, holds, unsound, ◌then◌, read_from}
-use Rattle.spec.specs.Book.{read_book, record_at, least_after, RisingFrom}
+use Rattle.laws.proofs.Kit.{add-one, arith, eqb, leb, length, drop, length-append, get_or, get_or-drop, length-drop, length-take-le}
+use Rattle.laws.proofs.Kit.{take_all, drop_of_length-le, drop-drop, le-leb, lt-leb, eqb-true, eqb-false, ne_eqb, eq-eqb}
+use Rattle.spec.specs.Book.{Phrase, book_storage, record_of, records, head_size, record_mark, pair_at, number_in, length_in, span_in}
+use Rattle.spec.specs.Book.{has_record_mark, is_whole, is_record, row15, row16, Bytes, book_in, Reading, holds, unsound, ◌then◌}
+use Rattle.spec.specs.Book.{phrase_in, read_from, read_book, record_at, least_after, RisingFrom}
 use Rattle.spec.specs.{Tables.same, Refusals.refusal}
 use Rattle.laws.proofs.{Classes.either, Classes.refuted, Classes.below_or, Book.Stands, Book.record_stands, Book.stands_15, Book.read_15}
 use Rattle.laws.proofs.{Book.read_16, Book.read_record, Book.Judged, Book.is_sound, Book.is_refused, Book.judge, Book.record_size}
@@ -30,7 +30,8 @@ pub mark_at : (x : List ℕ) (i : ℕ) → Bytes x → eqb (pair_at i x) 40786 �
 unfolding pair_at
 mark_at x i b =
     let z : i + 0 ≡ i = omega arith in
-    rw (mark_bytes (drop i x), get_or-drop i x 0 0, get_or-drop i x 1 0, z, add-one i) (mark_number (get_or x i 0) (get_or x (suc i) 0) (b i))
+    rw (mark_bytes (drop i x), get_or-drop i x 0 0, get_or-drop i x 1 0, z, add-one i)
+    (mark_number (get_or x i 0) (get_or x (suc i) 0) (b i))
 
 -- and of a number
 pub pair_behind : (x : List ℕ) (i k : ℕ) → pair_at (i + k) x ≡ pair_at k (drop i x)
