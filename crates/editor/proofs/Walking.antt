@@ -180,13 +180,13 @@ word_own (b ∷ t) e = either (breaks b) (λ q. absurd (omega (arith, rw q at e)
 breaks_gone : (wait : ℕ) (t : List ℕ) → leading breaks t ≡ length t → edit_from wait t ≡ []
 unfolding leading edit_from
 breaks_gone wait [] e = refl
-breaks_gone wait (b ∷ t) e = either (breaks b) (λ q. rw q (breaks_gone _ t (omega (arith, rw q at e)))) (λ q. absurd (omega (arith, rw q at e)))
+breaks_gone wait (b ∷ t) e = either (breaks b) (λ q. rw q (breaks_gone (one_break wait (replaced b)) t (omega (arith, rw q at e)))) (λ q. absurd (omega (arith, rw q at e)))
 
 -- nor do they behind a text
 breaks_behind : (wait : ℕ) (t v : List ℕ) → leading breaks v ≡ length v → edit_from wait (t ++ v) ≡ edit_from wait t
 unfolding edit_from
 breaks_behind wait [] v e = breaks_gone wait v e
-breaks_behind wait (b ∷ t) v e = either (breaks b) (λ q. rw q (breaks_behind _ t v e)) (λ q. rw q (ap (λ (l : List ℕ). put_wait wait (b ∷ l)) (breaks_behind 0 t v e)))
+breaks_behind wait (b ∷ t) v e = either (breaks b) (λ q. rw q (breaks_behind (one_break wait (replaced b)) t v e)) (λ q. rw q (ap (λ (l : List ℕ). put_wait wait (b ∷ l)) (breaks_behind 0 t v e)))
 
 module _ {t : List ℕ} {last : ℕ} (w : LastWord t last) where
   -- a break that ends the text would not be before its last word

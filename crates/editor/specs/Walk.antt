@@ -1,7 +1,8 @@
 -- How the editor's code goes: a word and the breaks behind it at a time, between the breaks at the
 -- text's ends.
 -- Assumes nothing: these are definitions.
-use Rattle.std.specs.Prelude.{ℕ, ◌+◌, ◌-◌, ◌<◌, ◌≤◌, ◌≡◌, Bool, false, cond, not, List, [], ◌∷◌, ◌++◌, length, take, drop, get_or}
+use Rattle.std.specs.Prelude.{ℕ, ◌+◌, ◌-◌, ◌<◌, ◌≤◌, ◌≡◌, Bool, false, cond, not, List, [], ◌∷◌}
+use Rattle.std.specs.Prelude.{◌++◌, length, take, drop, get_or}
 use Rattle.spec.specs.Alphabet.{gap}
 use Rattle.spec.specs.Editing.{replaced, one_break}
 use Rattle.laws.specs.Edited.{breaks, leading}
