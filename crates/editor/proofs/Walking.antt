@@ -1,6 +1,10 @@
 -- A text is read by words: what the walk gives is a word, the break that the run behind it becomes, and what it gives from there on.
-use Rattle.laws.proofs.Kit.{ℕ, zero, suc, ◌+◌, ◌-◌, ◌<◌, ◌≤◌, arith, add-one, ◌≡◌, refl, sym, ap, ◌∙◌, ⊎_elim, Bool, true, false, true≢false, cond, ◌||◌, not, or-true, List, [], ◌∷◌, ◌++◌, append_assoc, eqb, length, take, drop, get_or, set, length-append, take-suc, get_or-drop, length-drop, drop-cons, drop_at, drop-length, drop-drop, drop_of_length-le, length-take-le, take-append-drop, take-add, get_or-take, not-true}
-use Rattle.spec.specs.{Alphabet.gap, Alphabet.pause, Tables.among, Letters.is_break, Editing.pause_marks, Editing.gap_marks, Editing.replaced, Editing.one_break, Editing.edited}
+use Rattle.laws.proofs.Kit.{ℕ, zero, suc, ◌+◌, ◌-◌, ◌<◌, ◌≤◌, arith, add-one, ◌≡◌, refl, sym, ap, ◌∙◌, ⊎_elim, Bool, true, false}
+use Rattle.laws.proofs.Kit.{true≢false, cond, ◌||◌, not, or-true, List, [], ◌∷◌, ◌++◌, append_assoc, eqb, length, take, drop, get_or, set}
+use Rattle.laws.proofs.Kit.{length-append, take-suc, get_or-drop, length-drop, drop-cons, drop_at, drop-length, drop-drop}
+use Rattle.laws.proofs.Kit.{drop_of_length-le, length-take-le, take-append-drop, take-add, get_or-take, not-true}
+use Rattle.spec.specs.{Alphabet.gap, Alphabet.pause, Tables.among, Letters.is_break, Editing.pause_marks, Editing.gap_marks}
+use Rattle.spec.specs.{Editing.replaced, Editing.one_break, Editing.edited}
 use Rattle.laws.proofs.Edited.{begun, one_some, edited_walk}
 use Rattle.laws.specs.{Edited.breaks, Edited.put_wait, Edited.edit_from, Edited.leading, Putting.Put}
 use Rattle.laws.proofs.{Classes.either, Classes.below_or, Classes.break_both, Putting.put_none, Putting.put_at, Putting.put_behind}
@@ -21,7 +25,8 @@ module _ (test : ℕ → Bool) where
   unfolding leading
   leading_before [] j h q = absurd (omega arith)
   leading_before (b ∷ t) zero h q = rw q (omega arith)
-  leading_before (b ∷ t) (suc j) h q = either (test b) (λ e. rw e (omega (arith, leading_before t j (omega arith) q))) (λ e. rw e (omega arith))
+  leading_before (b ∷ t) (suc j) h q =
+      either (test b) (λ e. rw e (omega (arith, leading_before t j (omega arith) q))) (λ e. rw e (omega arith))
 
   -- counted from any place on
   leading_to : (t : List ℕ) {i j : ℕ} → i ≤ j → j < length t → test (get_or t j 0) ≡ false → i + leading test (drop i t) ≤ j
@@ -81,9 +86,11 @@ pub record Running (t : List ℕ) (k becomes : ℕ) : Type 0 where
   pub run : run_from becomes (drop k t) ≡ run_from gap t
 
 module _ {t : List ℕ} {k becomes : ℕ} (r : Running t k becomes) (h : k < length t) where
-  running_more : breaks (get_or t k 0) ≡ true → {x : ℕ} → is_break x ≡ true → one_break becomes (replaced (get_or t k 0)) ≡ x → Running t (k + 1) x
+  running_more : breaks (get_or t k 0) ≡ true → {x : ℕ} → is_break x ≡ true → one_break becomes (replaced (get_or t k 0)) ≡ x
+      → Running t (k + 1) x
   unfolding run_from
-  running_more q s e = record { counted = counting_more breaks t k r.counted h q; some = s; run = rw (add-one k, ← e) (rw (drop-cons t k 0 h, q) at r.run) }
+  running_more q s e =
+      record { counted = counting_more breaks t k r.counted h q; some = s; run = rw (add-one k, ← e) (rw (drop-cons t k 0 h, q) at r.run) }
 
   -- a pause makes it one
   pub running_pause : among (pause ∷ pause_marks) (get_or t k 0) ≡ true → Running t (k + 1) pause
@@ -91,14 +98,18 @@ module _ {t : List ℕ} {k becomes : ℕ} (r : Running t k becomes) (h : k < len
   running_pause q = running_more (break_told _ ∙ rw q) refl (rw (pause_told, q, or-true))
 
   -- a gap leaves it as it is
-  pub running_gap : among (pause ∷ pause_marks) (get_or t k 0) ≡ false → among (gap ∷ gap_marks) (get_or t k 0) ≡ true → Running t (k + 1) becomes
+  pub running_gap : among (pause ∷ pause_marks) (get_or t k 0) ≡ false → among (gap ∷ gap_marks) (get_or t k 0) ≡ true
+      → Running t (k + 1) becomes
   unfolding one_break
-  running_gap p g = running_more (break_told _ ∙ rw (p, g)) r.some (rw (pause_told, p) (break_both (λ x. cond (eqb x pause || false) pause gap ≡ x) refl refl becomes r.some))
+  running_gap p g = running_more (break_told _ ∙ rw (p, g)) r.some
+      (rw (pause_told, p) (break_both (λ x. cond (eqb x pause || false) pause gap ≡ x) refl refl becomes r.some))
 
   -- and any other byte ends it
-  pub running_stop : among (pause ∷ pause_marks) (get_or t k 0) ≡ false → among (gap ∷ gap_marks) (get_or t k 0) ≡ false → ReadsRun t (record { length = k; becomes = becomes })
+  pub running_stop : among (pause ∷ pause_marks) (get_or t k 0) ≡ false → among (gap ∷ gap_marks) (get_or t k 0) ≡ false
+      → ReadsRun t (record { length = k; becomes = becomes })
   unfolding run_from
-  running_stop p g = let q : breaks (get_or t k 0) ≡ false = break_told _ ∙ rw (p, g) in record { length = counting_stop breaks t k r.counted h q; becomes = rw (drop-cons t k 0 h, q) at r.run }
+  running_stop p g = let q : breaks (get_or t k 0) ≡ false = break_told _ ∙ rw (p, g) in
+      record { length = counting_stop breaks t k r.counted h q; becomes = rw (drop-cons t k 0 h, q) at r.run }
 
 -- A loop copies the bytes of a text: the first k stand at the start of the output.
 pub record Copying (t out₀ out : List ℕ) (k : ℕ) : Type 0 where
@@ -115,11 +126,13 @@ module _ {t out₀ out : List ℕ} {k : ℕ} (c : Copying t out₀ out k) where
   pub copying_more : k < length t → k < length out₀ → Copying t out₀ (set out k (get_or t k 0)) (k + 1)
   copying_more h l = record {
     room = omega arith;
-    put = rw (add-one k, take-suc t k 0 h) (rw (add-one k) at (put_behind (omega arith) c.put (put_at out k (get_or t k 0) (omega (arith, copying_length)))));
+    put = rw (add-one k, take-suc t k 0 h)
+        (rw (add-one k) at (put_behind (omega arith) c.put (put_at out k (get_or t k 0) (omega (arith, copying_length)))));
   }
 
 -- Behind a break that waits the run is put as one break, before the word that follows it.
-run_step : (wait : ℕ) → eqb wait 0 ≡ false → (t : List ℕ) → leading breaks t < length t → edit_from wait t ≡ run_from wait t ∷ edit_from 0 (begun t)
+run_step : (wait : ℕ) → eqb wait 0 ≡ false → (t : List ℕ) → leading breaks t < length t
+    → edit_from wait t ≡ run_from wait t ∷ edit_from 0 (begun t)
 unfolding edit_from put_wait leading run_from
 run_step wait w [] h = absurd (omega arith)
 run_step wait w (b ∷ t) h = either (breaks b)
@@ -129,7 +142,8 @@ run_step wait w (b ∷ t) h = either (breaks b)
 walk_word : (t : List ℕ) → reads t < length t → edit_from 0 t ≡ piece t ++ edit_from 0 (begun (drop (leading others t) t))
 unfolding edit_from put_wait leading piece run_from one_break
 walk_word [] h = absurd (omega arith)
-walk_word (b ∷ t) h = either (breaks b) (λ q. rw q (rw q (run_step (one_break 0 (replaced b)) (one_some 0 (replaced b)) t (omega (arith, rw q at (rw q at h))))))
+walk_word (b ∷ t) h = either (breaks b)
+    (λ q. rw q (rw q (run_step (one_break 0 (replaced b)) (one_some 0 (replaced b)) t (omega (arith, rw q at (rw q at h))))))
     (λ q. rw q (ap (λ (l : List ℕ). b ∷ l) (walk_word t (omega (arith, rw q at h)))))
 
 -- The walk goes on behind a word and its breaks.
@@ -139,7 +153,11 @@ walk_step t h = rw (← drop-drop (leading breaks (drop (leading others t) t)) (
 piece_length : (t : List ℕ) → length (piece t) ≡ leading others t + 1
 unfolding piece
 piece_length t =
-    omega (arith, length-append (take (leading others t) t) (run_from gap (drop (leading others t) t) ∷ []), length-take-le (leading others t) t (leading_most others t))
+    omega (
+      arith,
+      length-append (take (leading others t) t) (run_from gap (drop (leading others t) t) ∷ []),
+      length-take-le (leading others t) t (leading_most others t),
+    )
 
 -- A word of w bytes and the run behind it are what the walk goes over, and where there is room both are put.
 module _ (t : List ℕ) {w : ℕ} {r : Run} (e : w ≡ leading others t) (f : ReadsRun (rest_of t w) r) where
@@ -168,25 +186,29 @@ leading_all : (test : ℕ → Bool) (t : List ℕ) → leading test t ≡ length
 unfolding leading
 leading_all test t e zero = e
 leading_all test [] e (suc m) = refl
-leading_all test (b ∷ t) e (suc m) = either (test b) (λ q. leading_all test t (omega (arith, rw q at e)) m) (λ q. absurd (omega (arith, rw q at e)))
+leading_all test (b ∷ t) e (suc m) =
+    either (test b) (λ q. leading_all test t (omega (arith, rw q at e)) m) (λ q. absurd (omega (arith, rw q at e)))
 
 -- a text without a break is left as it is
 word_own : (t : List ℕ) → leading others t ≡ length t → edit_from 0 t ≡ t
 unfolding leading edit_from put_wait
 word_own [] e = refl
-word_own (b ∷ t) e = either (breaks b) (λ q. absurd (omega (arith, rw q at e))) (λ q. rw q (ap (λ (l : List ℕ). b ∷ l) (word_own t (omega (arith, rw q at e)))))
+word_own (b ∷ t) e = either (breaks b) (λ q. absurd (omega (arith, rw q at e)))
+    (λ q. rw q (ap (λ (l : List ℕ). b ∷ l) (word_own t (omega (arith, rw q at e)))))
 
 -- breaks alone add nothing
 breaks_gone : (wait : ℕ) (t : List ℕ) → leading breaks t ≡ length t → edit_from wait t ≡ []
 unfolding leading edit_from
 breaks_gone wait [] e = refl
-breaks_gone wait (b ∷ t) e = either (breaks b) (λ q. rw q (breaks_gone (one_break wait (replaced b)) t (omega (arith, rw q at e)))) (λ q. absurd (omega (arith, rw q at e)))
+breaks_gone wait (b ∷ t) e = either (breaks b) (λ q. rw q (breaks_gone (one_break wait (replaced b)) t (omega (arith, rw q at e))))
+    (λ q. absurd (omega (arith, rw q at e)))
 
 -- nor do they behind a text
 breaks_behind : (wait : ℕ) (t v : List ℕ) → leading breaks v ≡ length v → edit_from wait (t ++ v) ≡ edit_from wait t
 unfolding edit_from
 breaks_behind wait [] v e = breaks_gone wait v e
-breaks_behind wait (b ∷ t) v e = either (breaks b) (λ q. rw q (breaks_behind (one_break wait (replaced b)) t v e)) (λ q. rw q (ap (λ (l : List ℕ). put_wait wait (b ∷ l)) (breaks_behind 0 t v e)))
+breaks_behind wait (b ∷ t) v e = either (breaks b) (λ q. rw q (breaks_behind (one_break wait (replaced b)) t v e))
+    (λ q. rw q (ap (λ (l : List ℕ). put_wait wait (b ∷ l)) (breaks_behind 0 t v e)))
 
 module _ {t : List ℕ} {last : ℕ} (w : LastWord t last) where
   -- a break that ends the text would not be before its last word
@@ -234,7 +256,12 @@ module _ {t : List ℕ} {i at : ℕ} {done : List ℕ} (w : Stands t i at done) 
         pub stands_further : length t - (i + r.read) < length t - i
         stands_further =
             let g = rw (rest_part t i) at p in
-            omega (arith, g.read, reads_some (drop i t) (omega (arith, length-drop i t, last_within l (omega arith))), last_within l (omega arith))
+            omega (
+              arith,
+              g.read,
+              reads_some (drop i t) (omega (arith, length-drop i t, last_within l (omega arith))),
+              last_within l (omega arith),
+            )
 
         -- and then they are done
         pub stands_more : Stands t (i + r.read) (at + r.put) (done ++ piece (drop i t))
@@ -243,7 +270,11 @@ module _ {t : List ℕ} {i at : ℕ} {done : List ℕ} (w : Stands t i at done) 
             record {
               within = omega (arith, g.read, reads_before l h, last_within l (omega arith));
               size = omega (arith, length-append done (piece (drop i t)), piece_length (drop i t), w.size, g.put);
-              rest = w.rest ∙ rw (g.read, ← drop-drop (reads (drop i t)) i t, append_assoc done (piece (drop i t)) (edit_from 0 (drop (reads (drop i t)) (drop i t))))
+              rest = w.rest ∙ rw (
+                g.read,
+                ← drop-drop (reads (drop i t)) i t,
+                append_assoc done (piece (drop i t)) (edit_from 0 (drop (reads (drop i t)) (drop i t))),
+              )
                   (ap (λ (k : List ℕ). done ++ k) (walk_step (drop i t) (rw (rest_part t i) at stands_reads)));
             }
 
@@ -274,19 +305,26 @@ module _ {t out₀ out : List ℕ} {i at : ℕ} (w : Writing t out₀ out i at) 
     module _ (h : i < last) where
       pub writing_room : leading others (rest_of t i) < length (rest_of out at)
       writing_room =
-          let s = stands_more w.stands l h {r = record { read = reads (drop i t); put = leading others (drop i t) + 1 }} (rw (rest_part t i) (record { read = refl; put = refl })) in
+          let s = stands_more w.stands l h {r = record { read = reads (drop i t); put = leading others (drop i t) + 1 }}
+          (rw (rest_part t i) (record { read = refl; put = refl })) in
           rw (rest_part t i, rest_part out at) (omega (arith, stands_most s, w.room, writing_kept, length-drop at out))
 
       pub writing_more : {r : Stride} {part : List ℕ} → Goes (rest_of t i) r → Put (piece (rest_of t i)) (rest_of out at) part r.put 0
           → Writing t out₀ (take at out ++ (part ++ drop (length out - at) (drop at out))) (i + r.read) (at + r.put)
       writing_more g p =
           let s = stands_more w.stands l h g in
-          record { done = _; stands = s; room = w.room; put = put_behind (omega (arith, stands_most s, w.room)) w.put (put_part (rw (rest_part t i) at p)) }
+          record {
+            done = _;
+            stands = s;
+            room = w.room;
+            put = put_behind (omega (arith, stands_most s, w.room)) w.put (put_part (rw (rest_part t i) at p));
+          }
 
     -- at last the rest of the text does, and is
     module _ (h : last ≤ i) where
       pub writing_rest : length (rest_of t i) ≤ length (rest_of out at)
-      writing_rest = rw (rest_part t i, rest_part out at) (omega (arith, stands_end w.stands l h, w.room, writing_kept, length-drop i t, length-drop at out))
+      writing_rest = rw (rest_part t i, rest_part out at)
+          (omega (arith, stands_end w.stands l h, w.room, writing_kept, length-drop i t, length-drop at out))
 
       pub writing_last : {part : List ℕ} → Put (rest_of t i) (rest_of out at) part (length (rest_of t i)) 0
           → Put (edit_from 0 t) out₀ (take at out ++ (part ++ drop (length out - at) (drop at out))) (at + (length t - i)) 0
@@ -317,12 +355,15 @@ module _ (t : List ℕ) {end from : ℕ} (e : Last breaks t end) (f : from ≡ l
 
   -- it is what is edited
   pub between_edited : edit_from 0 between ≡ edited t
-  between_edited = rw (edited_walk t, ← between_begun) (sym (rw (take-append-drop end t) at (edited_behind (take end t) (drop end t) e.trailing.all)))
+  between_edited =
+      rw (edited_walk t, ← between_begun) (sym (rw (take-append-drop end t) at (edited_behind (take end t) (drop end t) e.trailing.all)))
 
   -- and it ends in a word
   pub between_word : EndsInWord between
   between_word z =
-      let n : length between ≡ end - from = length-take-le (end - from) (drop from t) (omega (arith, length-drop from t, e.trailing.within)) in
+      let n : length between ≡ end - from =
+      length-take-le (end - from) (drop from t) (omega (arith, length-drop from t, e.trailing.within)) in
       let m : 0 < end - from = omega (arith, n) in
       let s : from + (end - from - 1) ≡ end - 1 = omega arith in
-      rw (n, get_or-take (end - from) (drop from t) (end - from - 1) 0 (omega arith), get_or-drop from t (end - from - 1) 0, s) (e.before (omega arith))
+      rw (n, get_or-take (end - from) (drop from t) (end - from - 1) 0 (omega arith), get_or-drop from t (end - from - 1) 0, s)
+      (e.before (omega arith))

@@ -111,7 +111,8 @@ fn count_word(text: &[u8]) -> usize
 
 // The same, and copies them.
 fn copy_word(text: &[u8], out: &mut [u8]) -> usize
-    requires { (leading others text.now < length text.now) × (leading others text.now ≤ length out.old) }
+    requires { (leading others text.now < length text.now)
+        × (leading others text.now ≤ length out.old) }
     ensures value { result ≡ leading others text.now }
     ensures put { Put (take result text.now) out.old out.new result 0 }
 {
@@ -220,7 +221,8 @@ fn write_edited(text: &[u8], last: usize, out: &mut [u8]) -> usize
 // Edits a text without breaks at its ends. Only an output that is shorter than it can be too short.
 fn edit_between(text: &[u8], out: &mut [u8]) -> Answer
     requires { EndsInWord text.now }
-    ensures { Promise (within (length out.old) (length (edit_from 0 text.now)) 0) (edit_from 0 text.now) out.old out.new result }
+    ensures { Promise (within (length out.old) (length (edit_from 0 text.now)) 0)
+        (edit_from 0 text.now) out.old out.new result }
 {
     let last = last_word(text);
     if out.len() < text.len() {

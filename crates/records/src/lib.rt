@@ -3,8 +3,8 @@
 #![tactic(auto)]
 
 ghost use Rattle.std.specs.Prelude.{◌≡◌, [], ◌∷◌, ◌+◌, ◌<◌, ◌≤◌, length, drop};
-ghost use Rattle.spec.specs.Book.{book_storage, head_size, pair_at, span_in, has_record_mark, is_record};
-ghost use Rattle.spec.specs.Book.{two_bytes, head_of};
+ghost use Rattle.spec.specs.Book.{book_storage, head_size, pair_at, span_in, has_record_mark};
+ghost use Rattle.spec.specs.Book.{is_record, two_bytes, head_of};
 ghost use Rattle.laws.specs.Putting.{Put};
 ghost use Rattle.records.specs.Walking.{HeadDue};
 

@@ -15,8 +15,10 @@ pub loop-k-smaller : goal.loop-k-smaller
 loop-k-smaller c = omega arith
 
 pub loop-k-preserved : goal.loop-k-preserved
-loop-k-preserved c =
-    (omega (arith, c.loop-k-test.true), copying_more c.loop-k.invariant.1 c.loop-k-test.true (omega (arith, c.loop-k-test.true, c.requires)))
+loop-k-preserved c = (
+  omega (arith, c.loop-k-test.true),
+  copying_more c.loop-k.invariant.1 c.loop-k-test.true (omega (arith, c.loop-k-test.true, c.requires)),
+)
 
 pub shape_of-out : goal.shape_of-out
 shape_of-out c = copying_length c.loop-k.invariant.1

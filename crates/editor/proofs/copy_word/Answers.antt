@@ -1,6 +1,7 @@
 use Rattle.laws.proofs.Kit.{◌+◌, ◌<◌, sym, ap, ◌∙◌, not, arith, length}
 use Rattle.editor.specs.Walk.{others}
-use Rattle.editor.proofs.Walking.{Counting, counting_none, counting_within, counting_more, counting_stop, copying_none, copying_length, copying_more}
+use Rattle.editor.proofs.Walking.{Counting, counting_none, counting_within, counting_more, counting_stop, copying_none, copying_length}
+use Rattle.editor.proofs.Walking.{copying_more}
 use Rattle.editor.proofs.copy_word.Goals as goal
 use Rattle.editor.proofs.copy_word.Goals.{At-loop-k, Else-is_break}
 
@@ -11,7 +12,8 @@ within c = counting_within others _ _ c.loop-k.invariant.0 c.requires.0
 -- and, where it is no break, one more of the word
 more : (c : Else-is_break) → Counting others c.args.text.now (c.loop-k.k + 1)
 more c =
-    counting_more others _ _ c.loop-k.invariant.0 (within (goal.at.Else-is_break c).At-loop-k) (ap not (sym c.is_break.ensures ∙ c.if-is_break.false))
+    counting_more others _ _ c.loop-k.invariant.0 (within (goal.at.Else-is_break c).At-loop-k)
+    (ap not (sym c.is_break.ensures ∙ c.if-is_break.false))
 
 -- for which there is room
 room : (c : Else-is_break) → c.loop-k.k < length c.args.out.now

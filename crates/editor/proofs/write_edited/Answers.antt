@@ -1,6 +1,7 @@
 use Rattle.laws.proofs.Kit.{[], refl, arith}
 use Rattle.laws.proofs.{Edited.walk_length, Putting.put_none, Putting.put_length}
-use Rattle.editor.proofs.Walking.{stands_most, stands_reads, stands_further, stands_more, stands_end, writing_at, writing_room, writing_more, writing_rest, writing_last}
+use Rattle.editor.proofs.Walking.{stands_most, stands_reads, stands_further, stands_more, stands_end, writing_at, writing_room}
+use Rattle.editor.proofs.Walking.{writing_more, writing_rest, writing_last}
 use Rattle.editor.proofs.write_edited.Goals as goal
 
 pub loop-i-init : goal.loop-i-init
