@@ -1,5 +1,5 @@
 -- Both walks go by sequences: what stands at a place tells how far the next one reaches, and that it adds one byte.
-use Rattle.laws.proofs.Kit.{ℕ, zero, suc, ◌+◌, ◌<◌, ◌≤◌, arith, add-one, ◌≡◌, refl, sym, ap, ◌∙◌, ◌⊎◌, ⊎_elim, true, false, List, [], ◌∷◌, ◌++◌, append-nil, length, take, drop, get_or, set, length-append, length-drop, drop-cons, drop-drop, drop_of_length-le, get_or-drop, take_all, take-suc}
+use Rattle.laws.proofs.Kit.{ℕ, zero, suc, ◌+◌, ◌<◌, ◌≤◌, arith, add-one, ◌≡◌, refl, sym, ap, ◌∙◌, ⊎_elim, true, false, List, [], ◌∷◌, ◌++◌, append-nil, length, take, drop, get_or, set, length-append, length-drop, drop-cons, drop-drop, drop_of_length-le, get_or-drop, take_all, take-suc}
 use Rattle.spec.specs.Tables.{among}
 use Rattle.spec.specs.Utf8.{ascii_bytes, has_row, sequence, byte_of, is_taken, encoded, decoded, read_to, AllRows}
 use Rattle.laws.proofs.Classes.{either, below_or}

@@ -1,0 +1,25 @@
+-- One octet more is read where it stands for itself; a letter has no room there.
+use Rattle.laws.proofs.Kit.{◌+◌, sym, ◌∙◌, arith}
+use Rattle.utf8.specs.Walk.{Stands}
+use Rattle.utf8.proofs.Walking.{stands_most, reaches, measure_single, measure_alone, measure_end}
+use Rattle.utf8.proofs.reader.measure_last.Goals as goal
+use Rattle.utf8.proofs.reader.measure_last.Goals.{Then-is_single}
+
+-- the octet stands for itself, so one more is read
+more : (c : Then-is_single) → Stands c.args.text.now (c.args.octets + 1) (c.args.bytes + 1)
+more c =
+    measure_single c.requires.0 c.if-octets-text.true (omega (arith, c.type_inv.text c.args.octets)) (sym c.is_single.ensures ∙ c.if-is_single.true)
+
+pub overflow_add-result-then-is_single : goal.overflow_add-result-then-is_single
+overflow_add-result-then-is_single c = omega (arith, stands_most (more (goal.at.overflow_add-result-then-is_single c).Then-is_single))
+
+pub returns-then-is_single : goal.returns-then-is_single
+returns-then-is_single c = reaches (measure_end (more (goal.at.returns-then-is_single c).Then-is_single) c.requires.1)
+
+pub returns-else-is_single : goal.returns-else-is_single
+returns-else-is_single c =
+    reaches (measure_alone c.requires.0 c.if-octets-text.true
+    (omega (arith, c.type_inv.text c.args.octets)) (sym c.is_single.ensures ∙ c.if-is_single.false) c.requires.1)
+
+pub returns-else-octets-text : goal.returns-else-octets-text
+returns-else-octets-text c = reaches (measure_end c.requires.0 c.if-octets-text.false)
