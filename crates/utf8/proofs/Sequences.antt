@@ -30,7 +30,8 @@ single_byte b h = among_same (λ x. byte_of (x ∷ [])) (λ x. x) ascii_bytes b 
 -- none of those is 0x80 or above
 pub large_other : (b : ℕ) → 0x80 ≤ b → among ascii_bytes b ≡ false
 unfolding everything
-large_other b h = refuted (among ascii_bytes b) (λ e. omega (arith, leb-true b 0x7F (among_same (λ x. leb x 0x7F) (λ _. true) ascii_bytes b refl e)))
+large_other b h =
+    refuted (among ascii_bytes b) (λ e. omega (arith, leb-true b 0x7F (among_same (λ x. leb x 0x7F) (λ _. true) ascii_bytes b refl e)))
 
 -- no letter begins with another octet than these two
 other_lead : (lead next : ℕ) → eqb lead 0xD0 ≡ false → eqb lead 0xD1 ≡ false → byte_of (lead ∷ next ∷ []) ≡ 0
@@ -39,7 +40,8 @@ other_lead lead next p q = simp (p, q, and-false)
 
 -- so what holds of pairs with either, and of all others, holds
 by_lead : (P : ℕ → Type 0) (lead : ℕ) → P 0xD0 → P 0xD1 → (eqb lead 0xD0 ≡ false → eqb lead 0xD1 ≡ false → P lead) → P lead
-by_lead P lead d e f = either (eqb lead 0xD0) (λ p. rw (eqb-true lead 0xD0 p) d) (λ p. either (eqb lead 0xD1) (λ q. rw (eqb-true lead 0xD1 q) e) (f p))
+by_lead P lead d e f =
+    either (eqb lead 0xD0) (λ p. rw (eqb-true lead 0xD0 p) d) (λ p. either (eqb lead 0xD1) (λ q. rw (eqb-true lead 0xD1 q) e) (f p))
 
 -- a pair with another is not taken
 other_taken : (lead next : ℕ) → eqb lead 0xD0 ≡ false → eqb lead 0xD1 ≡ false → is_taken (lead ∷ next ∷ []) ≡ false
@@ -55,8 +57,8 @@ module _ (lead next : ℕ) (h : next < 256) where
   -- the table has the first for the second only if that is one of the two, or stands for itself
   lead_other : among ascii_bytes lead ≡ false → eqb lead 0xD0 ≡ false → eqb lead 0xD1 ≡ false → eqb (lead_of next) lead ≡ false
   unfolding everything lead_of
-  lead_other s p q = refuted (eqb (lead_of next) lead) (λ e. true≢false
-      (sym (rw (eqb-true (lead_of next) lead e) at (below_same (λ x. among (0xD0 ∷ 0xD1 ∷ gap ∷ []) (lead_of x)) (λ _. true) 256 next refl h))
+  lead_other s p q = refuted (eqb (lead_of next) lead) (λ e. true≢false (sym
+      (rw (eqb-true (lead_of next) lead e) at (below_same (λ x. among (0xD0 ∷ 0xD1 ∷ gap ∷ []) (lead_of x)) (λ _. true) 256 next refl h))
       ∙ rw (p, q, among_none ascii_bytes lead gap s refl)))
 
   -- behind an octet that does not stand for itself it is a letter's where the table says so, or where they are Ё or ё
@@ -82,8 +84,10 @@ module _ (lead next : ℕ) (h : next < 256) where
   pub pair_byte : is_taken (lead ∷ next ∷ []) ≡ true → byte_of (lead ∷ next ∷ []) ≡ letter_of (64 * (lead - 0xD0) + (next - 0x80))
   unfolding everything letter_of
   pair_byte = by_lead (λ l. is_taken (l ∷ next ∷ []) ≡ true → byte_of (l ∷ next ∷ []) ≡ letter_of (64 * (l - 0xD0) + (next - 0x80))) lead
-      (λ e. rw e at (below_same (λ x. cond (is_taken (0xD0 ∷ x ∷ [])) (byte_of (0xD0 ∷ x ∷ [])) 0) (λ x. cond (is_taken (0xD0 ∷ x ∷ [])) (letter_of (64 * (0xD0 - 0xD0) + (x - 0x80))) 0) 256 next refl h))
-      (λ e. rw e at (below_same (λ x. cond (is_taken (0xD1 ∷ x ∷ [])) (byte_of (0xD1 ∷ x ∷ [])) 0) (λ x. cond (is_taken (0xD1 ∷ x ∷ [])) (letter_of (64 * (0xD1 - 0xD0) + (x - 0x80))) 0) 256 next refl h))
+      (λ e. rw e at (below_same (λ x. cond (is_taken (0xD0 ∷ x ∷ [])) (byte_of (0xD0 ∷ x ∷ [])) 0)
+      (λ x. cond (is_taken (0xD0 ∷ x ∷ [])) (letter_of (64 * (0xD0 - 0xD0) + (x - 0x80))) 0) 256 next refl h))
+      (λ e. rw e at (below_same (λ x. cond (is_taken (0xD1 ∷ x ∷ [])) (byte_of (0xD1 ∷ x ∷ [])) 0)
+      (λ x. cond (is_taken (0xD1 ∷ x ∷ [])) (letter_of (64 * (0xD1 - 0xD0) + (x - 0x80))) 0) 256 next refl h))
       (λ p q e. absurd (true≢false (sym e ∙ other_taken lead next p q)))
 
   pub lead_within : is_taken (lead ∷ next ∷ []) ≡ true → (0xD0 ≤ lead) × (lead ≤ 0xD1)
@@ -104,16 +108,20 @@ letters_read = tabulate_read letter_of 128
 -- The octets of a byte of a message: itself below 0x80
 pub single_sequence : (b : ℕ) → has_row b ≡ true → b < 0x80 → sequence b ≡ b ∷ []
 unfolding everything
-single_sequence b h l = rw (le-leb b 0x7F (omega arith)) at (among_same (λ x. cond (leb x 0x7F) (sequence x) (x ∷ [])) (λ x. x ∷ []) (row_bytes characters) b refl h)
+single_sequence b h l = rw (le-leb b 0x7F (omega arith)) at
+    (among_same (λ x. cond (leb x 0x7F) (sequence x) (x ∷ [])) (λ x. x ∷ []) (row_bytes characters) b refl h)
 
 -- and those that the table has from there on, where all bytes are letters
-pub letter_sequence : (b : ℕ) → has_row b ≡ true → 0x80 ≤ b → sequence b ≡ (sequence_of (b - 0xA8) / 256) ∷ (sequence_of (b - 0xA8) % 256) ∷ []
+pub letter_sequence : (b : ℕ) → has_row b ≡ true → 0x80 ≤ b
+    → sequence b ≡ (sequence_of (b - 0xA8) / 256) ∷ (sequence_of (b - 0xA8) % 256) ∷ []
 unfolding everything sequence_of both
-letter_sequence b h l = rw (lt-leb b 0x7F (omega arith)) at (among_same (λ x. cond (leb x 0x7F) [] (sequence x)) (λ x. cond (leb x 0x7F) [] ((sequence_of (x - 0xA8) / 256) ∷ (sequence_of (x - 0xA8) % 256) ∷ [])) (row_bytes characters) b refl h)
+letter_sequence b h l = rw (lt-leb b 0x7F (omega arith)) at (among_same (λ x. cond (leb x 0x7F) [] (sequence x))
+    (λ x. cond (leb x 0x7F) [] ((sequence_of (x - 0xA8) / 256) ∷ (sequence_of (x - 0xA8) % 256) ∷ [])) (row_bytes characters) b refl h)
 
 pub letter_within : (b : ℕ) → has_row b ≡ true → 0x80 ≤ b → 0xA8 ≤ b
 unfolding everything
-letter_within b h l = leb-true 0xA8 b (rw (lt-leb b 0x7F (omega arith)) at (among_same (λ x. cond (leb x 0x7F) true (leb 0xA8 x)) (λ _. true) (row_bytes characters) b refl h))
+letter_within b h l = leb-true 0xA8 b (rw (lt-leb b 0x7F (omega arith)) at
+    (among_same (λ x. cond (leb x 0x7F) true (leb 0xA8 x)) (λ _. true) (row_bytes characters) b refl h))
 
 pub sequences_read : {t : List ℕ} {j : ℕ} → t ≡ sequences → j < 88 → get_or t j 0 ≡ sequence_of j
 unfolding sequences

@@ -1,5 +1,7 @@
 -- Both walks go by sequences: what stands at a place tells how far the next one reaches, and that it adds one byte.
-use Rattle.laws.proofs.Kit.{ℕ, zero, suc, ◌+◌, ◌<◌, ◌≤◌, arith, add-one, ◌≡◌, refl, sym, ap, ◌∙◌, ⊎_elim, true, false, List, [], ◌∷◌, ◌++◌, append-nil, length, take, drop, get_or, set, length-append, length-drop, drop-cons, drop-drop, drop_of_length-le, get_or-drop, take_all, take-suc}
+use Rattle.laws.proofs.Kit.{ℕ, zero, suc, ◌+◌, ◌<◌, ◌≤◌, arith, add-one, ◌≡◌, refl, sym, ap, ◌∙◌, ⊎_elim, true, false, List, [], ◌∷◌, ◌++◌}
+use Rattle.laws.proofs.Kit.{append-nil, length, take, drop, get_or, set, length-append, length-drop, drop-cons, drop-drop}
+use Rattle.laws.proofs.Kit.{drop_of_length-le, get_or-drop, take_all, take-suc}
 use Rattle.spec.specs.Tables.{among}
 use Rattle.spec.specs.Utf8.{ascii_bytes, has_row, sequence, byte_of, is_taken, encoded, decoded, read_to, AllRows}
 use Rattle.laws.proofs.Classes.{either, below_or}
@@ -15,7 +17,8 @@ unfolding decoded
 decoded_single a [] e = rw e
 decoded_single a (c ∷ u) e = rw e
 
-decoded_pair : (a b : ℕ) (u : List ℕ) → is_taken (a ∷ []) ≡ false → is_taken (a ∷ b ∷ []) ≡ true → decoded (a ∷ b ∷ u) ≡ byte_of (a ∷ b ∷ []) ∷ decoded u
+decoded_pair : (a b : ℕ) (u : List ℕ) → is_taken (a ∷ []) ≡ false → is_taken (a ∷ b ∷ []) ≡ true
+    → decoded (a ∷ b ∷ u) ≡ byte_of (a ∷ b ∷ []) ∷ decoded u
 unfolding decoded
 decoded_pair a b u e f = rw (e, f)
 
@@ -44,7 +47,8 @@ module _ {t : List ℕ} {i n : ℕ} (s : Stands t i n) where
   unfolding read_to encoded
   stands_more {k} {o} x =
       let d = x.read in
-      let w : read_to (drop i t) ≡ k + read_to (drop (i + k) t) = rw d (rw (taken_octets o x.taken) (length-append o (encoded (decoded (drop (i + k) t))) ∙ ap (λ z. z + read_to (drop (i + k) t)) x.size)) in
+      let w : read_to (drop i t) ≡ k + read_to (drop (i + k) t) = rw d (rw (taken_octets o x.taken)
+      (length-append o (encoded (decoded (drop (i + k) t))) ∙ ap (λ z. z + read_to (drop (i + k) t)) x.size)) in
       let r : drop n (decoded t) ≡ byte_of o ∷ decoded (drop (i + k) t) = s.bytes ∙ d in
       record {
         within = x.within;
@@ -67,7 +71,8 @@ module _ {t : List ℕ} {i n : ℕ} (s : Stands t i n) where
   -- where nothing is read it reaches no further
   stands_stop : decoded (drop i t) ≡ [] → (i ≡ read_to t) × (n ≡ length (decoded t))
   unfolding read_to encoded
-  stands_stop d = (omega (arith, s.octets, ap (λ m. length (encoded m)) d), omega (arith, s.most, length-drop n (decoded t), ap length (s.bytes ∙ d)))
+  stands_stop d =
+      (omega (arith, s.octets, ap (λ m. length (encoded m)) d), omega (arith, s.most, length-drop n (decoded t), ap length (s.bytes ∙ d)))
 
 -- What stands at place i of a text
 module _ (t : List ℕ) (i : ℕ) (h : i < length t) where
@@ -79,14 +84,22 @@ module _ (t : List ℕ) (i : ℕ) (h : i < length t) where
 
   -- one octet that is taken
   next_single : is_taken (get_or t i 0 ∷ []) ≡ true → Next t i 1 (get_or t i 0 ∷ [])
-  next_single e = record { size = refl; taken = e; within = omega arith; read = rw from_one (decoded_single (get_or t i 0) (drop (i + 1) t) e) }
+  next_single e =
+      record { size = refl; taken = e; within = omega arith; read = rw from_one (decoded_single (get_or t i 0) (drop (i + 1) t) e) }
 
   -- two that are
-  next_pair : i + 1 < length t → is_taken (get_or t i 0 ∷ []) ≡ false → is_taken (get_or t i 0 ∷ get_or t (i + 1) 0 ∷ []) ≡ true → Next t i 2 (get_or t i 0 ∷ get_or t (i + 1) 0 ∷ [])
-  next_pair l e f = record { size = refl; taken = f; within = omega arith; read = rw (from_two l) (decoded_pair (get_or t i 0) (get_or t (i + 1) 0) (drop (i + 2) t) e f) }
+  next_pair : i + 1 < length t → is_taken (get_or t i 0 ∷ []) ≡ false → is_taken (get_or t i 0 ∷ get_or t (i + 1) 0 ∷ []) ≡ true
+      → Next t i 2 (get_or t i 0 ∷ get_or t (i + 1) 0 ∷ [])
+  next_pair l e f = record {
+    size = refl;
+    taken = f;
+    within = omega arith;
+    read = rw (from_two l) (decoded_pair (get_or t i 0) (get_or t (i + 1) 0) (drop (i + 2) t) e f);
+  }
 
   -- or neither, and then nothing is read
-  next_neither : i + 1 < length t → is_taken (get_or t i 0 ∷ []) ≡ false → is_taken (get_or t i 0 ∷ get_or t (i + 1) 0 ∷ []) ≡ false → decoded (drop i t) ≡ []
+  next_neither : i + 1 < length t → is_taken (get_or t i 0 ∷ []) ≡ false → is_taken (get_or t i 0 ∷ get_or t (i + 1) 0 ∷ []) ≡ false
+      → decoded (drop i t) ≡ []
   next_neither l e f = rw (from_two l) (decoded_neither (get_or t i 0) (get_or t (i + 1) 0) (drop (i + 2) t) e f)
 
   next_alone : length t ≤ i + 1 → is_taken (get_or t i 0 ∷ []) ≡ false → decoded (drop i t) ≡ []
@@ -110,7 +123,8 @@ module _ {t : List ℕ} {i n : ℕ} (s : Stands t i n) (h : i < length t) (b : g
     measure_letter l f = stands_more s (next_pair t i h l no_single f)
 
     -- neither, or nothing that could be one
-    pub measure_stop : i + 1 < length t → is_taken (get_or t i 0 ∷ get_or t (i + 1) 0 ∷ []) ≡ false → (i ≡ read_to t) × (n ≡ length (decoded t))
+    pub measure_stop : i + 1 < length t → is_taken (get_or t i 0 ∷ get_or t (i + 1) 0 ∷ []) ≡ false
+        → (i ≡ read_to t) × (n ≡ length (decoded t))
     measure_stop l f = stands_stop s (next_neither t i h l no_single f)
 
     pub measure_alone : length t ≤ i + 1 → (i ≡ read_to t) × (n ≡ length (decoded t))
@@ -143,7 +157,8 @@ module _ {t : List ℕ} {i n : ℕ} (s : Stands t i n) (more : n < length (decod
   -- or the first one of a letter's
   pub copy_letter : 0x80 ≤ get_or t i 0 → Next t i 2 (get_or t i 0 ∷ get_or t (i + 1) 0 ∷ [])
   copy_letter l = let e = no_single s copy_within (bytes i) (large_other (get_or t i 0) l) in ⊎_elim
-      (λ w. either (is_taken (get_or t i 0 ∷ get_or t (i + 1) 0 ∷ [])) (next_pair t i copy_within w e) (λ f. absurd (some_read (next_neither t i copy_within w e f))))
+      (λ w. either (is_taken (get_or t i 0 ∷ get_or t (i + 1) 0 ∷ [])) (next_pair t i copy_within w e)
+      (λ f. absurd (some_read (next_neither t i copy_within w e f))))
       (λ w. absurd (some_read (next_alone t i copy_within w e))) (below_or (i + 1) (length t))
 
 -- The reader's second loop: what is read up to place i was put.
@@ -175,11 +190,13 @@ module _ {t out₀ out : List ℕ} {i n : ℕ} (s : Copies t out₀ out i n) (ro
         let x = copy_single s.stands more bytes l in
         rw (single_byte (get_or t i 0) (sym (single_taken (get_or t i 0) (bytes i)) ∙ x.taken)) at (copies_more x)
 
-    pub copies_letter : {b : ℕ} → 0x80 ≤ get_or t i 0 → b ≡ byte_of (get_or t i 0 ∷ get_or t (i + 1) 0 ∷ []) → Copies t out₀ (set out n b) (i + 2) (n + 1)
+    pub copies_letter : {b : ℕ} → 0x80 ≤ get_or t i 0 → b ≡ byte_of (get_or t i 0 ∷ get_or t (i + 1) 0 ∷ [])
+        → Copies t out₀ (set out n b) (i + 2) (n + 1)
     copies_letter l e = rw e (copies_more (copy_letter s.stands more bytes l))
 
 -- At the end all of it is put.
-pub copies_end : {t out₀ out : List ℕ} {i n : ℕ} → Copies t out₀ out i n → length (decoded t) ≤ n → Put (decoded t) out₀ out (length (decoded t)) 0
+pub copies_end : {t out₀ out : List ℕ} {i n : ℕ} → Copies t out₀ out i n → length (decoded t) ≤ n
+    → Put (decoded t) out₀ out (length (decoded t)) 0
 copies_end {t} {out₀} {out} {i} {n} s l =
     let e : n ≡ length (decoded t) = omega (arith, s.stands.most) in
     rw (← e) (rw (take_all n (decoded t) l) at s.put)
@@ -203,7 +220,10 @@ pub ahead_more : {m : List ℕ} {i at : ℕ} → Ahead m i at → i < length m �
 unfolding encoded
 ahead_more {m} {i} {at} a h =
     let e : encoded (drop i m) ≡ sequence (get_or m i 0) ++ encoded (drop (i + 1) m) = rw (drop-cons m i 0 h, add-one i) refl in
-    record { within = omega arith; rest = omega (arith, a.rest, ap length e, length-append (sequence (get_or m i 0)) (encoded (drop (i + 1) m))) }
+    record {
+      within = omega arith;
+      rest = omega (arith, a.rest, ap length e, length-append (sequence (get_or m i 0)) (encoded (drop (i + 1) m)));
+    }
 
 -- to the end
 pub ahead_end : {m : List ℕ} {i at : ℕ} → Ahead m i at → length m ≤ i → at ≡ length (encoded m)
@@ -224,11 +244,13 @@ module _ {m out₀ out : List ℕ} {i at : ℕ} (w : Writes m out₀ out i at) (
   pub writes_room : {k : ℕ} → length (sequence (get_or m i 0)) ≡ k → at + k ≤ length out
   writes_room e = let a = ahead_more w.ahead h in omega (arith, e, a.rest, put_length _ _ _ _ _ (omega (arith, w.ahead.rest)) w.put)
 
-  writes_more : {out' : List ℕ} {k : ℕ} → length (sequence (get_or m i 0)) ≡ k → Put (sequence (get_or m i 0)) out out' (at + k) at → Writes m out₀ out' (i + 1) (at + k)
+  writes_more : {out' : List ℕ} {k : ℕ} → length (sequence (get_or m i 0)) ≡ k → Put (sequence (get_or m i 0)) out out' (at + k) at
+      → Writes m out₀ out' (i + 1) (at + k)
   unfolding encoded
   writes_more l p =
       let a = rw l at (ahead_more w.ahead h) in
-      let e : encoded (take (i + 1) m) ≡ encoded (take i m) ++ sequence (get_or m i 0) = rw (add-one i, take-suc m i 0 h, encoded_append (take i m) (get_or m i 0 ∷ []), append-nil (sequence (get_or m i 0))) refl in
+      let e : encoded (take (i + 1) m) ≡ encoded (take i m) ++ sequence (get_or m i 0) =
+      rw (add-one i, take-suc m i 0 h, encoded_append (take i m) (get_or m i 0 ∷ []), append-nil (sequence (get_or m i 0))) refl in
       record { ahead = a; put = rw e (put_behind (omega (arith, a.rest)) w.put p) }
 
   -- it stands for itself
@@ -236,7 +258,8 @@ module _ {m out₀ out : List ℕ} {i at : ℕ} (w : Writes m out₀ out i at) (
   writes_single e = writes_more (ap length e) (rw e (put_at out at (get_or m i 0) (omega (arith, writes_room (ap length e)))))
 
   -- or has two
-  pub writes_letter : {lead next : ℕ} → sequence (get_or m i 0) ≡ lead ∷ next ∷ [] → Writes m out₀ (set (set out at lead) (at + 1) next) (i + 1) (at + 2)
+  pub writes_letter : {lead next : ℕ} → sequence (get_or m i 0) ≡ lead ∷ next ∷ []
+      → Writes m out₀ (set (set out at lead) (at + 1) next) (i + 1) (at + 2)
   writes_letter {lead} {next} e =
       let r : at + 2 ≤ length out = writes_room (ap length e) in
       let p = put_at out at lead (omega arith) in

@@ -65,7 +65,8 @@ fn write_octets(m: &[u8], out: &mut [u8], t: &SequenceTable) -> usize
 // too short.
 fn write_accepted(m: &[u8], out: &mut [u8]) -> Answer
     requires { NoneFits m.now }
-    ensures { Promise (within (length out.old) (length (encoded m.now)) 0) (encoded m.now) out.old out.new result }
+    ensures { Promise (within (length out.old) (length (encoded m.now)) 0)
+        (encoded m.now) out.old out.new result }
 {
     if out.len() < 2 * m.len() {
         let n = measure(m);

@@ -1,4 +1,5 @@
--- Each turn puts the byte of one sequence. Where a byte is still to be read, an octet below 0x80 stands for itself and any other begins a letter.
+-- Each turn puts the byte of one sequence. Where a byte is still to be read, an octet below 0x80 stands for itself and any other begins a
+-- letter.
 use Rattle.laws.proofs.Kit.{◌-◌}
 use Rattle.utf8.proofs.Walking.{Copies}
 use Rattle.utf8.proofs.reader.copy.Given as goal

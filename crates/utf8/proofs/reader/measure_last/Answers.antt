@@ -8,7 +8,8 @@ use Rattle.utf8.proofs.reader.measure_last.Goals.{Then-is_single}
 -- the octet stands for itself, so one more is read
 more : (c : Then-is_single) → Stands c.args.text.now (c.args.octets + 1) (c.args.bytes + 1)
 more c =
-    measure_single c.requires.0 c.if-octets-text.true (omega (arith, c.type_inv.text c.args.octets)) (sym c.is_single.ensures ∙ c.if-is_single.true)
+    measure_single c.requires.0 c.if-octets-text.true (omega (arith, c.type_inv.text c.args.octets))
+    (sym c.is_single.ensures ∙ c.if-is_single.true)
 
 pub overflow_add-result-then-is_single : goal.overflow_add-result-then-is_single
 overflow_add-result-then-is_single c = omega (arith, stands_most (more (goal.at.overflow_add-result-then-is_single c).Then-is_single))

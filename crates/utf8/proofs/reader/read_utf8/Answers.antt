@@ -15,7 +15,8 @@ pub returns-then-extent-text : goal.returns-then-extent-text
 returns-then-extent-text c = answered_unreadable _ c.measure-extent.ensures.octets c.if-extent-text.true
 
 pub returns-then-out-length : goal.returns-then-out-length
-returns-then-out-length c = rw (answered_read _ _ (whole (goal.at.returns-then-out-length c).Else-extent-text)) (promised_short c.measure-extent.ensures.bytes 0 c.if-out-length.true)
+returns-then-out-length c = rw (answered_read _ _ (whole (goal.at.returns-then-out-length c).Else-extent-text))
+    (promised_short c.measure-extent.ensures.bytes 0 c.if-out-length.true)
 
 pub copy-requires : goal.copy-requires
 copy-requires c = (c.letter_table-letters.ensures, c.measure-extent.ensures.bytes, c.if-out-length.false)
@@ -23,4 +24,5 @@ copy-requires c = (c.letter_table-letters.ensures, c.measure-extent.ensures.byte
 pub returns : goal.returns
 returns c =
     let n = c.measure-extent.ensures.bytes in
-    rw (answered_read _ _ (whole (goal.at.returns c).Else-extent-text)) (promised_written n 0 c.if-out-length.false (put_first_lem _ _ _ _ _ n c.copy.ensures))
+    rw (answered_read _ _ (whole (goal.at.returns c).Else-extent-text))
+    (promised_written n 0 c.if-out-length.false (put_first_lem _ _ _ _ _ n c.copy.ensures))

@@ -17,10 +17,14 @@ pub overflow_sub-both : goal.overflow_sub-both
 overflow_sub-both c = letter_within _ c.requires.2 c.requires.1
 
 pub overflow_cast-result : goal.overflow_cast-result
-overflow_cast-result c = omega (arith, read (goal.at.overflow_cast-result c).Start, sequence_small (c.args.b - 0xA8) (within (goal.at.overflow_cast-result c).Start))
+overflow_cast-result c =
+    let s = (goal.at.overflow_cast-result c).Start in
+    omega (arith, read s, sequence_small (c.args.b - 0xA8) (within s))
 
 pub overflow_cast-result-2 : goal.overflow_cast-result-2
-overflow_cast-result-2 c = omega (arith, read (goal.at.overflow_cast-result-2 c).Start, sequence_small (c.args.b - 0xA8) (within (goal.at.overflow_cast-result-2 c).Start))
+overflow_cast-result-2 c =
+    let s = (goal.at.overflow_cast-result-2 c).Start in
+    omega (arith, read s, sequence_small (c.args.b - 0xA8) (within s))
 
 pub returns : goal.returns
 returns c = record { both = rw (read (goal.at.returns c).Start) (letter_sequence _ c.requires.2 c.requires.1) }

@@ -1,7 +1,8 @@
 -- An output of two octets for each byte is long enough; a shorter one is held against the length of what is written.
 use Rattle.laws.proofs.Kit.{◌≤◌, ◌≡◌, arith, length}
 use Rattle.spec.specs.Utf8.{encoded}
-use Rattle.laws.proofs.{Accepted.none_passes, Utf8.encoded_size, Utf8.accepted_rows, Promises.promised_short, Promises.promised_written, Putting.put_first_lem}
+use Rattle.laws.proofs.{Accepted.none_passes, Utf8.encoded_size, Utf8.accepted_rows, Promises.promised_short, Promises.promised_written}
+use Rattle.laws.proofs.{Putting.put_first_lem}
 use Rattle.utf8.proofs.writer.write_accepted.Goals as goal
 use Rattle.utf8.proofs.writer.write_accepted.Goals.{Joined-out-m, then-out-m+else-out-n, else-out-m}
 
