@@ -1,10 +1,10 @@
--- The names from a place on: what the byte there puts before what comes after it. A place's names are what the walk from the right has written
--- when it stands there.
-use Rattle.laws.proofs.Kit.{ℕ, suc, ◌<◌, ◌≡◌, refl, sym, ap, Bool, true, false, cond, List, ◌∷◌, ◌++◌, length, get_or, drop}
-use Rattle.spec.specs.Letters.{Letter, Message, last, more, put_letter, read, first_word, is_mark, is_break, is_vowel}
+-- The names from a place on: what the byte there puts before what comes after it. A place's names are what the walk from the right has
+-- written when it stands there.
+use Rattle.laws.proofs.Kit.{ℕ, suc, ◌<◌, ◌≡◌, refl, sym, ap, Bool, true, false, cond, ◌&&◌, List, ◌∷◌, ◌++◌, length, get_or, drop}
+use Rattle.spec.specs.Letters.{Letter, Message, last, more, put_letter, read, first_word, is_mark, is_break, is_gap, is_vowel}
 use Rattle.spec.specs.Syllables.{Facts, facts_of, names_from, incomplete, name_of, syllable_of}
 use Rattle.spec.specs.Tape.{names_of, names, word_names}
-use Rattle.spec.specs.{Elision.elide, Refusals.vowel_byte}
+use Rattle.spec.specs.{Elision.elide, Refusals.vowel_byte, Vowels.hard_end}
 use Rattle.letters.specs.Places.{last_at, word_at, letter_of, Steady}
 use Rattle.letters.proofs.Left.{read_letter, read_mark, read_break, read_end}
 use Rattle.letters.proofs.Bytes.{vowel_break, vowel_mark}
@@ -23,7 +23,9 @@ start_names hard (more w x r) = rw (names_elide (facts_of w) 0 w)
 module _ (l : Left) (facts : Facts) (x : Letter) where
   -- a letter that is a vowel puts its syllable's name before the rest's
   pub put_names : (r : Message)
-      → tail_names_of l facts (put_letter x r) ≡ cond (is_vowel x.byte) (name_of (syllable_of facts l.p x (first_word r)) ∷ tail_names_of (after_letter x l) facts r) (tail_names_of (after_letter x l) facts r)
+      → tail_names_of l facts (put_letter x r)
+      ≡ cond (is_vowel x.byte) (name_of (syllable_of facts l.p x (first_word r)) ∷ tail_names_of (after_letter x l) facts r)
+      (tail_names_of (after_letter x l) facts r)
   unfolding tail_names_of names_from put_letter first_word
   put_names (last w) = refl
   put_names (more w y r) = cond_app (λ t. t ++ names_of r) (is_vowel x.byte) _ (names_from facts x.byte w)
@@ -53,7 +55,8 @@ module _ (m : List ℕ) (steady : Steady m) where
   names_vowel i h v = rw v at (names_letter i h (vowel_break _ (steady.bytes i) v) (vowel_mark _ (steady.bytes i) v))
 
   -- a byte that is neither a vowel nor a break names nothing
-  pub names_other : (i : ℕ) → i < length m → is_break (get_or m i 0) ≡ false → vowel_byte (get_or m i 0) ≡ false → names_at m i ≡ names_at m (suc i)
+  pub names_other : (i : ℕ) → i < length m → is_break (get_or m i 0) ≡ false → vowel_byte (get_or m i 0) ≡ false
+      → names_at m i ≡ names_at m (suc i)
   unfolding names_at
   names_other i h b v =
       either (is_mark (get_or m i 0)) (λ k. rw (← whole_within m steady i h b, left_mark m i h k, read_mark m i h k))
@@ -64,4 +67,5 @@ module _ (m : List ℕ) (steady : Steady m) where
   unfolding names_at tail_names_of names_from word_at
   names_break i h b =
       rw (read_break m i h b, left_break m i h b, whole_after m i b)
-      (ap (λ (t : List ℕ). incomplete (last_at m i) ++ t) (start_names _ (read (drop (suc i) m))))
+      (ap (λ (t : List ℕ). incomplete (last_at m i) ++ t)
+      (start_names (is_gap (get_or m i 0) && hard_end (last_but_one_at m i) (last_at m i)) (read (drop (suc i) m))))

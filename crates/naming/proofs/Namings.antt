@@ -20,7 +20,8 @@ name_step : (m : List ℕ) → Steady m → (i : ℕ) → i < length m → names
 unfolding name_piece
 name_step m steady i h = by (is_break (get_or m i 0)) refl (vowel_byte (get_or m i 0)) refl
   where
-    by : (s : Bool) → is_break (get_or m i 0) ≡ s → (v : Bool) → vowel_byte (get_or m i 0) ≡ v → names_at m i ≡ name_piece m i ++ names_at m (suc i)
+    by : (s : Bool) → is_break (get_or m i 0) ≡ s → (v : Bool) → vowel_byte (get_or m i 0) ≡ v
+        → names_at m i ≡ name_piece m i ++ names_at m (suc i)
     by true s v e = rw s (names_break m steady i h s)
     by false s true v = rw (s, v) (names_vowel m steady i h v)
     by false s false v = rw (s, v) (names_other m steady i h s v)
