@@ -62,9 +62,9 @@ pub fn find<'a>(
 ) -> Found
     ensures find_promise { FindPromise book_storage listener buffer.now used wanted
         tape.old.now tape.new.now result }
-    ensures ptr_after { tape.new.ptr ≡ stands_after
+    ensures ptr_after { tape.new.ref_ptr ≡ stands_after
         (locate_answer listener (read_book book_storage (book_in buffer.now used)) wanted)
-        buffer.entry.ref_ptr tape.old.ptr }
+        buffer.entry.ref_ptr tape.old.ref_ptr }
 {
     match locate(listener, buffer, used, wanted) {
         Located::At { start, length } => {
