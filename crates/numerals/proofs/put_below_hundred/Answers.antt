@@ -1,5 +1,5 @@
 -- Without tens there is the units' word, from 10 to 19 one word; else the tens' and then the units'.
-use Rattle.laws.proofs.Kit.{◌++◌, arith, ne_eqb}
+use Rattle.laws.proofs.Kit.{◌++◌, ne_eqb}
 use Rattle.spec.specs.SpokenLevels.{units, tens, word_in}
 use Rattle.numerals.specs.Placing.{Room, low_words}
 use Rattle.numerals.proofs.Placed.{room_first, room_next, adds_both}
@@ -19,10 +19,6 @@ pub returns-then-ten-eq0 : goal.returns-then-ten-eq0
 unfolding low_words tens word_in
 returns-then-ten-eq0 c = rw c.if-ten-eq0.true c.put_unit.ensures
 
-pub overflow_add-unit : goal.overflow_add-unit
-unfolding low_words tens word_in
-overflow_add-unit c = omega arith
-
 pub put_teen-requires : goal.put_teen-requires
 unfolding low_words tens word_in
 put_teen-requires c = rw c.if-ten-eq10.true at c.requires.1
@@ -32,11 +28,9 @@ unfolding low_words tens word_in
 returns-then-ten-eq10 c = rw c.if-ten-eq10.true c.put_teen.ensures
 
 pub put_tens-end-requires : goal.put_tens-end-requires
-unfolding low_words tens word_in
 put_tens-end-requires c = room_first _ _ (room (goal.at.put_tens-end-requires c).Else-ten-eq10)
 
 pub put_unit-requires-2 : goal.put_unit-requires-2
-unfolding low_words tens word_in
 put_unit-requires-2 c = room_next _ _ (room (goal.at.put_unit-requires-2 c).Else-ten-eq10) c.put_tens-end.ensures
 
 pub returns : goal.returns

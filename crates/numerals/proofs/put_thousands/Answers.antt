@@ -16,11 +16,9 @@ unfolding thousands
 returns-then-n-eq0 c = rw c.if-n-eq0.true (adds_none _ _)
 
 pub put_count-end-requires : goal.put_count-end-requires
-unfolding thousands
 put_count-end-requires c = room_first _ _ (room (goal.at.put_count-end-requires c).Else-n-eq0)
 
 pub put_thousand-requires : goal.put_thousand-requires
-unfolding thousands
 put_thousand-requires c = room_next _ _ (room (goal.at.put_thousand-requires c).Else-n-eq0) c.put_count-end.ensures
 
 pub returns : goal.returns
