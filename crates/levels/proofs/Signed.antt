@@ -1,5 +1,6 @@
 -- Signed numbers as the machine holds them: a level of the range and its parts fit their type, so what is computed is what is meant.
-use Rattle.laws.proofs.Kit.{suc, ◌≡◌, refl, sym, ap, ◌∙◌, ⊎_elim, true, false, true≢false, false≢true, ◌||◌, arith, leb, le-leb, lt-leb, le-ltb, lt-ltb}
+use Rattle.laws.proofs.Kit.{suc, ◌≡◌, refl, sym, ap, ◌∙◌, ⊎_elim, true, false, true≢false, false≢true, ◌||◌, arith, leb}
+use Rattle.laws.proofs.Kit.{le-leb, lt-leb, le-ltb, lt-ltb}
 use lib.IntN.{ℤ, pos, negsuc, nat_abs, ◌-ℤ◌}
 use lib.Signed.{lt_z}
 use mir.Syntax.{w32}
@@ -20,7 +21,9 @@ near_same z h = to_z-of_z w32 z (near_fits z h)
 -- two tests tell what is outside the range
 pub outside_told : (z : ℤ) → (lt_z z (negsuc 9998) || lt_z (pos 9999) z) ≡ leb 10000 (nat_abs z)
 outside_told (pos n) = refl
-outside_told (negsuc n) = ⊎_elim (λ h. rw (lt-ltb 9998 n h, le-leb 10000 (suc n) (omega arith))) (λ h. rw (le-ltb 9998 n h, lt-leb 10000 (suc n) (omega arith))) (below_or 9998 n)
+outside_told (negsuc n) =
+    ⊎_elim (λ h. rw (lt-ltb 9998 n h, le-leb 10000 (suc n) (omega arith)))
+    (λ h. rw (le-ltb 9998 n h, lt-leb 10000 (suc n) (omega arith))) (below_or 9998 n)
 
 -- below zero the number is turned round,
 pub turned : (z : ℤ) → lt_z z (pos 0) ≡ true → pos 0 -ℤ z ≡ pos (nat_abs z)

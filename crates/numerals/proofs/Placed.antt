@@ -1,7 +1,7 @@
 -- Words that were put one after the other were put together: after the first the place is no longer the start, so each further one stands
 -- behind a gap.
 use Rattle.laws.proofs.Kit.{ℕ, ◌+◌, ◌<◌, ◌≤◌, ◌≡◌, refl, sym, ap, ◌∙◌, Bool, true, false, cond, List, [], ◌∷◌, ◌++◌, append_assoc}
-use Rattle.laws.proofs.Kit.{append-nil, arith, eqb, length, take, drop, length-append, take-length, ne_eqb}
+use Rattle.laws.proofs.Kit.{append-nil, arith, eqb, length, drop, length-append, ne_eqb}
 use Rattle.spec.specs.Alphabet.{gap}
 use Rattle.spec.specs.SpokenLevels.{Row, ◌says◌, units, feminine, word_in, after_gaps, spaced}
 use Rattle.laws.proofs.Classes.{cond_same}
@@ -21,12 +21,16 @@ unfolding placed
 placed_past at words h = rw (ne_eqb at 0 (omega arith))
 
 -- words and then others
-placed_append : (a b : List (List ℕ)) (at r : ℕ) → at + length (placed at a) ≡ r → Begun a r → placed at (a ++ b) ≡ placed at a ++ placed r b
+placed_append : (a b : List (List ℕ)) (at r : ℕ) → at + length (placed at a) ≡ r → Begun a r
+    → placed at (a ++ b) ≡ placed at a ++ placed r b
 unfolding placed spaced after_gaps
-placed_append [] b at r e g = let z : at ≡ r = omega (arith, ap length (placed_none at)) in rw z (sym (ap (λ x. x ++ placed r b) (placed_none r)))
+placed_append [] b at r e g =
+    let z : at ≡ r = omega (arith, ap length (placed_none at)) in
+    rw z (sym (ap (λ x. x ++ placed r b) (placed_none r)))
 placed_append (w ∷ a) b at r e g = rw (ne_eqb r 0 (omega arith), gaps_append a b) (by (eqb at 0))
   where
-    by : (t : Bool) → cond t (w ++ (after_gaps a ++ after_gaps b)) (gap ∷ (w ++ (after_gaps a ++ after_gaps b))) ≡ cond t (w ++ after_gaps a) (gap ∷ (w ++ after_gaps a)) ++ after_gaps b
+    by : (t : Bool) → cond t (w ++ (after_gaps a ++ after_gaps b)) (gap ∷ (w ++ (after_gaps a ++ after_gaps b)))
+        ≡ cond t (w ++ after_gaps a) (gap ∷ (w ++ after_gaps a)) ++ after_gaps b
     by true = sym (append_assoc w (after_gaps a) (after_gaps b))
     by false = ap (λ x. gap ∷ x) (sym (append_assoc w (after_gaps a) (after_gaps b)))
 
@@ -40,7 +44,8 @@ unfolding placed spaced after_gaps
 placed_first [] b at = omega (arith, ap length (placed_none at))
 placed_first (w ∷ a) b at = rw (gaps_append a b) (by (eqb at 0))
   where
-    by : (t : Bool) → length (cond t (w ++ after_gaps a) (gap ∷ (w ++ after_gaps a))) ≤ length (cond t (w ++ (after_gaps a ++ after_gaps b)) (gap ∷ (w ++ (after_gaps a ++ after_gaps b))))
+    by : (t : Bool) → length (cond t (w ++ after_gaps a) (gap ∷ (w ++ after_gaps a)))
+        ≤ length (cond t (w ++ (after_gaps a ++ after_gaps b)) (gap ∷ (w ++ (after_gaps a ++ after_gaps b))))
     by true = simp length-append (omega arith)
     by false = simp length-append (omega arith)
 
@@ -56,7 +61,9 @@ module _ (a b : List (List ℕ)) {out : List ℕ} {at : ℕ} (h : Room (a ++ b) 
 
   module _ {out₁ : List ℕ} {r : ℕ} (p : Adds a out out₁ at r) where
     all : r + length (placed r b) ≤ length out
-    all = omega (arith, ap length (placed_append a b at r p.put.place p.begun), length-append (placed at a) (placed r b), h.enough, p.put.place)
+    all =
+        let e = ap length (placed_append a b at r p.put.place p.begun) in
+        omega (arith, e, length-append (placed at a) (placed r b), h.enough, p.put.place)
 
     -- when they are put, for the others,
     pub room_next : Room b out₁ r
@@ -80,8 +87,8 @@ unfolding after_gaps
 word_next w out out' at r z p = record { put = rw (placed_past at (w ∷ []) z, append-nil) p; begun = omega (arith, p.place) }
 
 -- a word that was copied to the start of an output
-pub copied : {w out out' : List ℕ} {r : ℕ} → (r ≡ length w) × (out' ≡ take (length w) w ++ drop (length w) out) → Put w out out' r 0
-copied {w} {out} c = record { place = omega (arith, c.0); bytes = c.1 ∙ rw (take-length w, c.0) refl }
+pub copied : {w out out' : List ℕ} {r : ℕ} → r ≡ length w → out' ≡ w ++ drop (length w) out → Put w out out' r 0
+copied {w} {out} e f = record { place = omega (arith, e); bytes = f ∙ rw e refl }
 
 -- there is room for it, and past the start for the gap before it
 pub room_word : (w out : List ℕ) → Room (w ∷ []) out 0 → length w ≤ length out
@@ -105,7 +112,8 @@ none_before Before (k says w ∷ rows) n r = (none_before (Before × (n ≡ k �
 pub none_of : (rows : List Row) (Before : Type 0) (n : ℕ) → NoneAfter Before rows n → word_in rows n ≡ []
 unfolding word_in
 none_of [] Before n r = refl
-none_of (k says w ∷ rows) Before n r = rw (ne_eqb n k (none_before (Before × (n ≡ k → ⊥)) rows n r).1) (none_of rows (Before × (n ≡ k → ⊥)) n r)
+none_of (k says w ∷ rows) Before n r =
+    rw (ne_eqb n k (none_before (Before × (n ≡ k → ⊥)) rows n r).1) (none_of rows (Before × (n ≡ k → ⊥)) n r)
 
 -- a count of thousands that is neither one nor two has the number's word
 pub count_other : (n : ℕ) → (n ≡ 1 → ⊥) → (n ≡ 2 → ⊥) → word_in feminine n ≡ word_in units n

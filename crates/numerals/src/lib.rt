@@ -2,13 +2,22 @@
 // row by row.
 #![tactic(auto)]
 
-ghost use Rattle.std.specs.Prelude.{[], ◌∷◌, ◌<◌, ◌≤◌, length};
+ghost use Rattle.std.specs.Prelude.{◌≡◌, [], ◌∷◌, ◌++◌, ◌<◌, ◌≤◌, length, drop};
 ghost use Rattle.spec.specs.SpokenLevels.{units, teens, tens, hundreds, feminine, word_in};
 ghost use Rattle.spec.specs.SpokenLevels.{thousand, thousands};
 ghost use Rattle.numerals.specs.Placing.{Room, Adds, low_words};
 
-use bytes::copy;
 use spec::alphabet::GAP;
+
+// Copies a word to the start of an output, and answers how long it is.
+fn copy(word: &[u8], out: &mut [u8]) -> usize
+    requires { length word.now ≤ length out.old }
+    ensures size { result ≡ length word.now }
+    ensures bytes { out.new ≡ word.now ++ drop (length word.now) out.old }
+{
+    out[..word.len()].copy_from_slice(word);
+    word.len()
+}
 
 // Puts a word, behind a gap unless it is the first, and answers the place after it.
 pub fn put_word(out: &mut [u8], at: usize, word: &[u8]) -> usize
