@@ -1,4 +1,4 @@
-use Rattle.laws.proofs.Kit.{◌≤◌, arith, add-one, ◌≡◌, length, take, take-suc, take_all, length-take-le}
+use Rattle.laws.proofs.Kit.{arith, add-one, take-suc, take_all, length-take-le}
 use Rattle.console.proofs.Texts.{put_none, put_over}
 use Rattle.console.proofs.text.put_bytes.Goals as goal
 

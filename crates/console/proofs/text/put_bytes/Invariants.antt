@@ -1,5 +1,5 @@
 -- The bytes put so far are those before place i; each turn puts the byte there.
-use Rattle.laws.proofs.Kit.{◌-◌, ◌≤◌, ◌≡◌, length, take}
+use Rattle.laws.proofs.Kit.{◌-◌, ◌≤◌, length, take}
 use Rattle.console.specs.Putting.{Appended}
 use Rattle.console.proofs.text.put_bytes.Given as goal
 

@@ -1,4 +1,4 @@
-use Rattle.laws.proofs.Kit.{suc, ◌≤◌, arith, add-one, ◌≡◌, length, length-append}
+use Rattle.laws.proofs.Kit.{suc, arith, add-one, length-append}
 use Rattle.console.proofs.Texts.{put_over, to_size, printed_all}
 use Rattle.console.proofs.text.put_codes.Goals as goal
 

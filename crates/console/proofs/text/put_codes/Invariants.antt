@@ -1,5 +1,5 @@
 -- The codes put so far stand in the text, and each turn puts one more.
-use Rattle.laws.proofs.Kit.{◌-◌, ◌≤◌, ◌≡◌, length}
+use Rattle.laws.proofs.Kit.{◌-◌, ◌≤◌, length}
 use Rattle.console.specs.Putting.{Appended}
 use Rattle.console.proofs.Texts.{printed_to}
 use Rattle.console.proofs.text.put_codes.Given as goal
