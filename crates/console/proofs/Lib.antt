@@ -1,3 +1,4 @@
+pub mod Inputs
 pub mod Kept
 pub mod Room
 pub mod Texts

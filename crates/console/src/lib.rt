@@ -9,3 +9,10 @@ pub enum Input {
     Bytes(usize),
     Failed,
 }
+
+// Why a run gave up: its input could not be read, or its output could not be written.
+#[derive(Clone, Copy)]
+pub enum Failure {
+    Unread,
+    Unwritten,
+}

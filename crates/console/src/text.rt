@@ -1,10 +1,9 @@
 // The text that the programs print, made in a lent buffer.
 ghost use Rattle.std.specs.Prelude.{◌≡◌, [], ◌∷◌, ◌+◌, ◌*◌, ◌<◌, ◌≤◌, length, take};
-ghost use Rattle.io.specs.Counts.{IsPrefixLen};
 ghost use Rattle.spec.specs.Tape.{tape};
 ghost use Rattle.spec.specs.Answers.{tape_answer};
 ghost use Rattle.spec.specs.Printed.{decimal, printed_codes, printed_answer, printed};
-ghost use Rattle.console.specs.Putting.{Appended, code_at};
+ghost use Rattle.console.specs.Putting.{Appended, IsPrefixLen, code_at};
 
 use spec::{Answer, Edition, Refusal};
 use transcriber::tape::transcribe;

@@ -1,12 +1,11 @@
 // What is printed for a level in decimal: the level's refusal, or what the transcriber answers for
 // its words.
 ghost use Rattle.std.specs.Prelude.{◌≡◌, true, ◌&&◌, ◌≤◌, leb, length, take};
-ghost use Rattle.io.specs.Counts.{IsPrefixLen};
 ghost use Rattle.spec.specs.Tape.{tape};
 ghost use Rattle.spec.specs.SpokenLevels.{spoken};
 ghost use Rattle.spec.specs.Printed.{printed_answer, sign_length, are_digits, is_decimal, digits_from};
 ghost use Rattle.spec.specs.Printed.{level_in, spoken_answer, printed_level};
-ghost use Rattle.console.specs.Putting.{Appended};
+ghost use Rattle.console.specs.Putting.{Appended, IsPrefixLen};
 ghost use Rattle.gauge.specs.Reading.{Clipped, Like};
 
 use console::text::{TEXT, put_answer, put_bytes, put_refusal};

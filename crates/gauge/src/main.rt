@@ -4,30 +4,48 @@
 
 mod level;
 
-use console::Input;
+ghost use Rattle.std.specs.Prelude.{◌≡◌, ◌≢◌, ◌↔◌, [], IfOk, IfSome, IsErrOf, IsTrue, OnOk};
+ghost use Rattle.std.specs.Io.KnownBytes.{Appends};
+ghost use Rattle.spec.specs.Printed.{printed_level};
+
 use console::standard::read_input;
 use console::text::TEXT;
+use console::{Failure, Input};
 use level::{TYPED_MAX, print_level};
-use libc::{STDERR_FILENO, STDOUT_FILENO};
+use std::io::{Read, Write};
 
-// One byte more than the longest number tells that a text is too long for one.
-fn main() {
+// Reads a level, and writes what is printed for it. One byte more than the longest number tells that
+// a text is too long for one. For what is no number nothing is printed, and it says so. Nothing is
+// written of a level that could not be read.
+fn print_input<R: Read, W: Write>(input: &mut R, output: &mut W) -> Result<bool, Failure>
+    ensures text { OnOk result (IfSome (R.remaining input.old)
+        (λ t. Appends (W.contents output.old) (W.contents output.new) (printed_level t))) }
+    ensures some { IfOk result (λ some. IfSome (R.remaining input.old)
+        (λ t. IsTrue some ↔ (printed_level t ≢ []))) }
+    ensures unread { IsErrOf result Failure.Unread
+        → W.contents output.new ≡ W.contents output.old }
+{
     let mut typed = [0u8; TYPED_MAX + 1];
-    let Input::Bytes(n) = read_input(&mut typed) else {
-        io::write_all(STDERR_FILENO, b"gauge: standard input could not be read\n");
-        return;
+    let Input::Bytes(n) = read_input(input, &mut typed) else {
+        return Err(Failure::Unread);
     };
     let mut text = [0u8; TEXT];
     let end = print_level(&typed[..n], &mut text);
     if end == 0 {
-        io::write_all(STDERR_FILENO, b"gauge: standard input is no number\n");
-        return;
+        return Ok(false);
     }
-    if io::write_all(STDOUT_FILENO, &text[..end]) {
-        return;
+    match output.write_all(&text[..end]) {
+        Ok(()) => Ok(true),
+        Err(_) => Err(Failure::Unwritten),
     }
-    io::write_all(
-        STDERR_FILENO,
-        b"gauge: standard output could not be written\n",
-    );
+}
+
+fn main(rt: HostRuntime) {
+    let complaint = match print_input(&mut rt.stdin(), &mut rt.stdout()) {
+        Ok(true) => return,
+        Ok(false) => "standard input is no number",
+        Err(Failure::Unread) => "standard input could not be read",
+        Err(Failure::Unwritten) => "standard output could not be written",
+    };
+    let _ = eprintln!(rt; "gauge: {complaint}");
 }

@@ -4,32 +4,50 @@
 
 mod text;
 
-use console::Input;
+ghost use Rattle.std.specs.Prelude.{◌≡◌, ◌≢◌, ◌↔◌, [], IfOk, IfSome, IsErrOf, IsTrue, OnOk};
+ghost use Rattle.std.specs.Io.KnownBytes.{Appends};
+ghost use Rattle.spec.specs.Printed.{printed_text};
+
 use console::standard::read_input;
 use console::text::TEXT;
-use libc::{STDERR_FILENO, STDOUT_FILENO};
+use console::{Failure, Input};
+use std::io::{Read, Write};
 use text::{TEXT_MAX, print_text};
 
-// One byte more than the longest text tells that a text is too long.
-fn main() {
+// Reads a text, and writes what is printed for it. One byte more than the longest text tells that a
+// text is too long: then nothing is printed, and it says so. Nothing is written of a text that could
+// not be read.
+fn print_input<R: Read, W: Write>(input: &mut R, output: &mut W) -> Result<bool, Failure>
+    ensures text { OnOk result (IfSome (R.remaining input.old)
+        (λ t. Appends (W.contents output.old) (W.contents output.new) (printed_text t))) }
+    ensures some { IfOk result (λ some. IfSome (R.remaining input.old)
+        (λ t. IsTrue some ↔ (printed_text t ≢ []))) }
+    ensures unread { IsErrOf result Failure.Unread
+        → W.contents output.new ≡ W.contents output.old }
+{
     let mut text = [0u8; TEXT_MAX + 1];
-    let Input::Bytes(n) = read_input(&mut text) else {
-        io::write_all(STDERR_FILENO, b"speak: standard input could not be read\n");
-        return;
+    let Input::Bytes(n) = read_input(input, &mut text) else {
+        return Err(Failure::Unread);
     };
     let mut read = [0u8; TEXT_MAX];
     let mut plain = [0u8; TEXT_MAX];
     let mut print = [0u8; TEXT];
     let end = print_text(&text[..n], &mut read, &mut plain, &mut print);
     if end == 0 {
-        io::write_all(STDERR_FILENO, b"speak: standard input is too long\n");
-        return;
+        return Ok(false);
     }
-    if io::write_all(STDOUT_FILENO, &print[..end]) {
-        return;
+    match output.write_all(&print[..end]) {
+        Ok(()) => Ok(true),
+        Err(_) => Err(Failure::Unwritten),
     }
-    io::write_all(
-        STDERR_FILENO,
-        b"speak: standard output could not be written\n",
-    );
+}
+
+fn main(rt: HostRuntime) {
+    let complaint = match print_input(&mut rt.stdin(), &mut rt.stdout()) {
+        Ok(true) => return,
+        Ok(false) => "standard input is too long",
+        Err(Failure::Unread) => "standard input could not be read",
+        Err(Failure::Unwritten) => "standard output could not be written",
+    };
+    let _ = eprintln!(rt; "speak: {complaint}");
 }

@@ -1,12 +1,11 @@
 // What is printed for a text in UTF-8: the reader's refusal, or what the transcriber answers for
 // the edited bytes. The buffers that it takes are lent.
 ghost use Rattle.std.specs.Prelude.{◌≡◌, ◌≤◌, length, take};
-ghost use Rattle.io.specs.Counts.{IsPrefixLen};
 ghost use Rattle.spec.specs.Tape.{tape};
 ghost use Rattle.spec.specs.Editing.{edited};
 ghost use Rattle.spec.specs.Utf8.{decoded};
 ghost use Rattle.spec.specs.Printed.{printed_answer, text_answer, printed_text};
-ghost use Rattle.console.specs.Putting.{Appended};
+ghost use Rattle.console.specs.Putting.{Appended, IsPrefixLen};
 
 use console::text::{TEXT, put_answer, put_bytes, put_refusal};
 use editor::edit;
