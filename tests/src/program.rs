@@ -74,7 +74,9 @@ impl Program {
         command.stdout(Stdio::piped()).stderr(Stdio::piped());
         command.stdin(input).spawn().unwrap_or_else(|error| {
             let (path, name, variable) = (path.display(), self.name, self.variable);
-            panic!("{path}: {error}; `rt run` in crates/{name} builds it, or {variable} names another")
+            panic!(
+                "{path}: {error}; `rt run` in crates/{name} builds it, or {variable} names another"
+            )
         })
     }
 
