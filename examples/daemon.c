@@ -7,7 +7,7 @@
  * spoken of that line. Tapes are of edition 1, the present reading, or with the option -2 of
  * edition 2, the newer one.
  *
- *     cc -I include examples/daemon.c target/staticlib/libcapi.a -o daemon
+ *     cc -I include examples/daemon.c crates/capi/out/libcapi.a -o daemon
  *     daemon -2
  */
 #define PROGRAM "daemon"

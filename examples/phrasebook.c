@@ -4,7 +4,7 @@
  * pump, road and dispatch, in any order and with a comma between two. The phrase is read and edited, and dispatch puts its tape into the
  * book under its number. Then LISTENER looks up the phrase NUMBER: the codes of its tape are printed in decimal.
  *
- *     cc -I include examples/phrasebook.c target/staticlib/libcapi.a -o phrasebook
+ *     cc -I include examples/phrasebook.c crates/capi/out/libcapi.a -o phrasebook
  *     phrasebook examples/phrases.txt pump 7
  *
  * A line that has no number or no listeners, or whose phrase is refused, is told on standard error and is not in the book; the others are.

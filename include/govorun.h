@@ -1,7 +1,7 @@
 /*
  * Govorun: from stress-marked Russian to a tape of sound codes.
  *
- * Link with target/staticlib/libcapi.a, which `rt staticlib capi` writes.
+ * Link with crates/capi/out/libcapi.a, which `rt lib` in crates/capi writes.
  *
  * Every function here is proved to do what it promises, but for the stack, for all bytes, lengths and outputs whatever:
  *   - it reads only msg[0 .. len) (of editor and reader text[0 .. len)), cuts[0 .. n) and book[0 .. size), and writes only out[0 .. cap)

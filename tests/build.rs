@@ -1,4 +1,4 @@
-//! Finds the archive of the library that the tests link: the one that `rt staticlib capi` writes,
+//! Finds the archive of the library that the tests link: the one that `rt lib` in crates/capi writes,
 //! or that of the folder in the environment variable GOVORUN_LIB.
 
 use std::env;
@@ -11,7 +11,7 @@ fn main() {
     println!("cargo:rerun-if-changed={}", archive.display());
     assert!(
         archive.is_file(),
-        "there is no {}: `rt staticlib capi` writes it, or GOVORUN_LIB names another folder",
+        "there is no {}: `rt lib` in crates/capi writes it, or GOVORUN_LIB names another folder",
         archive.display()
     );
     println!("cargo:rustc-link-search=native={}", folder.display());
@@ -21,6 +21,6 @@ fn main() {
 /// The folder of the archive. A given one may be relative to this project.
 fn folder() -> PathBuf {
     let project = env::var_os("CARGO_MANIFEST_DIR").expect("cargo sets it");
-    let given = env::var_os("GOVORUN_LIB").unwrap_or_else(|| "../target/staticlib".into());
+    let given = env::var_os("GOVORUN_LIB").unwrap_or_else(|| "../crates/capi/out".into());
     Path::new(&project).join(given)
 }

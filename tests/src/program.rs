@@ -63,7 +63,7 @@ pub const NO_NUMBER: &str = "gauge: standard input is no number\n";
 impl Program {
     /// Where the program is.
     pub fn path(self) -> PathBuf {
-        let built = || format!("../target/bin/{}", self.name).into();
+        let built = || format!("../crates/{0}/out/{0}", self.name).into();
         let given = env::var_os(self.variable).unwrap_or_else(built);
         Path::new(env!("CARGO_MANIFEST_DIR")).join(given)
     }
@@ -74,7 +74,9 @@ impl Program {
         command.stdout(Stdio::piped()).stderr(Stdio::piped());
         command.stdin(input).spawn().unwrap_or_else(|error| {
             let (path, name, variable) = (path.display(), self.name, self.variable);
-            panic!("{path}: {error}; `rt check {name}` builds it, or {variable} names another")
+            panic!(
+                "{path}: {error}; `rt run` in crates/{name} builds it, or {variable} names another"
+            )
         })
     }
 

@@ -6,7 +6,8 @@
 //!   declares; in a column headed 'definition' those of crates/spec/specs alone;
 //! - `module::one two`: functions of crates/*/src/module.rt, or of the root of the crate `module`;
 //! - `a/path`: a file or folder of the repository, from its root; `Name.antt` and the like: a file
-//!   of that name anywhere. What follows a path is what a command is given.
+//!   of that name anywhere. What follows a path is what a command is given. Of what is built in a
+//!   crate's `out/` the crate must be there, and make a program or an archive of that name.
 //!
 //! In running text a string of another form is taken for no name. In the columns headed 'crate',
 //! 'definition', 'function' and 'law' it must be the name of a crate.
@@ -202,7 +203,23 @@ impl Sources {
         let path = path.trim_start_matches("./").trim_end_matches('/');
         let inside = format!("{path}/");
         let mut paths = self.0.keys();
-        path.starts_with("target/") || paths.any(|p| p == path || p.starts_with(&inside))
+        path.starts_with("target/")
+            || self.makes(path)
+            || paths.any(|p| p == path || p.starts_with(&inside))
+    }
+
+    /// Whether this is where a crate's program or archive is built.
+    fn makes(&self, path: &str) -> bool {
+        let parts: Vec<_> = path.split('/').collect();
+        let ["crates", name, "out", made] = parts[..] else {
+            return false;
+        };
+        let source = match made == name {
+            true => format!("crates/{name}/src/main.rt"),
+            false if made == format!("lib{name}.a") => format!("crates/{name}/src/lib.rt"),
+            false => return false,
+        };
+        self.0.contains_key(&source)
     }
 
     fn has_file(&self, name: &str) -> bool {
@@ -255,7 +272,7 @@ fn read_all(folder: &str, files: &mut BTreeMap<String, String>) {
         if entry.file_type().expect("a file or a folder").is_file() {
             let bytes = fs::read(entry.path()).expect("a file");
             files.insert(path, String::from_utf8_lossy(&bytes).into_owned());
-        } else if name != "target" && name != ".git" {
+        } else if !["target", "out", ".git"].contains(&&name[..]) {
             read_all(&format!("{path}/"), files);
         }
     }
@@ -307,6 +324,7 @@ fn sample() -> Sources {
         ),
         ("crates/laws/proofs/Words.antt", "pub read-join : ℕ\n"),
         ("crates/laws/src/lib.rt", ""),
+        ("crates/speak/src/main.rt", ""),
         (
             "crates/message/src/check.rt",
             "// fn gone(\npub fn check(m: &[u8]) -> u8\nfn pass<'a>(m: &'a [u8]) -> u8\n",
@@ -325,6 +343,7 @@ fn names_that_exist_pass() {
     let document = "\
 `Letters.small rowА Letter byte`, `Words.read-join`, `check::check pass`, `message::check::pass`,
 `capi::govorun_check`, `docs/`, `./docs/PLAN.md`, `docs/PLAN.md now`, `target/bin/x`, `PLAN.md`;
+`crates/speak/out/speak`, `crates/capi/out/libcapi.a`;
 no names: `Д У* П`, `tape m`, `x86.64`, `Checked::Accepted`, `.ci`, `rt check laws`, ``.
 ```sh
 `Letters.gone` and one ` more
@@ -354,6 +373,10 @@ fn wrong_names_in_running_text_are_found() {
         ("docs/GONE.md", "docs/GONE.md"),
         ("doc/", "doc/"),
         ("docs/gone 60", "docs/gone"),
+        ("crates/gone/out/gone", "crates/gone/out/gone"),
+        ("crates/laws/out/laws", "crates/laws/out/laws"),
+        ("crates/speak/out/libspeak.a", "crates/speak/out/libspeak.a"),
+        ("crates/laws/out/gone.a", "crates/laws/out/gone.a"),
         ("GONE.md", "GONE.md"),
     ] {
         let complaint = format!("line 2: `{text}`: there is no {name}");

@@ -35,14 +35,14 @@ fn script() -> Command {
     Command::new(concat!(env!("CARGO_MANIFEST_DIR"), "/../speak"))
 }
 
-/// A folder with another `rt`, which keeps what it is asked beside itself, prints these lines and
-/// ends so.
+/// A folder with another `rt`, which keeps the crate and what it is asked beside itself, says these
+/// lines, prints what a program would and ends so.
 fn other_rt(name: &str, lines: &str, status: u8) -> PathBuf {
     let folder = Path::new(env!("CARGO_TARGET_TMPDIR")).join(name);
     fs::create_dir_all(&folder).expect("a folder for the other rt");
     let rt = folder.join("rt");
-    let script = "#!/bin/sh\necho \"$*\" >\"$0.asked\"";
-    let script = format!("{script}\nprintf '{lines}'\nexit {status}\n");
+    let script = "#!/bin/sh\necho \"${PWD##*/}: $*\" >\"$0.asked\"\necho of the case";
+    let script = format!("{script}\nprintf '{lines}' >&2\nexit {status}\n");
     fs::write(&rt, script).expect("the other rt");
     fs::set_permissions(&rt, fs::Permissions::from_mode(0o755)).expect("it may be run");
     folder
@@ -59,25 +59,33 @@ fn script_with(folder: &Path) -> Command {
     script
 }
 
-/// What `rt` is asked by a run of the script with these arguments.
+/// The crate in whose folder `rt` is called by a run of the script with these arguments, and what it
+/// is asked.
 fn asked(arguments: &[&str]) -> String {
-    let folder = other_rt("rt-that-is-asked", "rt: ok\n", 0);
+    let folder = other_rt("rt-that-is-asked", "rt: running\n", 0);
     run(script_with(&folder).args(arguments));
     fs::read_to_string(folder.join("rt.asked")).expect("it was asked")
 }
 
 /// Runs the script on a text with an `rt` that prints what the prover printed once and ends so.
 fn speak_with_rt(name: &str, status: u8) -> Run {
-    let lines = "fn message::check::check: proved\nrt: message proved (23 s)\n\
-                 rt: transcriber proved (unchanged since it was last proved)\n\
-                 logic=proved functions=6\nrt: speak proved (9 s)\nrt: ok, 3 crates proved\n";
+    let lines = "rt: chose --jobs 2 for message\nfn message::check::check: proved\n\
+                 statements std: modules loaded=5 checked=0\n\
+                 crate message: modules loaded=36 checked=4\nlogic=proved functions=6\n\
+                 fn speak::main: proved\nlibrary message: modules loaded=24 checked=0\n\
+                 crate speak: modules loaded=0 checked=220\naxioms std: none reached\n\
+                 logic=proved functions=7 axioms=8\nlinked files=out/speak.o\n\
+                 rt: running out/speak\n";
     run(script_with(&other_rt(name, lines, status)).arg("ду*б ра*д"))
 }
 
 /// Runs the script with an `rt` that takes no time, since it has nothing to prove.
 fn speak(arguments: impl IntoIterator<Item: AsRef<OsStr>>) -> Run {
     static FOLDER: OnceLock<PathBuf> = OnceLock::new();
-    let folder = FOLDER.get_or_init(|| other_rt("rt-with-nothing-to-prove", "rt: ok\n", 0));
+    let folder = FOLDER.get_or_init(|| {
+        let lines = "rt: nothing has changed since the last proved build\nrt: running\n";
+        other_rt("rt-with-nothing-to-prove", lines, 0)
+    });
     run(script_with(folder).args(arguments))
 }
 
@@ -277,20 +285,19 @@ fn what_is_no_number_is_no_level() {
 
 #[test]
 fn the_program_that_is_needed_is_proved() {
-    assert_eq!(asked(&["-l", "5"]), "check gauge\n");
-    assert_eq!(asked(&["-s", "-l", "5"]), "check gauge\n");
-    assert_eq!(asked(&["-s", "а"]), "check speak\n");
-    assert_eq!(asked(&["5"]), "check speak\n");
+    assert_eq!(asked(&["-l", "5"]), "gauge: run\n");
+    assert_eq!(asked(&["-s", "-l", "5"]), "gauge: run\n");
+    assert_eq!(asked(&["-s", "а"]), "speak: run\n");
+    assert_eq!(asked(&["5"]), "speak: run\n");
 }
 
 #[test]
 fn building_shows_a_line_for_each_crate() {
     let (status, print, progress) = speak_with_rt("rt-that-proves", 0);
     assert_eq!((status, &print[..]), (Some(0), "24 6 39 0 41 1 45\n"));
-    assert_eq!(
-        progress,
-        "rt: message proved (23 s)\nrt: speak proved (9 s)\n"
-    );
+    let untimed = progress.replace(|c: char| c.is_ascii_digit(), "");
+    assert_eq!(untimed, "rt: message proved ( s)\nrt: speak proved ( s)\n");
+    assert_ne!(untimed, progress);
 }
 
 #[test]
@@ -298,5 +305,5 @@ fn a_failed_proof_is_shown_and_nothing_spoken() {
     let (status, print, complaint) = speak_with_rt("rt-that-fails", 3);
     assert_eq!((status, &print[..]), (Some(1), ""));
     assert!(complaint.contains("fn message::check::check: proved\n"));
-    assert!(complaint.ends_with("rt: ok, 3 crates proved\n"));
+    assert!(complaint.ends_with("rt: running out/speak\n"));
 }
