@@ -1,7 +1,8 @@
 -- What the walk over a book comes to settles lookups and additions: the book's refusal, the least number, and the record that was wanted.
 use Rattle.laws.proofs.Kit.{ℕ, ◌+◌, ◌≤◌, ◌≡◌, refl, sym, ap, ◌∙◌, cond, List, [], ◌∷◌, arith, eqb, leb, length, length-append}
 use Rattle.laws.proofs.Kit.{le-leb, lt-leb}
-use Rattle.spec.specs.Book.{Phrase, book_storage, record_of, records, head_size, Bytes, Reading, holds, unsound, read_book, Search, none, entry}
+use Rattle.spec.specs.Book.{Phrase, book_storage, record_of, records, head_size, Bytes, Reading, holds, unsound, read_book, Search, none}
+use Rattle.spec.specs.Book.{entry}
 use Rattle.spec.specs.Book.{search, record_at, start_of, heard, placed, locate_answer, unheard, least_after, after_book, RisingFrom}
 use Rattle.spec.specs.{Listeners.may_hear, Listeners.withheld, declared.Listener.Listener, declared.Located.Located}
 use Rattle.spec.specs.{Refusals.refusal, declared.Refusal.Refusal, declared.Answer.Answer, declared.Answer.TheVariants.Refused}

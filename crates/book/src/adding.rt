@@ -1,6 +1,7 @@
 // Additions (paper 02, requests 6 to 8).
 ghost use Rattle.std.specs.Prelude.{◌≡◌, length};
-ghost use Rattle.spec.specs.Book.{book_storage, read_book, after_book, phrase_of, record_of, AddPromise};
+ghost use Rattle.spec.specs.Book.{book_storage, read_book, after_book, phrase_of, record_of};
+ghost use Rattle.spec.specs.Book.{AddPromise};
 ghost use Rattle.laws.specs.Putting.{Put};
 ghost use Rattle.book.specs.Entries.{RecordDue};
 

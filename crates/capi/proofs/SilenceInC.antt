@@ -1,7 +1,8 @@
 -- The law of silence in C: a listener hears the same in both books, so he is told the same but for its place; and who is no listener gets
 -- 17 from every sound book.
 use Rattle.laws.proofs.Kit.{ℕ, ◌≡◌, refl, sym, ◌∙◌, List, take, drop}
-use Rattle.spec.specs.Book.{book_storage, book_in, Heard, nothing, aloud, tape_after, placed, locate_answer, part_at, unheard, LocatePromise}
+use Rattle.spec.specs.Book.{book_storage, book_in, Heard, nothing, aloud, tape_after, placed, locate_answer, part_at, unheard}
+use Rattle.spec.specs.Book.{LocatePromise}
 use Rattle.spec.specs.{Answers.Carried, BookDemands.AgreeFor, declared.Listener.Listener, declared.Located.Located}
 use Rattle.spec.specs.declared.Located.TheVariants.{At, Refused}
 use Rattle.laws.proofs.{Book.sound_read, Lookup.heard_same}

@@ -2,7 +2,8 @@
 -- and an addition's three, since no cut is live there; and of a lookup's five.
 -- Assumes nothing: these are definitions.
 use Rattle.std.specs.Prelude.{ℕ, ◌<◌, ◌≡◌, Bool, cond, List, [], ◌∷◌, eqb, take, drop}
-use Rattle.spec.specs.Answers.{number_of, place_of, length_of, live_of, checked_number, checked_place}
+use Rattle.spec.specs.Answers.{number_of, place_of, length_of, live_of, checked_number}
+use Rattle.spec.specs.Answers.{checked_place}
 use Rattle.spec.specs.Answers.{checked_codes, checked_names, Promise, Carried}
 use Rattle.spec.specs.Listeners.{withheld}
 use Rattle.spec.specs.Book.{Phrase, book_storage, read_book, book_in, unheard, LocatePromise}

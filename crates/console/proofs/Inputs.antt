@@ -1,5 +1,6 @@
 -- What is read in turn stands together in the text, and the reader has lost it.
-use Rattle.std.proofs.Common.{ℕ, suc, ◌+◌, ◌-◌, ◌<◌, ◌≤◌, ◌≡◌, List, [], ◌++◌, IfSome, length, take, drop, arith, refl, sym, ap, subst, ◌∙◌, append-nil}
+use Rattle.std.proofs.Common.{ℕ, suc, ◌+◌, ◌-◌, ◌<◌, ◌≤◌, ◌≡◌, List, [], ◌++◌, IfSome, length, take, drop, arith, refl, sym, ap, subst, ◌∙◌}
+use Rattle.std.proofs.Common.{append-nil}
 use Rattle.laws.proofs.Kit.{⊎_elim, take_all, take_at}
 use Rattle.laws.proofs.{Classes.below_or}
 use Rattle.std.specs.declared.option.Option.{Option}

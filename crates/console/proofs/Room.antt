@@ -1,7 +1,8 @@
 -- The program never prints number 11: a message that the check accepts is short, so its tape has room in the codes that the transcriber is lent.
 use Rattle.laws.proofs.Kit.{ℕ, ◌≤◌, arith, ◌≡◌, refl, List, length, le-leb}
 use Rattle.spec.specs.Answers.{number_of, checked_number, within, after_check, tape_answer}
-use Rattle.spec.specs.{Tape.tape, Refusals.check_of, declared.Checked.Checked, declared.Checked.TheVariants.Accepted, declared.Checked.TheVariants.Refused}
+use Rattle.spec.specs.{Tape.tape, Refusals.check_of, declared.Checked.Checked, declared.Checked.TheVariants.Accepted}
+use Rattle.spec.specs.{declared.Checked.TheVariants.Refused}
 use Rattle.spec.specs.declared.Edition.TheVariants.{One}
 use Rattle.laws.proofs.{Accepted.accepted_counts, Editions.tape_length, Sizes.tape_size, Bounds.check_small}
 

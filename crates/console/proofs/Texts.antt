@@ -1,8 +1,11 @@
 -- The text grows at its end: what is put after other bytes and those bytes together were put at the place of the latter. How long a number, the codes and an answer are in it.
-use Rattle.laws.proofs.Kit.{ℕ, zero, suc, ◌+◌, ◌-◌, ◌*◌, ◌/◌, ◌%◌, ◌^◌, ◌<◌, ◌≤◌, arith, ◌≡◌, refl, sym, ap, ◌∙◌, ⊎_elim, List, [], ◌∷◌, ◌++◌, append_assoc, append-nil, length, take, drop, get_or, length-append, length-drop, take_at, drop-cons, drop-length, le-leb, lt-leb, lt-ltb, le-ltb}
+use Rattle.laws.proofs.Kit.{ℕ, zero, suc, ◌+◌, ◌-◌, ◌*◌, ◌/◌, ◌%◌, ◌^◌, ◌<◌, ◌≤◌, arith, ◌≡◌, refl, sym, ap, ◌∙◌, ⊎_elim, List, [], ◌∷◌}
+use Rattle.laws.proofs.Kit.{◌++◌, append_assoc, append-nil, length, take, drop, get_or, length-append, length-drop, take_at, drop-cons}
+use Rattle.laws.proofs.Kit.{drop-length, le-leb, lt-leb, lt-ltb, le-ltb}
 use Rattle.spec.specs.Printed.{last_digits, decimal, printed_codes, printed_answer}
 use Rattle.spec.specs.Answers.{number_of, place_of, length_of, output_after, tape_answer, Promise}
-use Rattle.spec.specs.{Tables.ascii, Tape.tape, Demands.CarriedOut, declared.Refusal.Refusal, declared.Answer.Answer, declared.Answer.TheVariants.Written, declared.Answer.TheVariants.Refused}
+use Rattle.spec.specs.{Tables.ascii, Tape.tape, Demands.CarriedOut, declared.Refusal.Refusal, declared.Answer.Answer}
+use Rattle.spec.specs.{declared.Answer.TheVariants.Written, declared.Answer.TheVariants.Refused}
 use Rattle.spec.specs.declared.Edition.TheVariants.{One}
 use Rattle.laws.proofs.{Bounds.tape_small, Classes.below_or}
 use Rattle.console.specs.Putting.{Appended, code_at}

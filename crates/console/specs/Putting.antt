@@ -1,6 +1,7 @@
 -- What the functions that make the text put into it.
 -- Assumes nothing: these are definitions.
-use Rattle.std.specs.Prelude.{ℕ, ◌+◌, ◌≤◌, ◌≡◌, cond, List, [], ◌∷◌, ◌++◌, ltb, length, take, get_or}
+use Rattle.std.specs.Prelude.{ℕ, ◌+◌, ◌≤◌, ◌≡◌, cond, List, [], ◌∷◌, ◌++◌, ltb, length, take}
+use Rattle.std.specs.Prelude.{get_or}
 use Rattle.spec.specs.Printed.{decimal}
 
 -- More was put at place at of the text, and ends at place r; what stood before it stands there

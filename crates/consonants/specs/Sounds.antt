@@ -1,7 +1,8 @@
 -- How the code finds a consonant's code: by one number for what stands right of it, and one table.
 -- These are not the paper's words: `proofs/` shows that they agree with them.
 -- Assumes nothing: these are definitions.
-use Rattle.std.specs.Prelude.{ℕ, suc, ◌+◌, ◌*◌, ◌%◌, ◌<◌, ◌≡◌, Bool, true, cond, List, [], ◌∷◌, ◌++◌, leb, length}
+use Rattle.std.specs.Prelude.{ℕ, suc, ◌+◌, ◌*◌, ◌%◌, ◌<◌, ◌≡◌, Bool, true, cond, List, [], ◌∷◌}
+use Rattle.std.specs.Prelude.{◌++◌, leb, length}
 use Rattle.spec.specs.Refusals.{consonant_byte}
 use Rattle.spec.specs.Tables.{among}
 use Rattle.spec.specs.Codes.{А*, Б, Б', В', Г, Г', Х1, Х1', Д, Д', Ж, Ж', З, З', К, К', Л', М', Н'}

@@ -1,5 +1,7 @@
 -- A number in decimal is read digit by digit, and clipped where it has left the range: what is answered for it is the same.
-use Rattle.laws.proofs.Kit.{ℕ, zero, suc, ◌+◌, ◌-◌, ◌*◌, ◌<◌, ◌≤◌, arith, add-one, ◌≡◌, refl, sym, ap, ◌∙◌, ◌⊎◌, inl, inr, ⊎_elim, true, false, cond, ◌&&◌, not, and-eq-true_iff, List, [], ◌∷◌, eqb, leb, length, drop, get_or, drop-cons, drop-length, drop_of_length-le, leb-true, leb-false, ne_eqb, not-true}
+use Rattle.laws.proofs.Kit.{ℕ, zero, suc, ◌+◌, ◌-◌, ◌*◌, ◌<◌, ◌≤◌, arith, add-one, ◌≡◌, refl, sym, ap, ◌∙◌, ◌⊎◌, inl, inr, ⊎_elim, true}
+use Rattle.laws.proofs.Kit.{false, cond, ◌&&◌, not, and-eq-true_iff, List, [], ◌∷◌, eqb, leb, length, drop, get_or, drop-cons, drop-length}
+use Rattle.laws.proofs.Kit.{drop_of_length-le, leb-true, leb-false, ne_eqb, not-true}
 use lib.IntN.{pos, neg_ℤ, nat_abs, ◌-ℤ◌, +ℤ_idl}
 use mir.Syntax.{w32}
 use mir.Val.{SFits, to_z, of_z}

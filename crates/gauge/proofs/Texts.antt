@@ -6,7 +6,8 @@ use Rattle.spec.specs.Answers.{number_of, place_of, tape_answer}
 use Rattle.spec.specs.SpokenLevels.{spoken, level_answer, LevelPromise}
 use Rattle.spec.specs.LevelDemands.{LevelDue, outside, no_room_for}
 use Rattle.spec.specs.Printed.{printed_answer, after_writing, spoken_answer}
-use Rattle.spec.specs.{Tape.tape, Refusals.refusal, declared.Refusal.Refusal, declared.Answer.Answer, declared.Answer.TheVariants.Written, declared.Answer.TheVariants.Refused}
+use Rattle.spec.specs.{Tape.tape, Refusals.refusal, declared.Refusal.Refusal, declared.Answer.Answer, declared.Answer.TheVariants.Written}
+use Rattle.spec.specs.{declared.Answer.TheVariants.Refused}
 use Rattle.laws.proofs.{Bounds.level_small, Demands.level_demands}
 use Rattle.console.proofs.Texts.{Part, part, refusal_short}
 use Rattle.gauge.specs.Reading.{Like}

@@ -3,7 +3,8 @@
 ghost use Rattle.std.specs.Prelude.{◌≡◌, true, ◌&&◌, ◌≤◌, leb, length, take};
 ghost use Rattle.spec.specs.Tape.{tape};
 ghost use Rattle.spec.specs.SpokenLevels.{spoken};
-ghost use Rattle.spec.specs.Printed.{printed_answer, sign_length, are_digits, is_decimal, digits_from};
+ghost use Rattle.spec.specs.Printed.{printed_answer, sign_length, are_digits, is_decimal};
+ghost use Rattle.spec.specs.Printed.{digits_from};
 ghost use Rattle.spec.specs.Printed.{level_in, spoken_answer, printed_level};
 ghost use Rattle.console.specs.Putting.{Appended, IsPrefixLen};
 ghost use Rattle.gauge.specs.Reading.{Clipped, Like};

@@ -2,7 +2,8 @@
 use Rattle.laws.proofs.Kit.{ℕ, ◌<◌, ◌≤◌, ◌≡◌, refl, sym, ◌∙◌, List, ◌++◌, eq-eqb, ne_eqb, length, take, drop, get_or, length-take-le}
 use Rattle.spec.specs.Joints.{Rising, joined, live_count, bad_cut}
 use Rattle.spec.specs.Answers.{after_check, output_after, join_answer, JoinPromise}
-use Rattle.spec.specs.{Refusals.refusal, Refusals.check_of, declared.Counts.Counts, declared.Checked.TheVariants.Accepted, declared.Answer.TheVariants.Written, declared.Answer.TheVariants.Refused}
+use Rattle.spec.specs.{Refusals.refusal, Refusals.check_of, declared.Counts.Counts, declared.Checked.TheVariants.Accepted}
+use Rattle.spec.specs.{declared.Answer.TheVariants.Written, declared.Answer.TheVariants.Refused}
 use Rattle.letters.proofs.Steadiness.{accepted_steady}
 use Rattle.spec.specs.declared.Edition.{Edition}
 use Rattle.laws.proofs.{Accepted.accepted_counts, Editions.tape_length, Cuts.rising_of, Cutting.equal_lengths, Promises.promised}

@@ -1,5 +1,6 @@
 -- The looks back: from an index down to the first element that passes a test, and from the mark of a place, break by break and mark by mark, to that of a cut.
-use Rattle.laws.proofs.Kit.{ℕ, suc, ◌-◌, ◌<◌, ◌≤◌, ◌≡◌, refl, sym, ◌∙◌, Bool, true, false, cond, true≢false, inl, ⊎_elim, List, arith, eqb, length, get_or, ne_eqb}
+use Rattle.laws.proofs.Kit.{ℕ, suc, ◌-◌, ◌<◌, ◌≤◌, ◌≡◌, refl, sym, ◌∙◌, Bool, true, false, cond, true≢false, inl, ⊎_elim, List, arith, eqb}
+use Rattle.laws.proofs.Kit.{length, get_or, ne_eqb}
 use Rattle.spec.specs.{Letters.is_break, Tape.tape, Joints.mark_index}
 use Rattle.letters.specs.{Classes.class_of, Places.Steady}
 use Rattle.letters.proofs.Computed.{everything}

@@ -1,5 +1,6 @@
 -- The two sides of a cut's mark: the codes beside it are the whole tape's, which tell the bits that come from over the cut, and the word after it begins with the letter of the next byte.
-use Rattle.laws.proofs.Kit.{ℕ, zero, suc, ◌+◌, ◌-◌, ◌≡◌, refl, sym, ap, ◌∙◌, true, false, ◌&&◌, List, [], ◌∷◌, arith, add-one, eqb, get_or, drop, eqb-true}
+use Rattle.laws.proofs.Kit.{ℕ, zero, suc, ◌+◌, ◌-◌, ◌≡◌, refl, sym, ap, ◌∙◌, true, false, ◌&&◌, List, [], ◌∷◌, arith, add-one, eqb, get_or}
+use Rattle.laws.proofs.Kit.{drop, eqb-true}
 use Rattle.spec.specs.Letters.{read, first_byte, first_word, small, is_mark, is_break}
 use Rattle.spec.specs.{Alphabet.gap, Alphabet.pause, Tape.tape, Joints.mark_index, Joints.word_after}
 use Rattle.letters.specs.Classes.{letter_at}

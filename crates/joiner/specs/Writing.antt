@@ -1,7 +1,8 @@
 -- What the joiner's own functions ask for and give: the message and the parts whose tapes are
 -- written, where a mark stands, and what a cut changes beside it.
 -- Assumes nothing: these are definitions.
-use Rattle.std.specs.Prelude.{ℕ, suc, ◌+◌, ◌-◌, ◌*◌, ◌<◌, ◌≤◌, ◌≡◌, Bool, true, false, cond, not, ◌||◌, List, [], ◌∷◌, ◌++◌, length, take, drop, get_or}
+use Rattle.std.specs.Prelude.{ℕ, suc, ◌+◌, ◌-◌, ◌*◌, ◌<◌, ◌≤◌, ◌≡◌, Bool, true, false, cond, not}
+use Rattle.std.specs.Prelude.{◌||◌, List, [], ◌∷◌, ◌++◌, length, take, drop, get_or}
 use Rattle.spec.specs.Letters.{between, is_break}
 use Rattle.spec.specs.Codes.{mark_of}
 use Rattle.spec.specs.Tape.{sounds, tape}
@@ -12,7 +13,8 @@ use Rattle.spec.specs.Joints.{Rising, joined_from, joined, mark_index, live_coun
 use Rattle.spec.specs.{LevelSteps.level_steps, Layers.TapeDue}
 use Rattle.spec.specs.declared.Counts.{Counts}
 use Rattle.spec.specs.declared.Checked.TheVariants.{Accepted}
-use Rattle.laws.specs.{Parts.part, Parts.changed_after, Parts.changed_before, Parts.Ends, Putting.Put}
+use Rattle.laws.specs.{Parts.part, Parts.changed_after, Parts.changed_before, Parts.Ends}
+use Rattle.laws.specs.{Putting.Put}
 use Rattle.joiner.specs.declared.Changes.{Changes}
 use Rattle.joiner.specs.declared.Progress.{Progress}
 use Rattle.joiner.specs.declared.JoinCounts.{JoinCounts}

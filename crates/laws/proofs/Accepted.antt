@@ -1,6 +1,9 @@
 -- The message check gives a number exactly where its condition holds and none earlier does, and accepts exactly what no number fits: the scan goes on over a byte only where no row fits, and at a byte the first row of the list that fits is given.
-use Rattle.laws.proofs.Kit.{ℕ, zero, suc, ◌<◌, ◌≤◌, ◌≡◌, refl, sym, ap, ◌∙◌, ◌⊎◌, inl, inr, ⊎_elim, true, false, cond, ◌&&◌, and-eq-true_iff, and-false, or-true, true≢false, false≢true, List, [], ◌∷◌, arith, eqb, leb, length, get_or, drop, length-drop, drop-cons, eqb-true, eqb-false, eq-eqb, ne_eqb, leb-true, leb-false, le-leb, lt-leb}
-use Rattle.spec.specs.Refusals.{Row, ◌when◌, rows, first_fit, fault_at, refusal, scan, check_of, fits_in, before_at, fits, index_in, rank, NoneFits, Earlier, Given}
+use Rattle.laws.proofs.Kit.{ℕ, zero, suc, ◌<◌, ◌≤◌, ◌≡◌, refl, sym, ap, ◌∙◌, ◌⊎◌, inl, inr, ⊎_elim, true, false, cond, ◌&&◌}
+use Rattle.laws.proofs.Kit.{and-eq-true_iff, and-false, or-true, true≢false, false≢true, List, [], ◌∷◌, arith, eqb, leb, length, get_or}
+use Rattle.laws.proofs.Kit.{drop, length-drop, drop-cons, eqb-true, eqb-false, eq-eqb, ne_eqb, leb-true, leb-false, le-leb, lt-leb}
+use Rattle.spec.specs.Refusals.{Row, ◌when◌, rows, first_fit, fault_at, refusal, scan, check_of, fits_in, before_at, fits, index_in, rank}
+use Rattle.spec.specs.Refusals.{NoneFits, Earlier, Given}
 use Rattle.spec.specs.Counting.{code_count, name_count}
 use Rattle.spec.specs.{Tape.sounds, Tape.names, Tables.among, declared.Counts.Counts, declared.Checked.Checked}
 use Rattle.spec.specs.{declared.Checked.TheVariants.Accepted, declared.Checked.TheVariants.Refused}

@@ -5,7 +5,8 @@ use Rattle.laws.proofs.Kit.{ℕ, zero, suc, ◌+◌, ◌*◌, ◌<◌, ◌≤◌
 use Rattle.laws.proofs.Kit.{◌++◌, append_assoc, append-nil, arith, leb, length, take, drop, length-append, take-append-drop, take_at}
 use Rattle.laws.proofs.Kit.{take-length, le-leb, lt-leb}
 use Rattle.spec.specs.Book.{Phrase, Storage, Sized, plain, record_of, records, row15, row16, Reading, holds, unsound, ◌then◌, read_from}
-use Rattle.spec.specs.Book.{read_book, Bytes, book_in, find_answer, tape_after, least_after, after_listener, after_book, NewPhrase, phrase_of}
+use Rattle.spec.specs.Book.{read_book, Bytes, book_in, find_answer, tape_after, least_after, after_listener, after_book, NewPhrase}
+use Rattle.spec.specs.Book.{phrase_of}
 use Rattle.spec.specs.Book.{with_addition, add_answer, Fits, RisingFrom, Sound, locate_answer}
 use Rattle.spec.specs.BookDemands.{BookDemands, MayAdd, AddDue, not_dispatch, of_message, of_book, not_above_last, no_room_behind, Addition}
 use Rattle.spec.specs.BookDemands.{AddedTo, used_after, added_by, OneByOne, last_buffer, last_used, accepted, HoldsJust, AdditionsKept}

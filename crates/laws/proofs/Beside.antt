@@ -1,6 +1,7 @@
 -- What the codes at the two ends of a stretch tell of the bits that come from its neighbours: the last one is voiced just where the bit of what follows voices an obstruent, and at the
 -- start и and э sound Ы just behind a hard boundary. Why: only pass 4's last step looks at what follows, and only the first letter's row at what stands before.
-use Rattle.laws.proofs.Kit.{ℕ, suc, ◌≡◌, refl, sym, ◌∙◌, Bool, true, false, cond, not, ◌&&◌, and-true, and-false, and-eq-true_iff, true≢false, List, [], ◌∷◌, ◌++◌, append_assoc, not-true}
+use Rattle.laws.proofs.Kit.{ℕ, suc, ◌≡◌, refl, sym, ◌∙◌, Bool, true, false, cond, not, ◌&&◌, and-true, and-false, and-eq-true_iff}
+use Rattle.laws.proofs.Kit.{true≢false, List, [], ◌∷◌, ◌++◌, append_assoc, not-true}
 use Rattle.spec.specs.Letters.{Letter, Message, last, more, first_byte, first_word, last_word, obstruents, is_obstruent, is_gap}
 use Rattle.spec.specs.Vowels.{ends_hard}
 use Rattle.spec.specs.Voicing.{voiced, voiceless, voiced_code, voiceless_code, tone_of, toned, voice_one, voice}

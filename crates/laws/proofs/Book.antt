@@ -5,8 +5,10 @@ use Rattle.laws.proofs.Kit.{true≢false, false≢true, ◌⊎◌, inl, inr, ⊎
 use Rattle.laws.proofs.Kit.{leb, length, take, drop, length-append, length-drop, take-append-drop, take_at, drop_at, get_or-drop}
 use Rattle.laws.proofs.Kit.{get_or-take, List·getD-eq-default, drop-drop, length-take, length-take-le, eqb-true, eq-eqb, leb-true}
 use Rattle.laws.proofs.Kit.{le-leb, lt-leb}
-use Rattle.spec.specs.Book.{Phrase, Storage, record_mark, two_bytes, head_of, record_of, records, head_size, number_in, set_in, length_in, span_in}
-use Rattle.spec.specs.Book.{pair_at, phrase_in, has_record_mark, is_whole, is_record, row15, row16, Reading, holds, unsound, ◌then◌, read_from}
+use Rattle.spec.specs.Book.{Phrase, Storage, record_mark, two_bytes, head_of, record_of, records, head_size, number_in, set_in, length_in}
+use Rattle.spec.specs.Book.{span_in}
+use Rattle.spec.specs.Book.{pair_at, phrase_in, has_record_mark, is_whole, is_record, row15, row16, Reading, holds, unsound, ◌then◌}
+use Rattle.spec.specs.Book.{read_from}
 use Rattle.spec.specs.Book.{read_book, Bytes, book_in, least_after, Fits, RisingFrom, Sound}
 use Rattle.spec.specs.BookDemands.{UpTo, BookDue, no_record, not_above}
 use Rattle.spec.specs.{Tables.same, Refusals.refusal, declared.Refusal.Refusal}

@@ -2,13 +2,15 @@
 use Rattle.laws.proofs.Kit.{ℕ, suc, ◌≤◌, ⊎_elim, List, [], ◌∷◌, arith, leb, length, eq-eqb, ne_eqb, le-leb, lt-leb}
 use lib.IntN.{ℤ, nat_abs}
 use Rattle.spec.specs.Joints.{joined, is_live, live_count, bad_cut}
-use Rattle.spec.specs.Answers.{number_of, place_of, length_of, live_of, checked_number, checked_place, checked_codes, checked_names, within, after_check, name_answer, tape_answer, join_answer}
+use Rattle.spec.specs.Answers.{number_of, place_of, length_of, live_of, checked_number, checked_place, checked_codes, checked_names, within}
+use Rattle.spec.specs.Answers.{after_check, name_answer, tape_answer, join_answer}
 use Rattle.spec.specs.Utf8.{encoded, write_answer}
 use Rattle.spec.specs.SpokenLevels.{spoken, level_answer}
 use Rattle.spec.specs.{Tape.tape, Tape.names, Refusals.check_of, declared.Edition.Edition, declared.Answer.Answer}
 use Rattle.laws.proofs.Editions.{tape_length}
 use Rattle.laws.proofs.Cuts.{judged, rising_to, bad_bound, rising_length}
-use Rattle.laws.proofs.{Accepted.check_finds, Accepted.given_range, Classes.cond_both, Classes.below_or, Cutting.equal_lengths, Sizes.tape_size, Sizes.names_size, Utf8.encoded_size, SpokenLevels.level_size}
+use Rattle.laws.proofs.{Accepted.check_finds, Accepted.given_range, Classes.cond_both, Classes.below_or, Cutting.equal_lengths}
+use Rattle.laws.proofs.{Sizes.tape_size, Sizes.names_size, Utf8.encoded_size, SpokenLevels.level_size}
 use Rattle.laws.proofs.Counting.{tape_count, names_count}
 use Rattle.spec.specs.declared.Answer.TheVariants as answer
 use Rattle.laws.specs.Bounds.{Small, SmallCheck}

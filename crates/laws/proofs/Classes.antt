@@ -1,5 +1,6 @@
 -- A test has two outcomes, so what holds in both holds; and a class is a list of bytes, so what holds of all its letters is one computation over that list, as what holds of all numbers below a bound is.
-use Rattle.laws.proofs.Kit.{ℕ, zero, suc, ◌<◌, ◌≤◌, ◌≡◌, refl, sym, ap, ◌∙◌, Bool, true, false, cond, ◌||◌, true≢false, false≢true, ◌⊎◌, inl, inr, List, [], ◌∷◌, ◌++◌, map, arith, eqb, leb, eqb-true, eqb-false, leb-true, leb-false}
+use Rattle.laws.proofs.Kit.{ℕ, zero, suc, ◌<◌, ◌≤◌, ◌≡◌, refl, sym, ap, ◌∙◌, Bool, true, false, cond, ◌||◌, true≢false, false≢true, ◌⊎◌}
+use Rattle.laws.proofs.Kit.{inl, inr, List, [], ◌∷◌, ◌++◌, map, arith, eqb, leb, eqb-true, eqb-false, leb-true, leb-false}
 use Rattle.spec.specs.Letters.{is_break, is_mark, plain_vowels, softening_vowels, is_vowel, is_obstruent, is_paired}
 use Rattle.spec.specs.Refusals.{vowel_byte, sign_byte, hard_sign_byte, consonant_byte}
 use Rattle.spec.specs.{Tables.among, Alphabet.gap, Alphabet.pause, Codes.mark_of}

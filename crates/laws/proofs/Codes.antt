@@ -11,12 +11,16 @@ use Rattle.spec.specs.Codes.{J, Э1, mark_of, is_mark_code, is_sound_code, is_so
 use Rattle.spec.specs.Syllables.{Facts, facts_of, syllable_of, name_in, name_of, is_name, incomplete, names_from}
 use Rattle.spec.specs.Vowels.{vowel_sound, ends_hard}
 use Rattle.spec.specs.Phones.{Phone, written_code, phones_from}
-use Rattle.spec.specs.Voicing.{Tone, voiced, voiceless, asWritten, voiced_code, voiceless_code, voices, tone_of, toned, codes_of, voice_one, voice}
+use Rattle.spec.specs.Voicing.{Tone, voiced, voiceless, asWritten, voiced_code, voiceless_code, voices, tone_of, toned, codes_of, voice_one}
+use Rattle.spec.specs.Voicing.{voice}
 use Rattle.spec.specs.{Editions.code_in, EditionDemands.reducing, declared.Edition.Edition}
 use Rattle.spec.specs.Tape.{word_tape, segment, sounds, tape, word_names, names_of, names}
 use Rattle.spec.specs.Refusals.{consonant_byte, sign_byte, vowel_byte, letter_byte, row3, rows, fits_in, NoneFits}
 use Rattle.spec.specs.Joints.{joined_from, joined, marks_of, break_marks}
-use Rattle.spec.specs.{Tables.among, Elision.elides, Elision.elide_from, Elision.elide, Palatalization.is_soft, Palatalization.palatalize, declared.Cover.Cover, declared.Cover.TheVariants.Bare, declared.Cover.TheVariants.Covered, declared.Syllable.Syllable, declared.Level.Level, declared.Level.TheVariants.Stressed, declared.Level.TheVariants.First, declared.Level.TheVariants.Second}
+use Rattle.spec.specs.{Tables.among, Elision.elides, Elision.elide_from, Elision.elide, Palatalization.is_soft, Palatalization.palatalize}
+use Rattle.spec.specs.{declared.Cover.Cover, declared.Cover.TheVariants.Bare, declared.Cover.TheVariants.Covered}
+use Rattle.spec.specs.{declared.Syllable.Syllable, declared.Level.Level, declared.Level.TheVariants.Stressed}
+use Rattle.spec.specs.{declared.Level.TheVariants.First, declared.Level.TheVariants.Second}
 use Rattle.spec.proofs.Computed.{everything}
 use Rattle.laws.proofs.Classes.{cond_both, mark_both, cond_app, cond_same, either, refuted, among_same, vowel_single, vowel_quiet}
 use Rattle.laws.proofs.Editions.{sound_code, own_code, mark_own}

@@ -1,5 +1,7 @@
 -- A list of cuts: number 12 lets through just the strictly rising lists of places of breaks, since past its end a message has no break.
-use Rattle.laws.proofs.Kit.{ℕ, zero, suc, ◌+◌, ◌-◌, ◌<◌, ◌≤◌, ◌≡◌, refl, sym, ap, ◌∙◌, true, false, not, false≢true, true≢false, ◌⊎◌, inl, inr, ⊎_elim, List, [], ◌∷◌, arith, leb-true, le-leb, not-false, length, drop, get_or, length-drop, List·getD-eq-default}
+use Rattle.laws.proofs.Kit.{ℕ, zero, suc, ◌+◌, ◌-◌, ◌<◌, ◌≤◌, ◌≡◌, refl, sym, ap, ◌∙◌, true, false, not, false≢true, true≢false, ◌⊎◌, inl}
+use Rattle.laws.proofs.Kit.{inr, ⊎_elim, List, [], ◌∷◌, arith, leb-true, le-leb, not-false, length, drop, get_or, length-drop}
+use Rattle.laws.proofs.Kit.{List·getD-eq-default}
 use Rattle.spec.specs.Joints.{RisingFrom, Rising, CutOf, breaks_from, breaks, row12, bad_cut_from, bad_cut, least_at, FirstBad}
 use Rattle.spec.specs.Letters.{is_break}
 use Rattle.laws.proofs.{Accepted.rest_first, Classes.cond_app, Classes.cond_both, Classes.either, Classes.or-false, Classes.below_or}

@@ -1,6 +1,8 @@
 -- The two tapes of a message, for every list of cuts: each cut splits both tapes at one index, and a cut is live just when a bit from over it changes a code beside its mark.
-use Rattle.laws.proofs.Kit.{ℕ, zero, suc, ◌+◌, ◌-◌, ◌≤◌, ◌&&◌, ◌++◌, append_assoc, length-append, ◌<◌, ◌≡◌, refl, sym, ap, ◌∙◌, true, false, true≢false, inl, inr, ⊎_elim, ◌≢◌, ◌↔◌, List, [], ◌∷◌, arith, length, get_or, take, drop}
-use Rattle.spec.specs.Joints.{RisingFrom, Rising, joined_from, marks_of, break_marks, word_after, CutOf, DiffersAt, joined, is_live, NoneLive, live_count, mark_index}
+use Rattle.laws.proofs.Kit.{ℕ, zero, suc, ◌+◌, ◌-◌, ◌≤◌, ◌&&◌, ◌++◌, append_assoc, length-append, ◌<◌, ◌≡◌, refl, sym, ap, ◌∙◌, true, false}
+use Rattle.laws.proofs.Kit.{true≢false, inl, inr, ⊎_elim, ◌≢◌, ◌↔◌, List, [], ◌∷◌, arith, length, get_or, take, drop}
+use Rattle.spec.specs.Joints.{RisingFrom, Rising, joined_from, marks_of, break_marks, word_after, CutOf, DiffersAt, joined, is_live}
+use Rattle.spec.specs.Joints.{NoneLive, live_count, mark_index}
 use mathlib.Core.List.{map, map-append}
 use lib.ListN.{length-map}
 use Rattle.spec.specs.{Editions.code_in, declared.Edition.Edition}
@@ -11,10 +13,12 @@ use Rattle.laws.proofs.Codes.{Spells, bytes_marks, part_spells, marks_mark, mark
 use Rattle.laws.proofs.Beside.{segment_ends, mark_unvoiced}
 use Rattle.laws.specs.{Beside.is_voiced, Beside.is_high, Beside.is_i_or_e, Parts.onward, Parts.voiced_at, Parts.changed_before, Parts.part}
 use Rattle.laws.specs.Parts.{Begins}
-use Rattle.laws.proofs.Parts.{part_split, part_first, last_at_lem, after_mark, joined_low, tape_cut, mark_index_lem, live_here, onward_first}
+use Rattle.laws.proofs.Parts.{part_split, part_first, last_at_lem, after_mark, joined_low, tape_cut, mark_index_lem, live_here}
+use Rattle.laws.proofs.Parts.{onward_first}
 use Rattle.laws.proofs.Parts.{first_own, joined_length, joined_dead}
 use Rattle.laws.proofs.MarkIndex.{placed, own_length, before_told, after_told}
-use Rattle.laws.proofs.{Accepted.none_passes, Accepted.none_accepted, Classes.either, Classes.refuted, Cuts.cut_good, Cuts.break_within, PartsAccepted.parts_none, Word.last_code_from, Stretch.last_append, Marks.mark_first, Marks.mark_next}
+use Rattle.laws.proofs.{Accepted.none_passes, Accepted.none_accepted, Classes.either, Classes.refuted, Cuts.cut_good, Cuts.break_within}
+use Rattle.laws.proofs.{PartsAccepted.parts_none, Word.last_code_from, Stretch.last_append, Marks.mark_first, Marks.mark_next}
 
 -- the count is 0 exactly when no cut is live
 pub counts_none : (m cuts : List ℕ) → (live_count m cuts ≡ 0) ↔ NoneLive m cuts

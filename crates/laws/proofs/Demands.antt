@@ -1,8 +1,10 @@
 -- The operator's three demands, from the promises alone: every operation answers the check's refusal, then number 12, then 11, and else its text, so each way of ending is one case. Those of a text are those of its edited form.
-use Rattle.laws.proofs.Kit.{ℕ, ◌≤◌, ◌≡◌, refl, sym, ap, ◌∙◌, cond, ◌⊎◌, inl, inr, ⊎_elim, ◌↔◌, List, [], ◌∷◌, ◌<◌, false≢true, arith, eqb, length, take, drop, length-append, length-drop, take_at, eq-eqb, ne_eqb, le-leb, lt-leb}
+use Rattle.laws.proofs.Kit.{ℕ, ◌≤◌, ◌≡◌, refl, sym, ap, ◌∙◌, cond, ◌⊎◌, inl, inr, ⊎_elim, ◌↔◌, List, [], ◌∷◌, ◌<◌, false≢true, arith, eqb}
+use Rattle.laws.proofs.Kit.{length, take, drop, length-append, length-drop, take_at, eq-eqb, ne_eqb, le-leb, lt-leb}
 use lib.IntN.{ℤ, nat_abs}
 use Rattle.spec.specs.Joints.{Rising, joined, live_count, bad_cut_from, bad_cut}
-use Rattle.spec.specs.Answers.{number_of, place_of, length_of, live_of, checked_number, checked_place, checked_codes, checked_names, within, after_check, output_after, name_answer, tape_answer, join_answer, Promise}
+use Rattle.spec.specs.Answers.{number_of, place_of, length_of, live_of, checked_number, checked_place, checked_codes, checked_names, within}
+use Rattle.spec.specs.Answers.{after_check, output_after, name_answer, tape_answer, join_answer, Promise}
 use Rattle.spec.specs.Demands.{Due, turned_away, wrong_cut, too_short, CarriedOut, Settled, Exactly, Demand1, Demand2, Demand3}
 use Rattle.spec.specs.EditDemands.{EditDue, EditedDemands}
 use Rattle.spec.specs.Utf8Demands.{ReadDue, unreadable, no_room, ReadDemands, WriteDemands}
@@ -12,10 +14,12 @@ use Rattle.spec.specs.Utf8.{encoded, decoded, read_to, read_answer, write_answer
 use Rattle.spec.specs.SpokenLevels.{spoken, level_answer, InRange}
 use Rattle.spec.specs.declared.Edition.{Edition}
 use Rattle.laws.proofs.Editions.{tape_length}
-use Rattle.spec.specs.{Tape.tape, Tape.names, Refusals.refusal, Refusals.check_of, Refusals.fits, Refusals.NoneFits, Refusals.Given, declared.Answer.Answer, declared.Answer.TheVariants.Written, declared.Answer.TheVariants.Refused}
+use Rattle.spec.specs.{Tape.tape, Tape.names, Refusals.refusal, Refusals.check_of, Refusals.fits, Refusals.NoneFits, Refusals.Given}
+use Rattle.spec.specs.{declared.Answer.Answer, declared.Answer.TheVariants.Written, declared.Answer.TheVariants.Refused}
 use Rattle.laws.proofs.Accepted.{check_finds, passes_none, none_accepted, given_range, given_refused, empty_given, long_given}
 use Rattle.laws.proofs.Edited.{edited_size, edited_twice, accepted_own, edited_never_four, only_breaks}
-use Rattle.laws.proofs.Utf8.{read_most, whole_run, run_once, run_whole, stops_at, stops_once, read_back, run_formed, encoded_size, decoded_size, accepted_rows}
+use Rattle.laws.proofs.Utf8.{read_most, whole_run, run_once, run_whole, stops_at, stops_once, read_back, run_formed, encoded_size}
+use Rattle.laws.proofs.Utf8.{decoded_size, accepted_rows}
 use Rattle.laws.proofs.SpokenLevels.{level_size, level_equal, level_marks, level_accepted}
 use Rattle.laws.proofs.Cuts.{judged, first_bad, rising_to, full_rising, full_every}
 use Rattle.laws.proofs.Counting.{tape_count, names_count}

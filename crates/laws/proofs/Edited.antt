@@ -1,6 +1,9 @@
 -- The editor's steps as one walk over the text, which carries no more than the break that waits to be put before the next byte; and what follows for edited texts.
-use Rattle.laws.proofs.Kit.{ℕ, suc, ◌+◌, ◌<◌, ◌≤◌, ◌≡◌, refl, sym, ap, ◌∙◌, ◌⊎◌, inl, inr, ⊎_elim, ◌↔◌, Bool, true, false, cond, ◌&&◌, ◌||◌, not, and-false, and-true, or_assoc, true≢false, false≢true, List, [], ◌∷◌, map, arith, eqb, leb, length, drop, length-drop, leb-true, lt-leb}
-use Rattle.spec.specs.Editing.{pause_marks, gap_marks, replaced, one_break, put_break, merged, without_first, without_last, edited, OnlyBreaks}
+use Rattle.laws.proofs.Kit.{ℕ, suc, ◌+◌, ◌<◌, ◌≤◌, ◌≡◌, refl, sym, ap, ◌∙◌, ◌⊎◌, inl, inr, ⊎_elim, ◌↔◌, Bool, true, false, cond, ◌&&◌, ◌||◌}
+use Rattle.laws.proofs.Kit.{not, and-false, and-true, or_assoc, true≢false, false≢true, List, [], ◌∷◌, map, arith, eqb, leb, length, drop}
+use Rattle.laws.proofs.Kit.{length-drop, leb-true, lt-leb}
+use Rattle.spec.specs.Editing.{pause_marks, gap_marks, replaced, one_break, put_break, merged, without_first, without_last, edited}
+use Rattle.spec.specs.Editing.{OnlyBreaks}
 use Rattle.spec.specs.{Alphabet.gap, Alphabet.pause, Tables.among, Letters.is_break}
 use Rattle.spec.specs.Refusals.{first, none, row3, row4, rows, fits_in, before_at, fits, NoneFits}
 use Rattle.spec.proofs.Computed.{everything}

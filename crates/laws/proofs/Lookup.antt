@@ -5,7 +5,8 @@ use Rattle.laws.proofs.Kit.{ℕ, suc, ◌+◌, ◌≤◌, ◌≡◌, refl, sym, 
 use Rattle.laws.proofs.Kit.{arith, eqb, length, take, drop, length-append, length-take, take-append-drop, take_all, take_at, drop_at}
 use Rattle.laws.proofs.Kit.{drop-append-add, eqb-true, eq-eqb, ne_eqb}
 use Rattle.spec.specs.Book.{Phrase, Storage, plain, record_mark, two_bytes, head_of, record_of, records, head_size, Reading, holds, unsound}
-use Rattle.spec.specs.Book.{read_book, Bytes, book_in, Search, none, entry, search, record_at, tape_of, start_of, Heard, nothing, aloud, heard}
+use Rattle.spec.specs.Book.{read_book, Bytes, book_in, Search, none, entry, search, record_at, tape_of, start_of, Heard, nothing, aloud}
+use Rattle.spec.specs.Book.{heard}
 use Rattle.spec.specs.Book.{told, handed, find_answer, tape_after, placed, locate_answer, told_of, part_at, end_of, Fits, RisingFrom}
 use Rattle.spec.specs.Book.{FindPromise, LocatePromise}
 use Rattle.spec.specs.BookDemands.{Listed, IsFor, Has, FindDue, of_records, not_for_him, LooksUp}

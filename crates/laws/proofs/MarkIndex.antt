@@ -1,19 +1,23 @@
 -- Where the codes of a part and the marks of breaks stand on a tape: before a place as many codes stand as the bytes before it make, so a part's codes in the whole tape are as many
 -- as its own, and since each code of a word is a sound the last mark before that of a place is that of the last break before it.
-use Rattle.laws.proofs.Kit.{ℕ, suc, ◌+◌, ◌-◌, ◌<◌, ◌≤◌, ◌≡◌, refl, sym, ap, ◌∙◌, Bool, true, false, not, ◌&&◌, and-eq-true_iff, true≢false, ◌⊎◌, ⊎_elim, List, [], ◌∷◌, ◌++◌, append-nil, arith, leb, length, take, drop, get_or, length-append, length-drop, List·getD-append, List·getD-eq-default, take_all, get_or-append-add, leb-true, le-leb}
+use Rattle.laws.proofs.Kit.{ℕ, suc, ◌+◌, ◌-◌, ◌<◌, ◌≤◌, ◌≡◌, refl, sym, ap, ◌∙◌, Bool, true, false, not, ◌&&◌, and-eq-true_iff, true≢false}
+use Rattle.laws.proofs.Kit.{◌⊎◌, ⊎_elim, List, [], ◌∷◌, ◌++◌, append-nil, arith, leb, length, take, drop, get_or, length-append}
+use Rattle.laws.proofs.Kit.{length-drop, List·getD-append, List·getD-eq-default, take_all, get_or-append-add, leb-true, le-leb}
 use Rattle.spec.specs.Letters.{between, read, first_byte, is_gap, is_break}
 use Rattle.spec.specs.Codes.{А*, Щ, mark_of, is_sound_code, is_sound}
 use mathlib.Core.List.{map, map-append}
 use lib.ListN.{length-map}
 use Rattle.spec.specs.{Editions.code_in, Tape.tape, declared.Edition.Edition}
 use Rattle.laws.proofs.Editions.{read_same, sound_code, mark_own, read_at, last_read}
-use Rattle.spec.specs.{Tape.segment, Tape.sounds, Refusals.check_of, Joints.mark_index, Joints.word_before, Joints.word_after, declared.Counts.Counts, declared.Checked.TheVariants.Accepted}
+use Rattle.spec.specs.{Tape.segment, Tape.sounds, Refusals.check_of, Joints.mark_index, Joints.word_before, Joints.word_after}
+use Rattle.spec.specs.{declared.Counts.Counts, declared.Checked.TheVariants.Accepted}
 use Rattle.laws.proofs.Codes.{Each, part_spells, read_marks, segment_sounds, unbroken, each_at}
 use Rattle.laws.proofs.Parts.{last_at_lem, onward_cut, part_own, tape_cut, mark_index_lem, mark_there, code_after, onward_alone}
 use Rattle.laws.specs.Parts.{part, Begins, Ends, hard_at, onward, voiced_at, changed_after, changed_before}
 use Rattle.laws.proofs.Beside.{segment_ends, segment_starts}
 use Rattle.laws.specs.Beside.{Last, is_voiced, is_high, is_i_or_e}
-use Rattle.laws.proofs.{Accepted.accepted_passes, Classes.mark_both, Classes.either, Classes.below_or, Stretch.segment_length, PartsAccepted.part_length, PartsAccepted.part_at, Marks.tape_from, Marks.mark_next, Marks.mark_last}
+use Rattle.laws.proofs.{Accepted.accepted_passes, Classes.mark_both, Classes.either, Classes.below_or, Stretch.segment_length}
+use Rattle.laws.proofs.{PartsAccepted.part_length, PartsAccepted.part_at, Marks.tape_from, Marks.mark_next, Marks.mark_last}
 
 -- it is not below another such index
 pub last_above : (test : ℕ → Bool) (x y : List ℕ) (i r s : ℕ) → ((j : ℕ) → j < i → get_or x j 0 ≡ get_or y j 0) → Last test x i r → s < i → test (get_or y s 0) ≡ true → s ≤ r

@@ -1,6 +1,8 @@
 -- How many codes stand before a place of a message: those that the bytes before it make, since neither bit from over a break changes their number.
-use Rattle.laws.proofs.Kit.{ℕ, zero, suc, ◌≡◌, refl, sym, ◌∙◌, true, false, ◌&&◌, List, [], ◌∷◌, ◌++◌, append_assoc, arith, length, take, get_or, length-append, take-suc, take-length}
-use Rattle.spec.specs.{Letters.read, Letters.is_gap, Letters.is_break, Codes.mark_of, Voicing.voices, Tape.segment, Tape.sounds, Joints.mark_index}
+use Rattle.laws.proofs.Kit.{ℕ, zero, suc, ◌≡◌, refl, sym, ◌∙◌, true, false, ◌&&◌, List, [], ◌∷◌, ◌++◌, append_assoc, arith, length, take}
+use Rattle.laws.proofs.Kit.{get_or, length-append, take-suc, take-length}
+use Rattle.spec.specs.{Letters.read, Letters.is_gap, Letters.is_break, Codes.mark_of, Voicing.voices, Tape.segment, Tape.sounds}
+use Rattle.spec.specs.{Joints.mark_index}
 use Rattle.spec.proofs.Computed.{everything}
 use Rattle.laws.proofs.Parts.{onward_first, tape_cut, mark_index_lem}
 use Rattle.laws.specs.Parts.{Begins, onward, voiced_at}

@@ -1,7 +1,10 @@
 -- A message from a place on, whole and in parts: each cut splits both tapes at its mark, and the two sides differ in the bits that come from over the cut alone.
-use Rattle.laws.proofs.Kit.{ℕ, zero, suc, ◌+◌, ◌-◌, ◌<◌, ◌≤◌, ◌≡◌, refl, sym, ap, ◌∙◌, Bool, true, false, ◌&&◌, ◌||◌, and_comm, and-or_distrib_left, inl, inr, List, [], ◌∷◌, ◌++◌, append-nil, arith, length, take, drop, get_or, length-append, take-append-drop, drop-cons, drop-drop, drop-append-add, take-add, get_or_at}
+use Rattle.laws.proofs.Kit.{ℕ, zero, suc, ◌+◌, ◌-◌, ◌<◌, ◌≤◌, ◌≡◌, refl, sym, ap, ◌∙◌, Bool, true, false, ◌&&◌, ◌||◌, and_comm}
+use Rattle.laws.proofs.Kit.{and-or_distrib_left, inl, inr, List, [], ◌∷◌, ◌++◌, append-nil, arith, length, take, drop, get_or}
+use Rattle.laws.proofs.Kit.{length-append, take-append-drop, drop-cons, drop-drop, drop-append-add, take-add, get_or_at}
 use Rattle.spec.specs.Letters.{read, first_byte, first_word, last_word, is_break}
-use Rattle.spec.specs.Joints.{RisingFrom, joined_from, mark_index, word_before, word_after, ends_in_obstruent, begins_with_i_or_e, live_by_voice, live_by_hardness, is_live, NoneLive}
+use Rattle.spec.specs.Joints.{RisingFrom, joined_from, mark_index, word_before, word_after, ends_in_obstruent, begins_with_i_or_e}
+use Rattle.spec.specs.Joints.{live_by_voice, live_by_hardness, is_live, NoneLive}
 use Rattle.spec.specs.{Codes.mark_of, Palatalization.first_code, Tape.segment, Tape.sounds}
 use Rattle.laws.specs.Beside.{is_high, is_i_or_e}
 use Rattle.laws.proofs.Stretch.{meet, first_meet, last_meet, read_join, segment_join, segment_length, segment_quiet, segment_firm}

@@ -1,9 +1,14 @@
 -- A part of an accepted message, cut at its breaks, is accepted: every row looks back no further than the break before and ahead no
 -- further than the next break, but for a break last; and a break last in a part would stand before a break or last in the message.
-use Rattle.laws.proofs.Kit.{ℕ, zero, suc, ◌+◌, ◌-◌, ◌<◌, ◌≤◌, ◌≡◌, refl, sym, ◌∙◌, Bool, true, false, ◌||◌, or-true, true≢false, List, [], ◌∷◌, ◌++◌, append-nil, ◌⊎◌, inl, inr, ⊎_elim, arith, length, take, drop, get_or, length-take, length-drop, take_all, take-append-drop, drop-cons, drop-drop, drop-length, get_or-take, get_or-drop}
-use Rattle.spec.specs.Refusals.{vowel_byte, sign_byte, hard_sign_byte, first, none, adjacent, vowel_sign, letters_before, row3, row4, row5, row6, row7, row8, row9, row10, rows, fits_in, before_at, check_of, NoneFits}
-use Rattle.spec.specs.{Letters.is_break, Letters.is_mark, Joints.RisingFrom, Joints.EachPartFrom, declared.Counts.Counts, declared.Checked.TheVariants.Accepted}
-use Rattle.laws.proofs.Accepted.{counts_of, Clear, Passes, ClearFrom, places_clear, each_place, accepted_passes, passes_accepted, passes_none}
+use Rattle.laws.proofs.Kit.{ℕ, zero, suc, ◌+◌, ◌-◌, ◌<◌, ◌≤◌, ◌≡◌, refl, sym, ◌∙◌, Bool, true, false, ◌||◌, or-true, true≢false, List, []}
+use Rattle.laws.proofs.Kit.{◌∷◌, ◌++◌, append-nil, ◌⊎◌, inl, inr, ⊎_elim, arith, length, take, drop, get_or, length-take, length-drop}
+use Rattle.laws.proofs.Kit.{take_all, take-append-drop, drop-cons, drop-drop, drop-length, get_or-take, get_or-drop}
+use Rattle.spec.specs.Refusals.{vowel_byte, sign_byte, hard_sign_byte, first, none, adjacent, vowel_sign, letters_before, row3, row4, row5}
+use Rattle.spec.specs.Refusals.{row6, row7, row8, row9, row10, rows, fits_in, before_at, check_of, NoneFits}
+use Rattle.spec.specs.{Letters.is_break, Letters.is_mark, Joints.RisingFrom, Joints.EachPartFrom, declared.Counts.Counts}
+use Rattle.spec.specs.{declared.Checked.TheVariants.Accepted}
+use Rattle.laws.proofs.Accepted.{counts_of, Clear, Passes, ClearFrom, places_clear, each_place, accepted_passes, passes_accepted}
+use Rattle.laws.proofs.Accepted.{passes_none}
 use Rattle.laws.proofs.Classes.{cond_app, either, refuted, NoBreak, break_mark, break_vowel, break_sign, break_hard_sign, or-false}
 use Rattle.laws.proofs.Cuts.{break_within}
 use Rattle.laws.specs.Parts.{part, Begins}

@@ -9,7 +9,8 @@ use Rattle.spec.specs.Tape.{sounds, tape, word_names, names_of, names}
 use Rattle.spec.specs.Phrases.{put_byte, phrases, separated}
 use Rattle.spec.specs.Tables.{among}
 use Rattle.spec.specs.SpokenLevels.{Each}
-use Rattle.spec.specs.Refusals.{letter_byte, first, none, row3, row4, row5, row6, row7, row8, row9, row10, rows, fits_in, before_at, NoneFits}
+use Rattle.spec.specs.Refusals.{letter_byte, first, none, row3, row4, row5, row6, row7, row8, row9, row10, rows, fits_in, before_at}
+use Rattle.spec.specs.Refusals.{NoneFits}
 use Rattle.spec.specs.Alphabet.{pause}
 use Rattle.spec.proofs.Computed.{everything}
 use Rattle.laws.proofs.Accepted.{Clear, ClearFrom, places_clear, each_place, Passes, passes_none, none_passes}

@@ -1,7 +1,9 @@
 -- A promise is kept by the answer that is due: its numbers are then the answer's.
 use Rattle.laws.proofs.Kit.{◌<◌, ◌≤◌, ◌≡◌, refl, ap, List, ◌++◌, ℕ, length, drop, le-leb, lt-leb}
-use Rattle.spec.specs.Answers.{number_of, place_of, length_of, live_of, checked_number, checked_place, checked_codes, checked_names, within, output_after, Promise, CheckPromise}
-use Rattle.spec.specs.{Refusals.refusal, Refusals.check_of, declared.Checked.Checked, declared.Answer.Answer, declared.Answer.TheVariants.Written, declared.Answer.TheVariants.Refused}
+use Rattle.spec.specs.Answers.{number_of, place_of, length_of, live_of, checked_number, checked_place, checked_codes, checked_names, within}
+use Rattle.spec.specs.Answers.{output_after, Promise, CheckPromise}
+use Rattle.spec.specs.{Refusals.refusal, Refusals.check_of, declared.Checked.Checked, declared.Answer.Answer}
+use Rattle.spec.specs.{declared.Answer.TheVariants.Written, declared.Answer.TheVariants.Refused}
 
 -- an operation that answers what is due, and leaves in the output what it must
 pub promised : (due : Answer) (text out out' : List ℕ) (r : Answer) → r ≡ due → out' ≡ output_after due text out → Promise due text out out' r

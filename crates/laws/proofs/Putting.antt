@@ -1,5 +1,7 @@
 -- Bytes put into a lent output, right before a place or from a place on: what was put beside other bytes was put together with them.
-use Rattle.laws.proofs.Kit.{ℕ, ◌+◌, ◌-◌, ◌<◌, ◌≤◌, arith, add-one, ◌≡◌, refl, sym, ap, ◌∙◌, List, [], ◌∷◌, ◌++◌, append_assoc, append-nil, length, take, drop, set, take-append-drop, length-append, length-take, length-drop, length-take-le, take-append-le, take-take, take_at, drop_at, drop-drop, drop_of_length-le, take_all, set_split}
+use Rattle.laws.proofs.Kit.{ℕ, ◌+◌, ◌-◌, ◌<◌, ◌≤◌, arith, add-one, ◌≡◌, refl, sym, ap, ◌∙◌, List, [], ◌∷◌, ◌++◌, append_assoc, append-nil}
+use Rattle.laws.proofs.Kit.{length, take, drop, set, take-append-drop, length-append, length-take, length-drop, length-take-le}
+use Rattle.laws.proofs.Kit.{take-append-le, take-take, take_at, drop_at, drop-drop, drop_of_length-le, take_all, set_split}
 use Rattle.spec.specs.{Tape.sounds, Tape.tape, Layers.TapePromise, declared.Edition.Edition}
 use Rattle.laws.proofs.Editions.{tape_length}
 use Rattle.laws.specs.Putting.{Put}

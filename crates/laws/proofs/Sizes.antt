@@ -1,6 +1,8 @@
 -- How long a tape and a naming can be: a letter makes at most two codes and one name, a break one code, and a message has no more letters and breaks than bytes.
-use Rattle.laws.proofs.Kit.{ℕ, suc, ◌+◌, ◌*◌, ◌≤◌, ◌≡◌, refl, ap, Bool, true, false, ◌&&◌, ◌||◌, List, [], ◌∷◌, ◌++◌, arith, length, length-append}
-use Rattle.spec.specs.Letters.{Letter, Message, last, more, read, put_letter, is_gap, is_break, is_mark, is_sign, is_vowel, is_consonant, plain_vowels, softening_vowels}
+use Rattle.laws.proofs.Kit.{ℕ, suc, ◌+◌, ◌*◌, ◌≤◌, ◌≡◌, refl, ap, Bool, true, false, ◌&&◌, ◌||◌, List, [], ◌∷◌, ◌++◌, arith, length}
+use Rattle.laws.proofs.Kit.{length-append}
+use Rattle.spec.specs.Letters.{Letter, Message, last, more, read, put_letter, is_gap, is_break, is_mark, is_sign, is_vowel, is_consonant}
+use Rattle.spec.specs.Letters.{plain_vowels, softening_vowels}
 use Rattle.spec.specs.Syllables.{Facts, facts_of, incomplete, names_from}
 use Rattle.spec.specs.Tape.{word_tape, segment, sounds, word_names, names_of, names}
 use Rattle.spec.specs.{Elision.elides, Elision.elide_from, Elision.elide, Phones.phones_from, Vowels.ends_hard, Voicing.voices}

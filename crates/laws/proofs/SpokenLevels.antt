@@ -1,7 +1,10 @@
 -- Spoken levels: all words are of one table, so what holds of each of its rows holds of every word that is spoken; and of the three parts of a number, thousands, hundreds and what is left, each is one computation over the few that there are.
-use Rattle.laws.proofs.Kit.{ℕ, zero, suc, ◌+◌, ◌*◌, ◌/◌, ◌%◌, ◌<◌, ◌≤◌, ◌≡◌, refl, sym, ap, ◌∙◌, ◌↔◌, Bool, true, false, cond, ◌&&◌, ◌||◌, not, and-eq-true_iff, not-true, List, [], ◌∷◌, ◌++◌, append_assoc, append-nil, ⊎_elim, ◌-◌, arith, eqb, leb, length, length-append, eqb-true, leb-true}
+use Rattle.laws.proofs.Kit.{ℕ, zero, suc, ◌+◌, ◌*◌, ◌/◌, ◌%◌, ◌<◌, ◌≤◌, ◌≡◌, refl, sym, ap, ◌∙◌, ◌↔◌, Bool, true, false, cond, ◌&&◌, ◌||◌}
+use Rattle.laws.proofs.Kit.{not, and-eq-true_iff, not-true, List, [], ◌∷◌, ◌++◌, append_assoc, append-nil, ⊎_elim, ◌-◌, arith, eqb, leb}
+use Rattle.laws.proofs.Kit.{length, length-append, eqb-true, leb-true}
 use lib.IntN.{ℤ, pos, negsuc, neg_ℤ}
-use Rattle.spec.specs.SpokenLevels.{Row, ◌says◌, bytes, units, teens, tens, hundreds, feminine, word_in, thousand, thousands, below_hundred, number_words, level_words, after_gaps, spaced, marks_in, Each, spoken, InRange}
+use Rattle.spec.specs.SpokenLevels.{Row, ◌says◌, bytes, units, teens, tens, hundreds, feminine, word_in, thousand, thousands, below_hundred}
+use Rattle.spec.specs.SpokenLevels.{number_words, level_words, after_gaps, spaced, marks_in, Each, spoken, InRange}
 use Rattle.spec.specs.{Alphabet.gap, Letters.is_gap, Letters.is_break, Refusals.check_of, Refusals.NoneFits, Answers.checked_number}
 use Rattle.spec.specs.Tables.{same}
 use Rattle.spec.proofs.Computed.{everything}

@@ -3,7 +3,8 @@ use Rattle.laws.proofs.Kit.{ℕ, ◌≡◌, refl, ap, Bool, true, false, ◌&&�
 use Rattle.spec.specs.Letters.{Letter, Message, last, more, read, put_letter, begins_with_mark, first_word, last_word, is_gap, is_break}
 use Rattle.spec.specs.{Tables.among, Codes.mark_of, Codes.is_voicing, Vowels.ends_hard, Voicing.voices, Tape.segment}
 use Rattle.spec.specs.Joints.{ends_in_obstruent, begins_with_i_or_e}
-use Rattle.laws.proofs.{Classes.mark_both, Classes.cond_app, Classes.break_mark, Word.last_code_from, Word.word_length, Word.word_quiet, Word.word_firm}
+use Rattle.laws.proofs.{Classes.mark_both, Classes.cond_app, Classes.break_mark, Word.last_code_from, Word.word_length, Word.word_quiet}
+use Rattle.laws.proofs.{Word.word_firm}
 
 -- the message a, the break x, and the message b, read as one
 unfoldable pub meet : Message → ℕ → Message → Message

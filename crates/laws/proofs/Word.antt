@@ -1,6 +1,7 @@
 -- The tape of a word and the two bits that come from its neighbours: what each bit changes, for a word and a letter in general.
 -- Why: pass 4 reads the bit of what follows only at the last sound, and pass 3 reads the bit of what stands before only at the first letter, in the rows of э and и.
-use Rattle.laws.proofs.Kit.{ℕ, suc, ◌≡◌, refl, sym, ap, subst, ◌∙◌, Bool, true, false, cond, not, ◌&&◌, ◌||◌, true≢false, and-true, and-false, List, [], ◌∷◌, ◌++◌, append-nil, map, length, length-append, eqb, eqb-true}
+use Rattle.laws.proofs.Kit.{ℕ, suc, ◌≡◌, refl, sym, ap, subst, ◌∙◌, Bool, true, false, cond, not, ◌&&◌, ◌||◌, true≢false, and-true}
+use Rattle.laws.proofs.Kit.{and-false, List, [], ◌∷◌, ◌++◌, append-nil, map, length, length-append, eqb, eqb-true}
 use Rattle.spec.specs.Alphabet.{«и», «н», «с», «ц», «ч», «ш», «э»}
 use Rattle.spec.specs.Letters.{Letter, first_byte, signs, is_sign, is_vowel, is_obstruent}
 use Rattle.spec.specs.Elision.{elides_t, elides_d, elides, elide_from, elide, elides_among}
@@ -8,7 +9,8 @@ use Rattle.spec.specs.Syllables.{Facts, facts_of, next_stressed, level_of, sylla
 use Rattle.spec.specs.Vowels.{by_stress, by_level, glides, vowel_sound}
 use Rattle.spec.specs.Phones.{Phone, softens, written_code, vowel_phones, phones_of, phones_from}
 use Rattle.spec.specs.{Tables.among, Tables.entry, Codes.J, Voicing.tone_of, Voicing.voice_one, Voicing.voice, Palatalization.first_code}
-use Rattle.spec.specs.{Palatalization.palatalize, Tape.word_tape, Joints.ends_in_obstruent, Joints.ends_in_obstruent_from, Joints.begins_with_i_or_e}
+use Rattle.spec.specs.{Palatalization.palatalize, Tape.word_tape, Joints.ends_in_obstruent, Joints.ends_in_obstruent_from}
+use Rattle.spec.specs.{Joints.begins_with_i_or_e}
 use Rattle.spec.proofs.Computed.{everything}
 use Rattle.laws.proofs.Classes.{cond_app, cond_both, either, or-false, among_same}
 use Rattle.laws.specs.Beside.{is_high, is_i_or_e}

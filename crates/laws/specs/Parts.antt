@@ -1,7 +1,8 @@
 -- The parts of a message, and what a cut at a break changes in them, in terms of the whole
 -- message's passes (paper 01, 'Joints').
 -- Assumes nothing: these are definitions.
-use Rattle.std.specs.Prelude.{ℕ, zero, suc, ◌-◌, ◌≡◌, ◌⊎◌, Bool, true, false, ◌&&◌, List, length, take, drop, get_or}
+use Rattle.std.specs.Prelude.{ℕ, zero, suc, ◌-◌, ◌≡◌, ◌⊎◌, Bool, true, false, ◌&&◌, List, length}
+use Rattle.std.specs.Prelude.{take, drop, get_or}
 use Rattle.spec.specs.Letters.{read, first_word, is_gap, is_break}
 use Rattle.spec.specs.Joints.{word_before, ends_in_obstruent, begins_with_i_or_e}
 use Rattle.spec.specs.{Voicing.voices, Vowels.ends_hard, Tape.segment}

@@ -2,7 +2,8 @@
 -- right after a vowel; so of a consonant and a sign the byte tells which it is, and that there is none.
 use Rattle.laws.proofs.Kit.{ℕ, zero, suc, ◌-◌, ◌<◌, ◌≤◌, ◌≡◌, refl, sym, ap, ◌∙◌, true, false, false≢true, List, [], ◌∷◌, ◌++◌, map}
 use Rattle.laws.proofs.Kit.{arith, eqb, length, get_or, eqb-true}
-use Rattle.spec.specs.Letters.{small, hard_only, paired, soft_only, signs, plain_vowels, softening_vowels, is_mark, is_break, is_vowel, is_sign}
+use Rattle.spec.specs.Letters.{small, hard_only, paired, soft_only, signs, plain_vowels, softening_vowels, is_mark, is_break, is_vowel}
+use Rattle.spec.specs.Letters.{is_sign}
 use Rattle.spec.specs.Letters.{is_consonant}
 use Rattle.spec.specs.Letters.{is_hard_only, is_paired, is_soft_only}
 use Rattle.spec.specs.{Alphabet.mark, Alphabet.pause, Alphabet.«ь», Tables.among, Refusals.vowel_byte, Vowels.initial}

@@ -1,10 +1,12 @@
 -- The class of each byte, by which the code judges it, and the letters beside a place. These are
 -- not the paper's words: `proofs/` shows that they agree with them.
 -- Assumes nothing: these are definitions.
-use Rattle.std.specs.Prelude.{ℕ, zero, suc, ◌+◌, ◌%◌, Bool, cond, ◌||◌, List, [], ◌∷◌, eqb, leb, get_or}
+use Rattle.std.specs.Prelude.{ℕ, zero, suc, ◌+◌, ◌%◌, Bool, cond, ◌||◌, List, [], ◌∷◌, eqb, leb}
+use Rattle.std.specs.Prelude.{get_or}
 use Rattle.spec.specs.Alphabet.{gap, pause, «д», «и», «н», «о», «с», «т», «ц», «ч», «ш», «ъ», «ь»}
 use Rattle.spec.specs.Tables.{among}
-use Rattle.spec.specs.Letters.{between, small, is_mark, is_hard_only, is_paired, is_soft_only, is_vowel}
+use Rattle.spec.specs.Letters.{between, small, is_mark, is_hard_only, is_paired, is_soft_only}
+use Rattle.spec.specs.Letters.{is_vowel}
 use Rattle.spec.specs.{Elision.elides_among, Vowels.iotated}
 
 -- The classes, as numbers; 0 is that of a byte which no message may have. Signs, consonants and

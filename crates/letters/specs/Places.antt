@@ -2,7 +2,8 @@
 -- before tells of that letter, and the letters of the word from the place on. These are not the
 -- paper's words: `proofs/` shows that they agree with them.
 -- Assumes nothing: these are definitions.
-use Rattle.std.specs.Prelude.{ℕ, zero, suc, ◌<◌, ◌≤◌, ◌≡◌, true, false, cond, List, ◌++◌, eqb, length, get_or, drop}
+use Rattle.std.specs.Prelude.{ℕ, zero, suc, ◌<◌, ◌≤◌, ◌≡◌, true, false, cond, List, ◌++◌, eqb}
+use Rattle.std.specs.Prelude.{length, get_or, drop}
 use Rattle.spec.specs.Numbers.{message_max}
 use Rattle.spec.specs.Tables.{among}
 use Rattle.spec.specs.Letters.{Letter, read, first_word, small, is_mark, is_break, begins_with_mark}

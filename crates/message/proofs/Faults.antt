@@ -1,16 +1,21 @@
 -- The walk of the message check finds the paper's faults: a kind tells all that the rows ask of the bytes before, so a fault goes by kind
 -- and class.
 use Rattle.laws.proofs.Kit.{ℕ, zero, suc, ◌*◌, ◌<◌, ◌≤◌, ◌≡◌, refl, sym, ◌∙◌, ⊎_elim, Bool, true, false, cond, ◌&&◌, ◌||◌, not, and-false}
-use Rattle.laws.proofs.Kit.{or_assoc, or_comm, false≢true, List, [], ◌∷◌, arith, eqb, length, get_or, drop, drop-cons, drop-length, eqb-true}
+use Rattle.laws.proofs.Kit.{or_assoc, or_comm, false≢true, List, [], ◌∷◌, arith, eqb, length, get_or, drop, drop-cons, drop-length}
+use Rattle.laws.proofs.Kit.{eqb-true}
 use Rattle.laws.proofs.Kit.{ne_eqb}
-use Rattle.spec.specs.Refusals.{vowel_byte, sign_byte, hard_sign_byte, first, none, adjacent, vowel_sign, letters_before, row3, row4, row5, row6}
+use Rattle.spec.specs.Refusals.{vowel_byte, sign_byte, hard_sign_byte, first, none, adjacent, vowel_sign, letters_before, row3, row4, row5}
+use Rattle.spec.specs.Refusals.{row6}
 use Rattle.spec.specs.Refusals.{row7, row8, row9, row10, rows, first_fit, fault_at, before_at, refusal, check_of}
 use Rattle.spec.specs.{Letters.is_mark, Letters.is_break, declared.Checked.TheVariants.Accepted, declared.Checked.TheVariants.Refused}
-use Rattle.spec.specs.Numbers.{unknown_byte, misplaced_break, misplaced_mark, sign_first, sign_after_sign, consonant_after_hard_sign, vowel_sign_vowel}
+use Rattle.spec.specs.Numbers.{unknown_byte, misplaced_break, misplaced_mark, sign_first, sign_after_sign, consonant_after_hard_sign}
+use Rattle.spec.specs.Numbers.{vowel_sign_vowel}
 use Rattle.spec.specs.Numbers.{long_word, message_max, word_max}
-use Rattle.letters.specs.Classes.{class_of, class_count, is_break_class, is_sign_class, is_consonant_class, is_vowel_class, is_letter_class, class_at}
+use Rattle.letters.specs.Classes.{class_of, class_count, is_break_class, is_sign_class, is_consonant_class, is_vowel_class, is_letter_class}
+use Rattle.letters.specs.Classes.{class_at}
 use Rattle.letters.specs.Classes.{mark_class, hard_sign_class}
-use Rattle.message.specs.Steps.{is_vowel_kind, is_hard_sign_kind, is_vowel_sign_kind, is_sign_kind, next_kind, fault_in, kind_at, codes_to, names_to}
+use Rattle.message.specs.Steps.{is_vowel_kind, is_hard_sign_kind, is_vowel_sign_kind, is_sign_kind, next_kind, fault_in, kind_at, codes_to}
+use Rattle.message.specs.Steps.{names_to}
 use Rattle.message.specs.Steps.{letters_at, fault_here}
 use Rattle.laws.proofs.Accepted.{counts_of, ClearAt, fault_clear, first_refused, passes_accepted}
 use Rattle.laws.proofs.Classes.{refuted, below_or, pairs_same}

@@ -3,7 +3,8 @@ use Rattle.laws.proofs.Kit.{ℕ, ◌+◌, ◌-◌, ◌*◌, ◌/◌, ◌%◌, �
 use Rattle.laws.proofs.Kit.{eqb-true, eqb-false, leb-true}
 use Rattle.letters.specs.Classes.{soft_sign_class, paired_class, t_or_d_class}
 use Rattle.letters.specs.Classes.{class_count, class_at, is_break_class, is_consonant_class, is_sign_class, elided_at, silent_at}
-use Rattle.message.specs.Steps.{is_soft_sign_kind, is_sign_kind, next_kind, fault_in, width_in, names_in, ask_in, stop_in, packed, pairs, kind_at}
+use Rattle.message.specs.Steps.{is_soft_sign_kind, is_sign_kind, next_kind, fault_in, width_in, names_in, ask_in, stop_in, packed, pairs}
+use Rattle.message.specs.Steps.{kind_at}
 use Rattle.message.specs.Steps.{width_at, name_unit, ask_unit, stop_unit}
 use Rattle.letters.proofs.{Silent.class_spoken, Silent.before_spoken, Tabulated.tabulate_at}
 use Rattle.message.proofs.Computed.{everything}

@@ -1,8 +1,10 @@
 -- How the check walks a message: a kind for what stands before a byte, and a table of what a kind
 -- and a class come to. These are not the paper's words: `proofs/` shows that they agree with them.
 -- Assumes nothing: these are definitions.
-use Rattle.std.specs.Prelude.{ℕ, zero, suc, ◌+◌, ◌-◌, ◌*◌, ◌/◌, ◌%◌, ◌≤◌, ◌<◌, ◌≡◌, Bool, cond, ◌&&◌, ◌||◌, List, eqb, length, get_or}
-use Rattle.spec.specs.Numbers.{unknown_byte, misplaced_break, misplaced_mark, sign_first, sign_after_sign}
+use Rattle.std.specs.Prelude.{ℕ, zero, suc, ◌+◌, ◌-◌, ◌*◌, ◌/◌, ◌%◌, ◌≤◌, ◌<◌, ◌≡◌, Bool, cond}
+use Rattle.std.specs.Prelude.{◌&&◌, ◌||◌, List, eqb, length, get_or}
+use Rattle.spec.specs.Numbers.{unknown_byte, misplaced_break, misplaced_mark, sign_first}
+use Rattle.spec.specs.Numbers.{sign_after_sign}
 use Rattle.spec.specs.Numbers.{consonant_after_hard_sign, vowel_sign_vowel, long_word, message_max}
 use Rattle.spec.specs.Numbers.{word_max}
 use Rattle.spec.specs.Letters.{between}
@@ -13,9 +15,11 @@ use Rattle.message.specs.declared.Seen.{Seen}
 use Rattle.message.specs.declared.Step.{Step}
 use Rattle.message.specs.declared.Step.TheVariants.{Fault, Next}
 use Rattle.letters.specs.Classes.{class_of, is_break_class, is_sign_class, is_consonant_class}
-use Rattle.letters.specs.Classes.{is_vowel_class, is_letter_class, class_at, tabulate, classes, elided_at}
+use Rattle.letters.specs.Classes.{is_vowel_class, is_letter_class, class_at, tabulate, classes}
+use Rattle.letters.specs.Classes.{elided_at}
 use Rattle.letters.specs.Classes.{silent_at}
-use Rattle.letters.specs.Classes.{mark_class, gap_class, hard_sign_class, soft_sign_class, paired_class}
+use Rattle.letters.specs.Classes.{mark_class, gap_class, hard_sign_class, soft_sign_class}
+use Rattle.letters.specs.Classes.{paired_class}
 use Rattle.letters.specs.Classes.{t_or_d_class, plain_vowel_class, vowel_o_class, iotated_class}
 use Rattle.letters.specs.Classes.{vowel_i_class}
 

@@ -10,7 +10,8 @@ use lib.IntN.{ℤ, pos, negsuc}
 use Rattle.spec.specs.Tables.{ascii}
 use Rattle.spec.specs.Refusals.{refusal}
 use Rattle.spec.specs.SpokenLevels.{bytes, spoken, level_answer}
-use Rattle.spec.specs.Printed.{last_digits, decimal, printed_codes, printed_answer, after_writing, sign_length, are_digits, is_decimal, digits_from, level_in, spoken_answer, printed_level}
+use Rattle.spec.specs.Printed.{last_digits, decimal, printed_codes, printed_answer, after_writing, sign_length, are_digits, is_decimal}
+use Rattle.spec.specs.Printed.{digits_from, level_in, spoken_answer, printed_level}
 use Rattle.spec.specs.declared.Answer.{Answer}
 use Rattle.spec.specs.declared.Answer.TheVariants.{Written, Refused}
 use Rattle.spec.proofs.Computed.{everything}

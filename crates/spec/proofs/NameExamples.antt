@@ -3,7 +3,8 @@
 use Prim.Native.Nat.{ℕ}
 use mathlib.Core.Path.{◌≡◌, refl}
 use mathlib.Core.List.{List, [], ◌∷◌, map}
-use Rattle.spec.specs.Alphabet.{gap, mark, «а», «б», «в», «г», «д», «и», «й», «к», «л», «м», «о», «п», «р», «с», «т», «у», «ы», «ь», «э», «ю», «ё»}
+use Rattle.spec.specs.Alphabet.{gap, mark, «а», «б», «в», «г», «д», «и», «й», «к», «л», «м», «о», «п», «р», «с», «т», «у», «ы», «ь», «э»}
+use Rattle.spec.specs.Alphabet.{«ю», «ё»}
 use Rattle.spec.specs.Tape.{names}
 use Rattle.spec.proofs.Computed.{everything}
 

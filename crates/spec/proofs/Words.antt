@@ -5,8 +5,10 @@ use mathlib.Core.Path.{◌≡◌, refl}
 use mathlib.Core.Bool.{Bool}
 use mathlib.Core.List.{List, [], ◌∷◌, ◌++◌, flatten, map}
 use lib.ListN.{length, replicate}
-use Rattle.spec.specs.Alphabet.{gap, pause, mark, «й», «а», «б», «в», «г», «д», «е», «ж», «з», «и», «к», «л», «м», «н», «о», «п», «р», «с», «т», «у», «ш», «ъ», «ы», «ь»}
-use Rattle.spec.specs.Codes.{J, И*, И1, А*, А1, А2, Б, Б', В, Г, Г', Д, Ж, З, З', К, Л, Л', М, М', Н, Н', О*, П, Р, С, С', Т, Т', У*, У1, Ш, Ы*, Ы1, Э*, Э2}
+use Rattle.spec.specs.Alphabet.{gap, pause, mark, «й», «а», «б», «в», «г», «д», «е», «ж», «з», «и», «к», «л», «м», «н», «о», «п», «р», «с»}
+use Rattle.spec.specs.Alphabet.{«т», «у», «ш», «ъ», «ы», «ь»}
+use Rattle.spec.specs.Codes.{J, И*, И1, А*, А1, А2, Б, Б', В, Г, Г', Д, Ж, З, З', К, Л, Л', М, М', Н, Н', О*, П, Р, С, С', Т, Т', У*, У1, Ш}
+use Rattle.spec.specs.Codes.{Ы*, Ы1, Э*, Э2}
 use Rattle.spec.specs.Vowels.{rowО}
 use Rattle.spec.specs.Phones.{vowel_phones}
 use Rattle.spec.specs.Voicing.{codes_of}

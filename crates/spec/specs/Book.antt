@@ -1,7 +1,8 @@
 -- Paper 02, requests 6, 7 and 8, a phrase book: taped phrases under numbers, each with its set of
 -- listeners, in a lent buffer.
 -- Assumes nothing: these are definitions.
-use Rattle.std.specs.Prelude.{ℕ, zero, suc, ◌+◌, ◌-◌, ◌*◌, ◌/◌, ◌%◌, ◌<◌, ◌≤◌, ◌≡◌, Bool, cond, ◌&&◌, not, List, [], ◌∷◌, ◌++◌, eqb, leb, length, take, drop, get_or}
+use Rattle.std.specs.Prelude.{ℕ, zero, suc, ◌+◌, ◌-◌, ◌*◌, ◌/◌, ◌%◌, ◌<◌, ◌≤◌, ◌≡◌, Bool, cond}
+use Rattle.std.specs.Prelude.{◌&&◌, not, List, [], ◌∷◌, ◌++◌, eqb, leb, length, take, drop, get_or}
 use Rattle.spec.specs.Numbers.{broken_record, number_not_above}
 use Rattle.spec.specs.Tape.{tape}
 use Rattle.spec.specs.Tables.{same}

@@ -4,7 +4,8 @@
 -- `unheard_addition`). What holds in the plain storage besides, `plain_demands` and
 -- `additions_located`, comes last.
 -- Assumes nothing: these are definitions.
-use Rattle.std.specs.Prelude.{ℕ, ◌+◌, ◌*◌, ◌<◌, ◌≤◌, ◌≡◌, true, false, ◌⊎◌, ◌↔◌, List, [], ◌∷◌, ◌++◌, map, length, take}
+use Rattle.std.specs.Prelude.{ℕ, ◌+◌, ◌*◌, ◌<◌, ◌≤◌, ◌≡◌, true, false, ◌⊎◌, ◌↔◌, List, [], ◌∷◌}
+use Rattle.std.specs.Prelude.{◌++◌, map, length, take}
 use Rattle.spec.specs.Numbers.{short_output, broken_record, number_not_above, not_for_listener}
 use Rattle.spec.specs.Refusals.{refusal, NoneFits, Given}
 use Rattle.spec.specs.Listeners.{may_hear, may_write}

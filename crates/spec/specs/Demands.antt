@@ -4,7 +4,8 @@
 -- LevelDemands, BookDemands, EditionDemands. That no step goes outside the lent memory and that
 -- every step ends is no statement over values: it is proved of each function by the language.
 -- Assumes nothing: these are definitions.
-use Rattle.std.specs.Prelude.{ℕ, ◌<◌, ◌≤◌, ◌≡◌, true, ◌⊎◌, ◌↔◌, List, [], ◌++◌, length, drop, get_or}
+use Rattle.std.specs.Prelude.{ℕ, ◌<◌, ◌≤◌, ◌≡◌, true, ◌⊎◌, ◌↔◌, List, [], ◌++◌, length, drop}
+use Rattle.std.specs.Prelude.{get_or}
 use Rattle.spec.specs.Numbers.{short_output, misplaced_cut}
 use Rattle.spec.specs.Letters.{is_break}
 use Rattle.spec.specs.Tape.{tape, names}

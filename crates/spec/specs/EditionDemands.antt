@@ -2,7 +2,8 @@
 -- proves it. The demands of paper 00 hold in each edition: Demands has them. The statement here
 -- does without the sound ИЭ: it speaks of the two tapes, and of the letters that made their codes.
 -- Assumes nothing: these are definitions.
-use Rattle.std.specs.Prelude.{ℕ, suc, ◌≡◌, Bool, cond, ◌&&◌, ◌||◌, List, [], ◌∷◌, ◌++◌, eqb, length, take, drop, get_or, replicate}
+use Rattle.std.specs.Prelude.{ℕ, suc, ◌≡◌, Bool, cond, ◌&&◌, ◌||◌, List, [], ◌∷◌, ◌++◌, eqb, length}
+use Rattle.std.specs.Prelude.{take, drop, get_or, replicate}
 use Rattle.spec.specs.Alphabet.{«а», «е», «я»}
 use Rattle.spec.specs.Letters.{Letter, Message, last, more, read, is_gap}
 use Rattle.spec.specs.Tables.{among}

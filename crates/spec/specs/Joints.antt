@@ -1,6 +1,8 @@
 -- Paper 01, 'Joints': cuts, the parts between them, the second tape, and which cuts are live.
 -- Assumes nothing: these are definitions.
-use Rattle.std.specs.Prelude.{ℕ, zero, suc, ◌-◌, ◌<◌, ◌≤◌, ◌≡◌, Bool, true, false, cond, ◌&&◌, ◌||◌, not, ◌⊎◌, ◌≢◌, List, [], ◌∷◌, ◌++◌, eqb, leb, length, take, drop, get_or}
+use Rattle.std.specs.Prelude.{ℕ, zero, suc, ◌-◌, ◌<◌, ◌≤◌, ◌≡◌, Bool, true, false, cond, ◌&&◌, ◌||◌}
+use Rattle.std.specs.Prelude.{not, ◌⊎◌, ◌≢◌, List, [], ◌∷◌, ◌++◌, eqb, leb, length, take, drop}
+use Rattle.std.specs.Prelude.{get_or}
 use Rattle.spec.specs.Alphabet.{«и», «э»}
 use Rattle.spec.specs.Letters.{Letter, read, first_word, last_word, is_gap, is_break, is_sign}
 use Rattle.spec.specs.Letters.{is_obstruent}

@@ -1,7 +1,8 @@
 -- Paper 02, request 3: the levels of pass 2 are found by a step that reads at most one byte. How
 -- many steps a message takes, and that four for each byte suffice.
 -- Assumes nothing: these are definitions.
-use Rattle.std.specs.Prelude.{ℕ, zero, suc, ◌+◌, ◌*◌, ◌≤◌, ◌≡◌, false, cond, ◌||◌, List, length, get_or}
+use Rattle.std.specs.Prelude.{ℕ, zero, suc, ◌+◌, ◌*◌, ◌≤◌, ◌≡◌, false, cond, ◌||◌, List, length}
+use Rattle.std.specs.Prelude.{get_or}
 use Rattle.spec.specs.Letters.{is_break, is_mark}
 
 -- how many bytes stand before place i, back to the last mark or break, and with it

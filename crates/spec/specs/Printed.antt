@@ -2,7 +2,8 @@
 -- second program prints for a text in UTF-8, with paper 02's slips 1 and 2 before it; and that a
 -- third prints for a level in decimal, with slip 5 before it. All three keep edition 1 (slip 8).
 -- Assumes nothing: these are definitions.
-use Rattle.std.specs.Prelude.{ℕ, zero, suc, ◌+◌, ◌-◌, ◌*◌, ◌/◌, ◌%◌, Bool, true, cond, ◌&&◌, not, List, [], ◌∷◌, ◌++◌, eqb, leb, length, drop, ℤ, pos, neg_ℤ}
+use Rattle.std.specs.Prelude.{ℕ, zero, suc, ◌+◌, ◌-◌, ◌*◌, ◌/◌, ◌%◌, Bool, true, cond, ◌&&◌, not}
+use Rattle.std.specs.Prelude.{List, [], ◌∷◌, ◌++◌, eqb, leb, length, drop, ℤ, pos, neg_ℤ}
 use Rattle.spec.specs.Tables.{ascii}
 use Rattle.spec.specs.Tape.{tape}
 use Rattle.spec.specs.Answers.{tape_answer}

@@ -1,7 +1,8 @@
 -- Paper 01, 'Turned-away messages': one test for each row of the table, and the message check.
 -- A row is tested at a byte b, given the bytes before it, nearest first, and the bytes after it.
 -- Assumes nothing: these are definitions.
-use Rattle.std.specs.Prelude.{ℕ, zero, suc, ◌<◌, ◌≡◌, Bool, true, false, cond, ◌&&◌, ◌||◌, not, ◌⊎◌, List, [], ◌∷◌, eqb, leb, length, get_or, drop}
+use Rattle.std.specs.Prelude.{ℕ, zero, suc, ◌<◌, ◌≡◌, Bool, true, false, cond, ◌&&◌, ◌||◌, not, ◌⊎◌}
+use Rattle.std.specs.Prelude.{List, [], ◌∷◌, eqb, leb, length, get_or, drop}
 use Rattle.spec.specs.Numbers.{empty_message, long_message, unknown_byte, misplaced_break}
 use Rattle.spec.specs.Numbers.{misplaced_mark, sign_first, sign_after_sign}
 use Rattle.spec.specs.Numbers.{consonant_after_hard_sign, vowel_sign_vowel, long_word, message_max}

@@ -1,7 +1,8 @@
 -- Paper 02, slip 5, spoken levels: the Russian words of a level in centimetres, as a message.
 -- docs/LEVELS.md has the same table of words.
 -- Assumes nothing: these are definitions.
-use Rattle.std.specs.Prelude.{ℕ, zero, suc, ◌*◌, ◌/◌, ◌%◌, ◌≤◌, cond, List, [], ◌∷◌, ◌++◌, eqb, leb, length, ℤ, pos, negsuc, nat_abs}
+use Rattle.std.specs.Prelude.{ℕ, zero, suc, ◌*◌, ◌/◌, ◌%◌, ◌≤◌, cond, List, [], ◌∷◌, ◌++◌, eqb, leb}
+use Rattle.std.specs.Prelude.{length, ℤ, pos, negsuc, nat_abs}
 use Prim.Native.Char.{code}
 use Prim.Native.String as text
 use Rattle.spec.specs.Numbers.{level_outside, level_max}

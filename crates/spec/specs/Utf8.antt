@@ -1,7 +1,8 @@
 -- Paper 02, slip 2, texts in UTF-8: the reader turns a text into our bytes, the writer turns an
 -- accepted message back.
 -- Assumes nothing: these are definitions.
-use Rattle.std.specs.Prelude.{ℕ, ◌+◌, ◌/◌, ◌%◌, ◌<◌, ◌≡◌, Bool, true, cond, ◌&&◌, not, ◌≢◌, List, [], ◌∷◌, ◌++◌, map, eqb, leb, length, take, drop}
+use Rattle.std.specs.Prelude.{ℕ, ◌+◌, ◌/◌, ◌%◌, ◌<◌, ◌≡◌, Bool, true, cond, ◌&&◌, not, ◌≢◌, List}
+use Rattle.std.specs.Prelude.{[], ◌∷◌, ◌++◌, map, eqb, leb, length, take, drop}
 use Rattle.spec.specs.Numbers.{unreadable_text}
 use Rattle.spec.specs.Alphabet.{gap, pause, mark}
 use Rattle.spec.specs.Tables.{among, same}

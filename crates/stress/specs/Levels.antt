@@ -1,7 +1,8 @@
 -- The levels of a word's vowels, found by a running step from the right. These are not the paper's
 -- words: `proofs/` shows that they agree with them.
 -- Assumes nothing: these are definitions.
-use Rattle.std.specs.Prelude.{ℕ, zero, suc, ◌+◌, ◌*◌, ◌<◌, ◌≤◌, ◌≡◌, ◌⊎◌, Bool, true, false, cond, List, length, drop}
+use Rattle.std.specs.Prelude.{ℕ, zero, suc, ◌+◌, ◌*◌, ◌<◌, ◌≤◌, ◌≡◌, ◌⊎◌, Bool, true, false, cond}
+use Rattle.std.specs.Prelude.{List, length, drop}
 use Rattle.spec.specs.Letters.{begins_with_mark, is_break, is_mark}
 use Rattle.spec.specs.Refusals.{vowel_byte}
 use Rattle.spec.specs.LevelSteps.{back_at, back_to, level_steps}

@@ -2,7 +2,8 @@
 -- word, and the syllable of a vowel there. These are not the paper's words: `proofs/` shows that
 -- they agree with them.
 -- Assumes nothing: these are definitions.
-use Rattle.std.specs.Prelude.{ℕ, zero, suc, Bool, false, cond, ◌&&◌, ◌||◌, not, List, [], ◌∷◌, ◌++◌, get_or, drop}
+use Rattle.std.specs.Prelude.{ℕ, zero, suc, Bool, false, cond, ◌&&◌, ◌||◌, not, List, [], ◌∷◌, ◌++◌}
+use Rattle.std.specs.Prelude.{get_or, drop}
 use Rattle.spec.specs.Letters.{Letter, is_mark, is_break, is_gap}
 use Rattle.spec.specs.Syllables.{Facts, facts_of, syllable_of}
 use Rattle.spec.specs.Vowels.{hard_end}

@@ -7,7 +7,8 @@ use Rattle.spec.specs.Letters.{Letter, paired, first_byte, is_paired, is_sign, i
 use Rattle.spec.specs.Vowels.{glides}
 use Rattle.spec.specs.Phones.{Phone, written_code, softens, vowel_phones, phones_of, phones_from}
 use Rattle.spec.specs.Voicing.{Tone, voiced, voiceless, asWritten, toned, codes_of, voice_one, voice}
-use Rattle.spec.specs.{Codes.palatalized, Elision.elide_from, Elision.elide, Palatalization.is_soft, Palatalization.palatalize, Tape.word_tape}
+use Rattle.spec.specs.{Codes.palatalized, Elision.elide_from, Elision.elide, Palatalization.is_soft, Palatalization.palatalize}
+use Rattle.spec.specs.{Tape.word_tape}
 use Rattle.spec.specs.Syllables.{Facts, facts_of, syllable_of}
 use Rattle.consonants.specs.Sounds.{consonant_code}
 use Rattle.vowels.specs.VowelSounds.{vowel_codes}

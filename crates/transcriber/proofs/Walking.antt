@@ -1,11 +1,13 @@
 -- The walk from the right, one byte at a time: what a break, a mark and a letter put on the tape, and what then stands right of their place.
-use Rattle.laws.proofs.Kit.{ℕ, suc, ◌+◌, ◌%◌, ◌<◌, ◌≤◌, arith, ◌≡◌, refl, sym, ap, ◌∙◌, Bool, true, false, cond, ◌&&◌, not, true≢false, List, [], ◌∷◌, ◌++◌, map, eqb, length, get_or, le-leb, lt-leb, ne_eqb}
+use Rattle.laws.proofs.Kit.{ℕ, suc, ◌+◌, ◌%◌, ◌<◌, ◌≤◌, arith, ◌≡◌, refl, sym, ap, ◌∙◌, Bool, true, false, cond, ◌&&◌, not, true≢false}
+use Rattle.laws.proofs.Kit.{List, [], ◌∷◌, ◌++◌, map, eqb, length, get_or, le-leb, lt-leb, ne_eqb}
 use Rattle.spec.specs.Letters.{small, first_byte, is_break, is_gap, is_mark}
 use lib.ListN.{length-map}
 use Rattle.spec.specs.{Vowels.vowel_sound, Vowels.glides, Editions.code_in, declared.Edition.Edition}
 use Rattle.spec.specs.Codes.{J, mark_of, is_sound_code, is_sound}
 use Rattle.spec.specs.{Phones.softens, Refusals.vowel_byte, Refusals.sign_byte, Refusals.consonant_byte, declared.Level.Level}
-use Rattle.letters.specs.Classes.{classes, class_of, is_break_class, is_sign_class, is_consonant_class, is_vowel_class, is_softening_class, elided_at}
+use Rattle.letters.specs.Classes.{classes, class_of, is_break_class, is_sign_class, is_consonant_class, is_vowel_class, is_softening_class}
+use Rattle.letters.specs.Classes.{elided_at}
 use Rattle.letters.specs.Classes.{pause_class, soft_sign_class}
 use Rattle.letters.specs.Places.{last_at, Steady, letter_of, word_at}
 use Rattle.letters.proofs.Left.{mark_within, word_letter, word_mark, word_break, word_end}

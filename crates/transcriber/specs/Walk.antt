@@ -1,6 +1,7 @@
 -- What the walk from the right knows at a place, and what the lent output then holds.
 -- Assumes nothing: these are definitions.
-use Rattle.std.specs.Prelude.{ℕ, ◌<◌, ◌≤◌, ◌≡◌, Bool, true, cond, List, [], ◌∷◌, map, length, get_or}
+use Rattle.std.specs.Prelude.{ℕ, ◌<◌, ◌≤◌, ◌≡◌, Bool, true, cond, List, [], ◌∷◌, map, length}
+use Rattle.std.specs.Prelude.{get_or}
 use Rattle.spec.specs.Letters.{first_byte, is_break, is_mark}
 use Rattle.spec.specs.Codes.{mark_of}
 use Rattle.spec.specs.Phones.{softens}

@@ -1,10 +1,12 @@
 -- How the code finds a vowel's codes: by its byte, the byte before it and both their classes. These
 -- are not the paper's words: `proofs/` shows that they agree with them.
 -- Assumes nothing: these are definitions.
-use Rattle.std.specs.Prelude.{ℕ, ◌-◌, ◌<◌, ◌≡◌, Bool, false, cond, ◌&&◌, ◌||◌, List, [], ◌∷◌, eqb, length, get_or}
+use Rattle.std.specs.Prelude.{ℕ, ◌-◌, ◌<◌, ◌≡◌, Bool, false, cond, ◌&&◌, ◌||◌, List, [], ◌∷◌, eqb}
+use Rattle.std.specs.Prelude.{length, get_or}
 use Rattle.spec.specs.Letters.{small, is_break}
 use Rattle.spec.specs.Vowels.{hard_end, vowel_sound, bare, glides}
-use Rattle.letters.specs.Classes.{gap_class, soft_sign_class, vowel_o_class, iotated_class, vowel_i_class}
+use Rattle.letters.specs.Classes.{gap_class, soft_sign_class, vowel_o_class, iotated_class}
+use Rattle.letters.specs.Classes.{vowel_i_class}
 use Rattle.letters.specs.Classes.{is_break_class, is_sign_class, class_of, byte_before}
 use Rattle.spec.specs.declared.Cover.{Cover}
 use Rattle.spec.specs.declared.Syllable.{Syllable}

@@ -3,7 +3,8 @@
 use Rattle.laws.proofs.Kit.{ℕ, ◌<◌, ◌≤◌, ◌≡◌, ap, ◌&&◌, ◌||◌, false, true≢false, and-false, and-true, or_comm, or-false, eqb, leb, eqb-true}
 use Rattle.laws.proofs.Kit.{eqb-false, ne_eqb, leb-false, lt-leb, arith}
 use Rattle.laws.proofs.Classes.{either}
-use Rattle.letters.specs.Classes.{hard_sign_class, soft_sign_class, soft_only_class, vowel_o_class, iotated_class, vowel_i_class, class_count}
+use Rattle.letters.specs.Classes.{hard_sign_class, soft_sign_class, soft_only_class, vowel_o_class, iotated_class, vowel_i_class}
+use Rattle.letters.specs.Classes.{class_count}
 use Rattle.letters.specs.Classes.{is_sign_class}
 use Rattle.spec.specs.{Vowels.bare, declared.Cover.Cover, declared.Cover.TheVariants.Bare}
 use Rattle.stress.specs.Before.{cover_class}

@@ -1,4 +1,5 @@
-use Rattle.laws.proofs.Kit.{ℕ, ◌<◌, ◌≤◌, ◌≡◌, refl, sym, ◌∙◌, false, true≢false, ⊎_elim, List, add-one, arith, length, List·getD-eq-default, drop-cons, drop_of_length-le}
+use Rattle.laws.proofs.Kit.{ℕ, ◌<◌, ◌≤◌, ◌≡◌, refl, sym, ◌∙◌, false, true≢false, ⊎_elim, List, add-one, arith, length, List·getD-eq-default}
+use Rattle.laws.proofs.Kit.{drop-cons, drop_of_length-le}
 use Rattle.spec.specs.{Letters.is_break, Joints.row12, Joints.bad_cut_from, Joints.bad_cut}
 use Rattle.laws.proofs.Classes.{below_or}
 use Rattle.joiner.proofs.join.bad_cut.Goals as goal

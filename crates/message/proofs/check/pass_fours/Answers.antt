@@ -3,7 +3,8 @@ use Rattle.letters.specs.Classes.{class_at}
 use Rattle.message.specs.{declared.Seen.Seen, Steps.Sees, Steps.silent_four, Steps.stop_unit}
 use Rattle.message.proofs.Checking.{sees_small, Adds, sees_four}
 use Rattle.message.proofs.check.pass_fours.Goals as goal
-use Rattle.message.proofs.check.pass_fours.Goals.{After-sum_four-x, At-loop-at, Joined-x-lt-ASK, then-x-lt-ASK, else-x-lt-ASK+else-x-ge-STOP}
+use Rattle.message.proofs.check.pass_fours.Goals.{After-sum_four-x, At-loop-at, Joined-x-lt-ASK, then-x-lt-ASK}
+use Rattle.message.proofs.check.pass_fours.Goals.{else-x-lt-ASK+else-x-ge-STOP}
 
 -- what is seen at the loop's head
 abbrev seen : (c : At-loop-at) → Seen
