@@ -1,5 +1,5 @@
 -- The number is one of the three, or none of them.
-use Rattle.laws.proofs.Kit.{refl, ne_eqb}
+use Rattle.laws.proofs.Kit.{refl, ne_eqb, rules}
 use Rattle.capi.proofs.named_by.Goals as goal
 
 pub returns-in-0 : goal.returns-in-0
@@ -13,6 +13,5 @@ returns-in-2 c = rw c.in-2.is refl
 
 pub returns-in_default : goal.returns-in_default
 returns-in_default c =
-    let none = c.in_default.in_default-own.rest in
     let n = c.args.number in
-    rw (ne_eqb n 0 none.0.0.1, ne_eqb n 1 none.0.1, ne_eqb n 2 none.1) refl
+    rw (ne_eqb n 0 (search rules), ne_eqb n 1 (search rules), ne_eqb n 2 (search rules)) refl

@@ -11,7 +11,7 @@ use Rattle.message.proofs.check.entry_at.Goals.{After-class_of-c}
 read : (c : After-class_of-c) → let a = c.args in let x = packed a.k (class_at a.m.now a.i) in
     (16 * a.k + c.class_of-c.result < 256) × (get_or a.s.now (16 * a.k + c.class_of-c.result) 0 ≡ x) × (x < 32 * stop_unit)
 read c =
-    rw c.class_of-c.ensures (pairs_read _ _ _ c.requires.tables.pairs c.requires.kind (by_class _ (omega (arith, c.shared_slice_known-1.given c.args.i))).class)
+    rw c.class_of-c.ensures (pairs_read _ _ _ c.requires.tables.pairs c.requires.kind (by_class _ (omega (arith, c.type_inv.m c.args.i))).class)
 
 pub overflow_add-result : goal.overflow_add-result
 overflow_add-result c = let r = read (goal.at.overflow_add-result c).After-class_of-c in search rules

@@ -11,5 +11,5 @@ returns-else-is_elided c = (rw (← c.is_elided.ensures, c.if-is_elided.false), 
 
 pub returns-else-is_t_or_d : goal.returns-else-is_t_or_d
 returns-else-is_t_or_d c =
-    let h : get_or c.args.m.now c.args.i 0 < 256 = omega (arith, c.shared_slice_known-1.given c.args.i) in
+    let h : get_or c.args.m.now c.args.i 0 < 256 = omega (arith, c.type_inv.m c.args.i) in
     (rw (class_spoken c.args.m.now c.args.i h (eqb-false _ _ (sym (by_class _ h).t_or_d ∙ sym c.is_t_or_d.ensures ∙ c.if-is_t_or_d.false))), search rules)

@@ -7,7 +7,7 @@ use Rattle.message.proofs.check.sum_four.Goals.{After-class_of-a}
 
 -- the class of each byte is a kind
 small : (c : After-class_of-a) (j : ℕ) → class_at c.args.m.now j < class_count
-small c j = (by_class (get_or c.args.m.now j 0) (omega (arith, c.shared_slice_known-1.given j))).class
+small c j = (by_class (get_or c.args.m.now j 0) (omega (arith, c.type_inv.m j))).class
 
 pub entry_at-requires-2 : goal.entry_at-requires-2
 entry_at-requires-2 c = let k = small (goal.at.entry_at-requires-2 c).After-class_of-a c.args.i in search rules

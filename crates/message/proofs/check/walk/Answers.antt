@@ -9,7 +9,7 @@ returns-in-Fault c =
     seen_fault _ w.bytes _ _ c.if-seen-m.true w.short w.clear q.0 q.1
 
 pub loop-seen-init : goal.loop-seen-init
-loop-seen-init c = sees_none _ (λ j. omega (arith, c.shared_slice_known-1.given j)) c.requires.short
+loop-seen-init c = sees_none _ (λ j. search rules) c.requires.short
 
 pub loop-seen-smaller-in-Next : goal.loop-seen-smaller-in-Next
 loop-seen-smaller-in-Next c = let q = c.in-Next.ensures in search rules

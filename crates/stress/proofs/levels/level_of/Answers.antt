@@ -1,5 +1,5 @@
 -- Of 0 and 1 syllables each counts, and of more two where the word has a mark, else one; that number is the level's.
-use Rattle.laws.proofs.Kit.{ℕ, zero, suc, ◌+◌, ◌<◌, ◌≤◌, ◌≡◌, refl, ◌∙◌, Bool, true, false, ⊎_elim, arith}
+use Rattle.laws.proofs.Kit.{ℕ, zero, suc, ◌+◌, ◌<◌, ◌≤◌, ◌≡◌, refl, ◌∙◌, Bool, true, false, ⊎_elim, arith, rules}
 use mir.Val.{bool_byte}
 use Rattle.spec.specs.declared.Level.TheVariants.{Second}
 use Rattle.stress.specs.Levels.{Least, counted_by, numbered}
@@ -50,4 +50,4 @@ pub returns-in-2 : goal.returns-in-2
 returns-in-2 c = rw (← found (goal.at.returns-in-2 c).After-least, c.in-2.is)
 
 pub returns-in_default : goal.returns-in_default
-returns-in_default c = rw (← found (goal.at.returns-in_default c).After-least) (larger _ c.in_default.in_default-own.rest.0.0.1 c.in_default.in_default-own.rest.0.1)
+returns-in_default c = rw (← found (goal.at.returns-in_default c).After-least) (larger _ (search rules) (search rules))

@@ -7,7 +7,7 @@ use Rattle.stress.specs.Levels.{step_over, end_run, Looked}
 use Rattle.laws.proofs.LevelSteps.{back_most}
 use Rattle.stress.proofs.Levelling.{step_by, back_letter, back_mark, back_break}
 use Rattle.stress.proofs.levels.look_back.Goals as goal
-use Rattle.stress.proofs.levels.look_back.Goals.{After-shared_slice_known-in-loop-j-1}
+use Rattle.stress.proofs.levels.look_back.Goals.{In-loop-j}
 use Rattle.stress.proofs.levels.look_back.Invariants.{Ahead}
 
 module _ {m : List ℕ} {i k : ℕ} {s ahead : LevelRun} (a : Ahead m i s (suc k) ahead) where
@@ -53,7 +53,7 @@ unfolding mark_before back_at
 start a e = rw e (record { since = refl; marked = a.tells; steps = omega (arith, a.steps); before = a.before })
 
 -- what is known in a turn of the loop
-turn : (c : After-shared_slice_known-in-loop-j-1) → Ahead c.args.m.now c.args.i c.args.s (suc (c.loop-j.j - 1)) c.loop-j.ahead
+turn : (c : In-loop-j) → Ahead c.args.m.now c.args.i c.args.s (suc (c.loop-j.j - 1)) c.loop-j.ahead
 turn c =
     let e : suc (c.loop-j.j - 1) ≡ c.loop-j.j = omega (arith, c.loop-j-test.true) in
     rw e c.loop-j.invariant
@@ -83,7 +83,7 @@ bounds-m-j c = omega (arith, c.loop-j.invariant.within, c.requires.within)
 
 pub step-ahead-requires : goal.step-ahead-requires
 step-ahead-requires c =
-    let a = turn (goal.at.step-ahead-requires c).After-shared_slice_known-in-loop-j-1 in let p = c.requires in let y = p.steady in
+    let a = turn (goal.at.step-ahead-requires c).In-loop-j in let p = c.requires in let y = p.steady in
     record {
       table = p.table;
       named = y.named _ (omega (arith, a.within, p.within));
@@ -92,13 +92,13 @@ step-ahead-requires c =
     }
 
 pub returns-then-ahead : goal.returns-then-ahead
-returns-then-ahead c = rw c.at_word_end.ensures (edged (turn (goal.at.returns-then-ahead c).After-shared_slice_known-in-loop-j-1) c.step-ahead.ensures c.if-ahead.true)
+returns-then-ahead c = rw c.at_word_end.ensures (edged (turn (goal.at.returns-then-ahead c).In-loop-j) c.step-ahead.ensures c.if-ahead.true)
 
 pub loop-j-smaller : goal.loop-j-smaller
 loop-j-smaller c = omega (arith, c.loop-j-test.true)
 
 pub loop-j-preserved : goal.loop-j-preserved
-loop-j-preserved c = inside (turn (goal.at.loop-j-preserved c).After-shared_slice_known-in-loop-j-1) c.step-ahead.ensures c.requires.steady c.if-ahead.false
+loop-j-preserved c = inside (turn (goal.at.loop-j-preserved c).In-loop-j) c.step-ahead.ensures c.requires.steady c.if-ahead.false
 
 pub returns : goal.returns
 returns c = let e : c.loop-j.j ≡ 0 = omega (arith, c.loop-j-test.false) in start (rw e at c.loop-j.invariant) c.at_word_end-2.ensures

@@ -1,5 +1,5 @@
 -- After ь the letter before it decides, and any other letter by itself.
-use Rattle.laws.proofs.Kit.{ℕ, ◌<◌, ◌≡◌, refl, false, ◌||◌, or-false, ◌⊎◌, ⊎_elim, eqb, arith}
+use Rattle.laws.proofs.Kit.{ℕ, ◌<◌, ◌≡◌, refl, false, ◌||◌, or-false, ◌⊎◌, ⊎_elim, eqb, arith, rules}
 use Rattle.spec.specs.Alphabet.{«ь»}
 use Rattle.spec.specs.{Letters.small, Letters.is_hard_only, Letters.is_paired, Vowels.hard_end}
 use Rattle.letters.proofs.Computed.{everything}
@@ -29,7 +29,7 @@ other_end q b h n = rw (no_sign b h n, or-false (is_paired (small b)))
 -- where it does
 other : (c : In_default)
     → hard_end (small c.args.q) (small c.args.p) ≡ (is_hard_only (small c.args.p) || is_paired (small c.args.p))
-other c = other_end (small c.args.q) c.args.p (omega (arith, c.ranges.p)) c.in_default.in_default-own.rest.1
+other c = other_end (small c.args.q) c.args.p (omega (arith, c.ranges.p)) (search rules)
 
 pub returns-then-is_hard_only : goal.returns-then-is_hard_only
 returns-then-is_hard_only c = rw (other (goal.at.returns-then-is_hard_only c).In_default, ← c.is_hard_only-in_default.ensures, c.if-is_hard_only.true)
