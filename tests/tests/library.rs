@@ -344,8 +344,9 @@ fn every_function_of_the_header_is_called() {
 
 /// The names of the archive that `nm` lists with this option.
 fn symbols(which: &str) -> BTreeSet<String> {
-    let listed = Command::new("nm").args(["--extern-only", "--format=posix", which, ARCHIVE]);
-    let listed = listed.output().expect("nm comes with gcc");
+    let mut nm = Command::new("nm");
+    nm.args(["--extern-only", "--format=posix", which, ARCHIVE]);
+    let listed = nm.output().expect("nm comes with gcc");
     assert!(listed.status.success(), "{}", listed.status);
     let listed = String::from_utf8(listed.stdout).expect("plain names");
     let names = listed.lines().filter(|line| !line.ends_with(':'));
