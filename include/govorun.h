@@ -6,7 +6,7 @@
  * Every function here is proved to do what it promises, but for the stack, for all bytes, lengths and outputs whatever:
  *   - it reads only msg[0 .. len) (of editor and reader text[0 .. len)), cuts[0 .. n) and book[0 .. size), and writes only out[0 .. cap)
  *     or, to add a phrase, book[0 .. size);
- *   - it always returns; it allocates nothing, keeps nothing between calls and calls nothing outside;
+ *   - it always returns; it allocates nothing, keeps nothing between calls and calls nothing outside but memset of the C library;
  *   - it uses at most 4,096 bytes of stack, its return address with them (measured by the tests on the worst messages, not proved);
  *   - a refusal leaves every byte of out or book as it was; on acceptance out begins with the answer, book with the longer book, and
  *     its other bytes are kept.

@@ -2,6 +2,7 @@
 //! output byte for byte, and the bytes around it.
 
 use std::collections::BTreeSet;
+use std::process::Command;
 
 use govorun_tests::fence::{as_places, Fenced, Side, SIDES};
 use govorun_tests::gen::cuts::BAD_CUTS;
@@ -12,7 +13,7 @@ use govorun_tests::gen::{
 };
 use govorun_tests::message::breaks;
 use govorun_tests::trial::{self, Operation, Trial};
-use govorun_tests::unit::{self, DISPATCH, LISTENERS};
+use govorun_tests::unit::{self, ARCHIVE, DISPATCH, LISTENERS};
 use govorun_tests::{check, cp1251, hex, EDITIONS};
 
 /// All operations on one message with one list of cuts.
@@ -339,6 +340,29 @@ fn every_function_of_the_header_is_called() {
     let called = declared(include_str!("../src/unit.rs"), "pub fn govorun_");
     assert_eq!(calls(), called);
     assert!(called.contains("govorun_book_find"));
+}
+
+/// The names of the archive that `nm` lists with this option.
+fn symbols(which: &str) -> BTreeSet<String> {
+    let mut nm = Command::new("nm");
+    nm.args(["--extern-only", "--format=posix", which, ARCHIVE]);
+    let listed = nm.output().expect("nm comes with gcc");
+    assert!(listed.status.success(), "{}", listed.status);
+    let listed = String::from_utf8(listed.stdout).expect("plain names");
+    let names = listed.lines().filter(|line| !line.ends_with(':'));
+    let names = names.filter_map(|line| line.split(' ').next());
+    names.map(str::to_string).collect()
+}
+
+#[test]
+fn the_archive_has_the_functions_and_calls_nothing_that_the_header_does_not_name() {
+    assert_eq!(symbols("--defined-only"), calls());
+    let header = include_str!("../../include/govorun.h");
+    let (_, named) = header.split_once("calls nothing outside but ").unwrap();
+    let named = named.split(' ').next().map(str::to_string);
+    for outside in symbols("--undefined-only") {
+        assert_eq!(Some(outside), named);
+    }
 }
 
 #[test]
