@@ -1,6 +1,6 @@
 -- What is read in turn stands together in the text, and the reader has lost it.
-use Rattle.std.proofs.Common.{ℕ, suc, ◌+◌, ◌-◌, ◌<◌, ◌≤◌, ◌≡◌, List, [], ◌++◌, IfSome, length, take, drop, arith, refl, sym, ap, subst, ◌∙◌}
-use Rattle.std.proofs.Common.{append-nil}
+use Rattle.std.proofs.Common.{ℕ, suc, true, false, true≢false, IsTrue, ◌↔◌, ◌≢◌, ◌+◌, ◌-◌, ◌<◌, ◌≤◌, ◌≡◌, List, [], ◌++◌, IfSome, length}
+use Rattle.std.proofs.Common.{take, drop, arith, refl, sym, ap, subst, ◌∙◌, append-nil}
 use Rattle.laws.proofs.Kit.{⊎_elim, take_all, take_at}
 use Rattle.laws.proofs.{Classes.below_or}
 use Rattle.std.specs.declared.option.Option.{Option}
@@ -37,7 +37,8 @@ takes_more n m text part old now new h k before read = (
 )
 
 -- What was read of a known input is all of it, or as much as the text has room for.
-heard : (most n : ℕ) (buffer t rest : List ℕ) → length buffer ≡ suc most → n ≤ length buffer → t ≡ take n buffer ++ rest → (n < length buffer → rest ≡ [])
+heard : (most n : ℕ) (buffer t rest : List ℕ) → length buffer ≡ suc most → n ≤ length buffer
+    → t ≡ take n buffer ++ rest → (n < length buffer → rest ≡ [])
     → take (suc most) t ≡ take n buffer
 heard most n buffer t rest long h lost end =
     let l = length-take-le n buffer h in
@@ -68,3 +69,14 @@ pub nothing_written : (print : List ℕ → List ℕ) (old before : Option (List
 nothing_written print None before e = tt
 nothing_written print (Some t) None e = tt
 nothing_written print (Some t) (Some held) e = rw (← e, append-nil) refl
+
+-- That something was printed can be told by what was put.
+pub some_told : (print : List ℕ → List ℕ) (old : Option (List ℕ)) (text : List ℕ) → 0 < length text
+    → IfSome old (λ t. text ≡ print t) → IfSome old (λ t. IsTrue true ↔ (print t ≢ []))
+some_told print None text some e = tt
+some_told print (Some t) text some e = (λ y. λ z. absurd (omega (arith, ap length e, ap length z)), λ y. refl)
+
+pub none_told : (print : List ℕ → List ℕ) (old : Option (List ℕ))
+    → IfSome old (λ t. [] ≡ print t) → IfSome old (λ t. IsTrue false ↔ (print t ≢ []))
+none_told print None e = tt
+none_told print (Some t) e = (λ y. absurd (true≢false (sym y)), λ n. absurd (n (sym e)))

@@ -1,4 +1,5 @@
--- The program never prints number 11: a message that the check accepts is short, so its tape has room in the codes that the transcriber is lent.
+-- The program never prints number 11: a message that the check accepts is short, so its tape has room in the codes that the
+-- transcriber is lent.
 use Rattle.laws.proofs.Kit.{ℕ, ◌≤◌, arith, ◌≡◌, refl, List, length, le-leb}
 use Rattle.spec.specs.Answers.{number_of, checked_number, within, after_check, tape_answer}
 use Rattle.spec.specs.{Tape.tape, Refusals.check_of, declared.Checked.Checked, declared.Checked.TheVariants.Accepted}

@@ -1,4 +1,5 @@
--- The text grows at its end: what is put after other bytes and those bytes together were put at the place of the latter. How long a number, the codes and an answer are in it.
+-- The text grows at its end: what is put after other bytes and those bytes together were put at the place of the latter. How long a
+-- number, the codes and an answer are in it.
 use Rattle.laws.proofs.Kit.{ℕ, zero, suc, ◌+◌, ◌-◌, ◌*◌, ◌/◌, ◌%◌, ◌^◌, ◌<◌, ◌≤◌, arith, ◌≡◌, refl, sym, ap, ◌∙◌, ⊎_elim, List, [], ◌∷◌}
 use Rattle.laws.proofs.Kit.{◌++◌, append_assoc, append-nil, length, take, drop, get_or, length-append, length-drop, take_at, drop-cons}
 use Rattle.laws.proofs.Kit.{drop-length, le-leb, lt-leb, lt-ltb, le-ltb}
@@ -29,7 +30,8 @@ enough : (k j n : ℕ) → n < k → n < j → last_digits k n ≡ last_digits j
 unfolding last_digits
 enough zero j n h l = absurd (omega arith)
 enough (suc k) zero n h l = absurd (omega arith)
-enough (suc k) (suc j) n h l = ⊎_elim (λ g. rw (lt-leb n 9 g, enough k j (n / 10) (omega arith) (omega arith))) (λ g. rw (le-leb n 9 g)) (below_or 9 n)
+enough (suc k) (suc j) n h l = ⊎_elim (λ g. rw (lt-leb n 9 g, enough k j (n / 10) (omega arith) (omega arith)))
+    (λ g. rw (le-leb n 9 g)) (below_or 9 n)
 
 -- one digit
 pub decimal_small : (n : ℕ) → n < 10 → decimal n ≡ (48 + n % 10) ∷ []
@@ -50,16 +52,20 @@ pub decimal_size : (k n : ℕ) → n < 10 ^ suc k → length (decimal n) ≤ suc
 decimal_size zero n h = omega (arith, ap length (decimal_small n h))
 decimal_size (suc k) n h =
     let p = pow-suc 10 (suc k) in
-    ⊎_elim (λ g. omega (arith, decimal_longer n (omega arith), decimal_size k (n / 10) (omega arith))) (λ g. omega (arith, ap length (decimal_small n (omega arith)))) (below_or 9 n)
+    ⊎_elim (λ g. omega (arith, decimal_longer n (omega arith), decimal_size k (n / 10) (omega arith)))
+    (λ g. omega (arith, ap length (decimal_small n (omega arith)))) (below_or 9 n)
 
 -- the codes from place i on are the code there and those after it
-codes_from_lem : (codes : List ℕ) (i : ℕ) → i < length codes → printed_codes (drop i codes) ≡ code_at codes i ++ printed_codes (drop (suc i) codes)
+codes_from_lem : (codes : List ℕ) (i : ℕ) → i < length codes
+    → printed_codes (drop i codes) ≡ code_at codes i ++ printed_codes (drop (suc i) codes)
 unfolding printed_codes ascii
 codes_from_lem codes i h = rw (drop-cons codes i 0 h) (by (drop (suc i) codes) (length-drop (suc i) codes))
   where
-    by : (rest : List ℕ) → length rest ≡ length codes - suc i → printed_codes (get_or codes i 0 ∷ rest) ≡ code_at codes i ++ printed_codes rest
+    by : (rest : List ℕ) → length rest ≡ length codes - suc i
+        → printed_codes (get_or codes i 0 ∷ rest) ≡ code_at codes i ++ printed_codes rest
     by [] e = rw (le-ltb (i + 1) (length codes) (omega arith)) (simp append-nil)
-    by (d ∷ rest) e = rw (lt-ltb (i + 1) (length codes) (omega arith)) (sym (append_assoc (decimal (get_or codes i 0)) (32 ∷ []) (printed_codes (d ∷ rest))))
+    by (d ∷ rest) e = rw (lt-ltb (i + 1) (length codes) (omega arith))
+        (sym (append_assoc (decimal (get_or codes i 0)) (32 ∷ []) (printed_codes (d ∷ rest))))
 
 -- the codes before place i
 abbrev pub printed_to : List ℕ → ℕ → List ℕ
@@ -71,21 +77,25 @@ pub to_size : (codes : List ℕ) → ((i : ℕ) → get_or codes i 0 < 256) → 
 to_size codes h zero = omega arith
 to_size codes h (suc i) =
     let k = decimal_size 2 (get_or codes i 0) (omega (arith, h i)) in
-    let l : length (code_at codes i) ≤ 4 = rw length-append (⊎_elim (λ g. rw (lt-ltb (i + 1) (length codes) g) (omega arith)) (λ g. rw (le-ltb (i + 1) (length codes) g) (omega arith)) (below_or (i + 1) (length codes))) in
+    let l : length (code_at codes i) ≤ 4 = rw length-append (⊎_elim (λ g. rw (lt-ltb (i + 1) (length codes) g) (omega arith))
+    (λ g. rw (le-ltb (i + 1) (length codes) g) (omega arith)) (below_or (i + 1) (length codes))) in
     omega (arith, length-append (printed_to codes i) (code_at codes i), to_size codes h i)
 
 -- with those from there on they are all
 to_all : (codes : List ℕ) (i : ℕ) → i ≤ length codes → printed_to codes i ++ printed_codes (drop i codes) ≡ printed_codes codes
 to_all codes zero h = refl
-to_all codes (suc i) h = append_assoc (printed_to codes i) (code_at codes i) (printed_codes (drop (suc i) codes)) ∙ rw (← codes_from_lem codes i h) (to_all codes i (omega arith))
+to_all codes (suc i) h = append_assoc (printed_to codes i) (code_at codes i) (printed_codes (drop (suc i) codes))
+    ∙ rw (← codes_from_lem codes i h) (to_all codes i (omega arith))
 
 -- so at the end
 pub printed_all : (codes : List ℕ) (i : ℕ) → i ≡ length codes → printed_to codes i ≡ printed_codes codes
 unfolding printed_codes
-printed_all codes i e = rw e (sym (append-nil (printed_to codes (length codes))) ∙ rw (drop-length codes) at (to_all codes (length codes) (omega arith)))
+printed_all codes i e = rw e (sym (append-nil (printed_to codes (length codes)))
+    ∙ rw (drop-length codes) at (to_all codes (length codes) (omega arith)))
 
 -- how long a refusal's text is
-pub refusal_length : (r : Refusal) (codes : List ℕ) → length (printed_answer (Refused r) codes) ≡ 8 + (length (decimal r.number) + (4 + length (decimal r.place)))
+pub refusal_length : (r : Refusal) (codes : List ℕ)
+    → length (printed_answer (Refused r) codes) ≡ 8 + (length (decimal r.number) + (4 + length (decimal r.place)))
 unfolding printed_answer ascii
 refusal_length r codes = simp length-append (omega arith)
 
@@ -94,8 +104,15 @@ pub answer_refused : (m : List ℕ) (r : Refusal) → Refused r ≡ tape_answer 
     → (printed_answer (tape_answer One m 8192) (tape One m) ≡ printed_answer (Refused r) []) × (length (printed_answer (Refused r) []) ≤ 20)
 unfolding printed_answer number_of place_of
 answer_refused m r e =
-    let b = rw (sym e) at (tape_small m One 8192) in
-    (rw (sym e), omega (arith, refusal_length r [], decimal_size 3 r.number (omega (arith, b.number)), decimal_size 3 r.place (omega (arith, b.place))))
+    let b = rw (sym e) at (tape_small m One 8192) in (
+      rw (sym e),
+      omega (
+        arith,
+        refusal_length r [],
+        decimal_size 3 r.number (omega (arith, b.number)),
+        decimal_size 3 r.place (omega (arith, b.place)),
+      ),
+    )
 
 -- or the tape: n codes that lie within the output, and their text is the answer's
 pub record Spoken (m codes : List ℕ) (n : ℕ) : Type 0 where
@@ -119,7 +136,8 @@ answer_written m {codes} {n = n} full p e same =
 
 -- a refusal with small numbers is short in print, whatever tape there might be
 pub refusal_short : (r : Refusal) → r.number ≤ 99 → r.place ≤ 65536 → length (printed_answer (Refused r) []) ≤ 40
-refusal_short r n p = omega (arith, refusal_length r [], decimal_size 1 r.number (omega (arith, n)), decimal_size 4 r.place (omega (arith, p)))
+refusal_short r n p =
+    omega (arith, refusal_length r [], decimal_size 1 r.number (omega (arith, n)), decimal_size 4 r.place (omega (arith, p)))
 
 -- Where an operation was carried out, the first n bytes of its output are its text.
 pub record Part (text out : List ℕ) (n : ℕ) : Type 0 where

@@ -1,6 +1,6 @@
 -- A number in decimal is read digit by digit, and clipped where it has left the range: what is answered for it is the same.
-use Rattle.laws.proofs.Kit.{ℕ, zero, suc, ◌+◌, ◌-◌, ◌*◌, ◌<◌, ◌≤◌, arith, add-one, ◌≡◌, refl, sym, ap, ◌∙◌, ◌⊎◌, inl, inr, ⊎_elim, true}
-use Rattle.laws.proofs.Kit.{false, cond, ◌&&◌, not, and-eq-true_iff, List, [], ◌∷◌, eqb, leb, length, drop, get_or, drop-cons, drop-length}
+use Rattle.laws.proofs.Kit.{ℕ, zero, suc, ◌+◌, ◌-◌, ◌*◌, ◌<◌, ◌≤◌, arith, add-one, ◌≡◌, refl, sym, ap, ◌∙◌, inl, inr, ⊎_elim, true, false}
+use Rattle.laws.proofs.Kit.{cond, ◌&&◌, not, and-eq-true_iff, List, [], ◌∷◌, eqb, leb, length, drop, get_or, drop-cons, drop-length}
 use Rattle.laws.proofs.Kit.{drop_of_length-le, leb-true, leb-false, ne_eqb, not-true}
 use lib.IntN.{pos, neg_ℤ, nat_abs, ◌-ℤ◌, +ℤ_idl}
 use mir.Syntax.{w32}
@@ -11,16 +11,19 @@ use Rattle.spec.specs.Printed.{sign_length, are_digits, is_decimal, digits_from,
 use Rattle.gauge.specs.Reading.{Clipped, Like}
 
 -- the digits from a place on: the digit there, and those after it
-digits_step : (t : List ℕ) (i : ℕ) → i < length t → are_digits (drop i t) ≡ ((leb 48 (get_or t i 0) && leb (get_or t i 0) 57) && are_digits (drop (i + 1) t))
+digits_step : (t : List ℕ) (i : ℕ) → i < length t
+    → are_digits (drop i t) ≡ ((leb 48 (get_or t i 0) && leb (get_or t i 0) 57) && are_digits (drop (i + 1) t))
 unfolding are_digits
 digits_step t i h = rw (drop-cons t i 0 h, add-one i)
 
 -- past a digit all goes by those after it,
-pub digits_more : (t : List ℕ) (i : ℕ) → i < length t → (leb 48 (get_or t i 0) && leb (get_or t i 0) 57) ≡ true → are_digits (drop (i + 1) t) ≡ are_digits (drop i t)
+pub digits_more : (t : List ℕ) (i : ℕ) → i < length t
+    → (leb 48 (get_or t i 0) && leb (get_or t i 0) 57) ≡ true → are_digits (drop (i + 1) t) ≡ are_digits (drop i t)
 digits_more t i h e = sym (digits_step t i h ∙ rw e)
 
 -- and another byte settles it
-pub digits_stop : (t : List ℕ) (i : ℕ) → i < length t → (leb 48 (get_or t i 0) && leb (get_or t i 0) 57) ≡ false → are_digits (drop i t) ≡ false
+pub digits_stop : (t : List ℕ) (i : ℕ) → i < length t
+    → (leb 48 (get_or t i 0) && leb (get_or t i 0) 57) ≡ false → are_digits (drop i t) ≡ false
 digits_stop t i h e = digits_step t i h ∙ rw e
 
 -- Digits that are read up to place i, as n.
@@ -32,7 +35,13 @@ pub record Reads (t : List ℕ) (i n : ℕ) : Type 0 where
   pub digits : are_digits (drop i t) ≡ true
 
 pub reads_none : (t : List ℕ) → are_digits t ≡ true → Reads t 0 0
-reads_none t d = record { within = omega arith; said = 0; clipped = record { same = inl refl; small = omega arith }; rest = refl; digits = d }
+reads_none t d = record {
+  within = omega arith;
+  said = 0;
+  clipped = record { same = inl refl; small = omega arith };
+  rest = refl;
+  digits = d;
+}
 
 module _ {t : List ℕ} {i n : ℕ} (r : Reads t i n) (h : i < length t) where
   -- the digit at the place
@@ -51,7 +60,8 @@ module _ {t : List ℕ} {i n : ℕ} (r : Reads t i n) (h : i < length t) where
     said = 10 * r.said + (get_or t i 0 - 48);
     clipped = c;
     rest = rw (add-one i) (rw (drop-cons t i 0 h) at r.rest);
-    digits = ((and-eq-true_iff (leb 48 (get_or t i 0) && leb (get_or t i 0) 57) (are_digits (drop (i + 1) t))).0 (sym (digits_step t i h) ∙ r.digits)).1;
+    digits = ((and-eq-true_iff (leb 48 (get_or t i 0) && leb (get_or t i 0) 57) (are_digits (drop (i + 1) t))).0
+        (sym (digits_step t i h) ∙ r.digits)).1;
   }
 
   -- below 10,000 the digit counts
@@ -124,8 +134,10 @@ pub like_plain : (t : List ℕ) (n : ℕ) → sign_length t ≡ 0 → Clipped n 
 unfolding level_in
 like_plain t n z c = rw z (⊎_elim (λ e. inl (ap pos e)) (λ e. inr e) (rw z at c.same))
 
-pub like_minus : (t : List ℕ) (n : ℕ) → (sign_length t ≡ 0 → ⊥) → Clipped n (digits_from 0 (drop (sign_length t) t)) → Like (neg_ℤ (pos n)) (level_in t)
+pub like_minus : (t : List ℕ) (n : ℕ) → (sign_length t ≡ 0 → ⊥) → Clipped n (digits_from 0 (drop (sign_length t) t))
+    → Like (neg_ℤ (pos n)) (level_in t)
 unfolding level_in
 like_minus t n z c =
     let v = digits_from 0 (drop (sign_length t) t) in
-    rw (ne_eqb (sign_length t) 0 z) (⊎_elim (λ e. inl (ap (λ (k : ℕ). neg_ℤ (pos k)) e)) (λ e. inr (omega (arith, negated_size n, e.0), omega (arith, negated_size v, e.1))) c.same)
+    rw (ne_eqb (sign_length t) 0 z) (⊎_elim (λ e. inl (ap (λ (k : ℕ). neg_ℤ (pos k)) e))
+    (λ e. inr (omega (arith, negated_size n, e.0), omega (arith, negated_size v, e.1))) c.same)

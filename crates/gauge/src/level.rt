@@ -4,8 +4,7 @@ ghost use Rattle.std.specs.Prelude.{◌≡◌, true, ◌&&◌, ◌≤◌, leb, l
 ghost use Rattle.spec.specs.Tape.{tape};
 ghost use Rattle.spec.specs.SpokenLevels.{spoken};
 ghost use Rattle.spec.specs.Printed.{printed_answer, sign_length, are_digits, is_decimal};
-ghost use Rattle.spec.specs.Printed.{digits_from};
-ghost use Rattle.spec.specs.Printed.{level_in, spoken_answer, printed_level};
+ghost use Rattle.spec.specs.Printed.{digits_from, level_in, spoken_answer, printed_level};
 ghost use Rattle.console.specs.Putting.{Appended, IsPrefixLen};
 ghost use Rattle.gauge.specs.Reading.{Clipped, Like};
 
@@ -98,8 +97,8 @@ fn read_level(t: &[u8], sign: usize) -> i32
 // Speaks the level, lent room for the words of any, and puts what the transcriber answers.
 fn put_level(level: i32, text: &mut [u8]) -> usize
     requires { 32768 ≤ length text.old }
-    ensures appended { Appended (printed_answer (spoken_answer level) (tape Edition.One (spoken level)))
-        text.old text.new 0 result }
+    ensures appended { Appended (printed_answer (spoken_answer level)
+        (tape Edition.One (spoken level))) text.old text.new 0 result }
     ensures upper_bound { result ≤ 32768 }
 {
     let mut words = [0u8; LONGEST];

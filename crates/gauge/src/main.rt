@@ -14,9 +14,9 @@ use console::{Failure, Input};
 use level::{TYPED_MAX, print_level};
 use std::io::{Read, Write};
 
-// Reads a level, and writes what is printed for it. One byte more than the longest number tells that
-// a text is too long for one. For what is no number nothing is printed, and it says so. Nothing is
-// written of a level that could not be read.
+// Reads a level, and writes what is printed for it. One byte more than the longest number tells
+// that a text is too long for one. For what is no number nothing is printed, and the answer is
+// false. Nothing is written of a level that could not be read.
 fn print_input<R: Read, W: Write>(input: &mut R, output: &mut W) -> Result<bool, Failure>
     ensures text { OnOk result (IfSome (R.remaining input.old)
         (λ t. Appends (W.contents output.old) (W.contents output.new) (printed_level t))) }

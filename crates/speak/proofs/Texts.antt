@@ -28,7 +28,8 @@ module _ (m : List ℕ) {out out' : List ℕ} {a : Answer} (p : EditPromise m ou
   pub edit_never : {r : Refusal} → a ≡ Refused r → ⊥
   unfolding edit_answer within
   edit_never e =
-      let f : edit_answer m (length out) ≡ Written (length (edited m)) 0 = rw (le-leb (length (edited m)) (length out) (omega (arith, (edited_demands m).size))) in
+      let f : edit_answer m (length out) ≡ Written (length (edited m)) 0 =
+      rw (le-leb (length (edited m)) (length out) (omega (arith, (edited_demands m).size))) in
       true≢false (ap is_written (sym f ∙ sym p.answer ∙ e))
 
 -- the reader's numbers are 13 and 11, and a place that it gives is within the text
@@ -54,7 +55,11 @@ module _ (t : List ℕ) {out out' : List ℕ} {a : Answer} (p : ReadPromise t ou
   -- and answers as where it is lent just that
   same_answer : read_answer t (length t) ≡ a
   unfolding read_answer within
-  same_answer = rw (p.answer, le-leb (length (decoded t)) (length out) (omega (arith, (read_demands t).size)), le-leb (length (decoded t)) (length t) (read_demands t).size)
+  same_answer = rw (
+    p.answer,
+    le-leb (length (decoded t)) (length out) (omega (arith, (read_demands t).size)),
+    le-leb (length (decoded t)) (length t) (read_demands t).size,
+  )
 
   -- its numbers have few digits
   few : (number_of a ≤ 13) × (place_of a ≤ length t)

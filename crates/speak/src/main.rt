@@ -15,8 +15,8 @@ use std::io::{Read, Write};
 use text::{TEXT_MAX, print_text};
 
 // Reads a text, and writes what is printed for it. One byte more than the longest text tells that a
-// text is too long: then nothing is printed, and it says so. Nothing is written of a text that could
-// not be read.
+// text is too long: then nothing is printed, and the answer is false. Nothing is written of a text
+// that could not be read.
 fn print_input<R: Read, W: Write>(input: &mut R, output: &mut W) -> Result<bool, Failure>
     ensures text { OnOk result (IfSome (R.remaining input.old)
         (λ t. Appends (W.contents output.old) (W.contents output.new) (printed_text t))) }

@@ -30,7 +30,10 @@ put_refusal-requires c = omega (arith, (refused (goal.at.put_refusal-requires c)
 pub returns-in-Written : goal.returns-in-Written
 returns-in-Written c =
     let w = written (goal.at.returns-in-Written c).In-Written in
-    record { appended = rw w.text c.put_codes.ensures.appended; upper_bound = omega (arith, c.put_codes.ensures.upper_bound, w.short, w.size) }
+    record {
+      appended = rw w.text c.put_codes.ensures.appended;
+      upper_bound = omega (arith, c.put_codes.ensures.upper_bound, w.short, w.size);
+    }
 
 pub returns-in-Refused : goal.returns-in-Refused
 returns-in-Refused c =

@@ -10,7 +10,8 @@ put-end-requires c = omega (arith, c.loop-i.invariant.1.place, length-take-le c.
 
 pub loop-i-preserved : goal.loop-i-preserved
 loop-i-preserved c =
-    (omega arith, rw (add-one c.loop-i.i, take-suc c.args.bytes.now c.loop-i.i 0 c.loop-i-test.true) (put_over c.loop-i.invariant.1 c.put-end.ensures))
+    let seam = put_over c.loop-i.invariant.1 c.put-end.ensures in
+    (omega arith, rw (add-one c.loop-i.i, take-suc c.args.bytes.now c.loop-i.i 0 c.loop-i-test.true) seam)
 
 pub returns : goal.returns
 returns c = rw (take_all c.loop-i.i c.args.bytes.now c.loop-i-test.false) at c.loop-i.invariant.1

@@ -15,7 +15,13 @@ put_bytes-end-requires-2 c = omega (arith, refusal_length c.args.r [], c.put_byt
 
 pub put_decimal-requires : goal.put_decimal-requires
 put_decimal-requires c =
-    omega (arith, refusal_length c.args.r [], c.put_bytes-end.ensures.place, c.put_decimal-end.ensures.place, c.put_bytes-end-2.ensures.place)
+    omega (
+      arith,
+      refusal_length c.args.r [],
+      c.put_bytes-end.ensures.place,
+      c.put_decimal-end.ensures.place,
+      c.put_bytes-end-2.ensures.place,
+    )
 
 pub returns : goal.returns
 unfolding printed_answer ascii

@@ -1,4 +1,3 @@
-use Rattle.laws.proofs.Kit.{arith}
 use Rattle.gauge.proofs.Numbers.{digit_at, reads_none, reads_more, reads_past, reads_all}
 use Rattle.gauge.proofs.level.read_digits.Goals as goal
 use Rattle.gauge.proofs.level.read_digits.Goals.{then-n-lt-OUTSIDE, else-n-lt-OUTSIDE}
