@@ -1,11 +1,11 @@
 -- What an operation answers for a message by the check's answer, and what it leaves in the lent output: for one that is refused the refusal and the
 -- output as it is, for an accepted one too little room, or its text written.
-use Rattle.laws.proofs.Kit.{ℕ, ◌<◌, ◌≤◌, ◌≡◌, refl, List, ◌++◌, length, drop}
-use Rattle.spec.specs.Answers.{within, after_check, output_after, Promise}
+use Rattle.laws.proofs.Kit.{ℕ, ◌<◌, ◌≤◌, ◌≡◌, refl, List, ◌++◌, length, drop, arith, ne_eqb, lt-leb}
+use Rattle.spec.specs.Answers.{within, after_check, output_after, Promise, CheckPromise}
 use Rattle.spec.specs.declared.{Counts.Counts, Refusal.Refusal, Checked.Checked, Answer.Answer}
 use Rattle.spec.specs.declared.Answer.TheVariants.{Written, Refused}
-use Rattle.spec.specs.Refusals.{refusal}
-use Rattle.laws.proofs.Promises.{promised, promised_short, promised_written}
+use Rattle.spec.specs.Refusals.{refusal, check_of}
+use Rattle.laws.proofs.Promises.{promised, promised_short, promised_written, check_promised}
 use Rattle.spec.specs.declared.Checked.TheVariants as checked
 
 -- a refused message is answered by the check's refusal
@@ -24,3 +24,8 @@ module _ {c : Checked} {counts : Counts} (e : c ≡ checked.Accepted counts) {n 
   pub answered_written : {out' : List ℕ} → k ≤ length out → out' ≡ text ++ drop k out → Promise (after_check c (within (length out) n 0)) text out out' (Written k 0)
   unfolding after_check
   answered_written h w = rw e (promised_written same 0 h w)
+
+-- a message of more bytes than 4,096
+pub too_long : (m : List ℕ) → 4096 < length m → CheckPromise m (checked.Refused (refusal 2 0))
+unfolding check_of
+too_long m h = check_promised m _ (rw (ne_eqb (length m) 0 (omega arith), lt-leb (length m) 4096 h))

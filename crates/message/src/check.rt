@@ -281,6 +281,7 @@ fn walk(m: &[u8], t: &ClassTable, s: &PairTable) -> Checked
 }
 
 // The message check (paper 01, 'Turned-away messages'), for any bytes at all.
+#[tactic(auto, using(crate::proofs::Answering::too_long))]
 pub fn check(m: &[u8]) -> Checked
     ensures { CheckPromise m.now result }
 {

@@ -8,10 +8,6 @@ pub returns-then-n-eq0 : goal.returns-then-n-eq0
 unfolding check_of
 returns-then-n-eq0 c = check_promised _ _ (rw (eq-eqb (length c.args.m.now) 0 c.if-n-eq0.true))
 
-pub returns-then-n-gt-MESSAGE_MAX : goal.returns-then-n-gt-MESSAGE_MAX
-unfolding check_of
-returns-then-n-gt-MESSAGE_MAX c = let n = length c.args.m.now in check_promised _ _ (rw (ne_eqb n 0 c.if-n-eq0.false, lt-leb n 4096 c.if-n-gt-MESSAGE_MAX.true))
-
 pub returns : goal.returns
 unfolding check_of
 returns c = check_promised _ _ c.walk.ensures

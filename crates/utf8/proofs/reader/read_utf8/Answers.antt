@@ -1,21 +1,19 @@
 -- The text is measured, so what is left to read decides number 13, and the room number 11; then it is copied.
-use Rattle.laws.proofs.Kit.{◌≡◌, arith, length}
+use Rattle.laws.proofs.Kit.{ℕ, ◌≡◌, ◌≤◌, List, arith, length}
 use Rattle.spec.specs.Utf8.{read_to}
 use Rattle.laws.proofs.{Utf8.read_most, Promises.promised_short, Promises.promised_written, Putting.put_first_lem}
 use Rattle.utf8.proofs.Answering.{answered_unreadable, answered_read}
 use Rattle.utf8.proofs.reader.read_utf8.Goals as goal
-use Rattle.utf8.proofs.reader.read_utf8.Goals.{Else-extent-text}
 
 -- all of the text is readable
-whole : (c : Else-extent-text) → let t = c.args.text.now in read_to t ≡ length t
-whole c =
-    omega (arith, c.measure-extent.ensures.octets, c.if-extent-text.false, read_most c.args.text.now)
+whole : (t : List ℕ) (n : ℕ) → n ≡ read_to t → length t ≤ n → read_to t ≡ length t
+whole t n e h = omega (arith, e, h, read_most t)
 
 pub returns-then-extent-text : goal.returns-then-extent-text
 returns-then-extent-text c = answered_unreadable _ c.measure-extent.ensures.octets c.if-extent-text.true
 
 pub returns-then-out-length : goal.returns-then-out-length
-returns-then-out-length c = rw (answered_read _ _ (whole (goal.at.returns-then-out-length c).Else-extent-text))
+returns-then-out-length c = rw (answered_read _ _ (whole _ _ c.measure-extent.ensures.octets (omega arith)))
     (promised_short c.measure-extent.ensures.bytes 0 c.if-out-length.true)
 
 pub copy-requires : goal.copy-requires
@@ -24,5 +22,5 @@ copy-requires c = (c.letter_table-letters.ensures, c.measure-extent.ensures.byte
 pub returns : goal.returns
 returns c =
     let n = c.measure-extent.ensures.bytes in
-    rw (answered_read _ _ (whole (goal.at.returns c).Else-extent-text))
+    rw (answered_read _ _ (whole _ _ c.measure-extent.ensures.octets (omega arith)))
     (promised_written n 0 c.if-out-length.false (put_first_lem _ _ _ _ _ n c.copy.ensures))
