@@ -133,6 +133,7 @@ fn put_count(out: &mut [u8], at: usize, n: usize) -> usize
 }
 
 // The thousand in the form that its count takes.
+#[tactic(auto, using(crate::proofs::Forms::forms))]
 fn put_thousand(out: &mut [u8], at: usize, n: usize) -> usize
     requires { Room (thousand n ∷ []) out.old at }
     ensures { Adds (thousand n ∷ []) out.old out.new at result }
