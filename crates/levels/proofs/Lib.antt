@@ -1,2 +1,3 @@
 pub mod LevelParts
 pub mod Signed
+pub mod Spoken

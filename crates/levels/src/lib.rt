@@ -101,6 +101,7 @@ fn measure(level: i32) -> usize
 
 // Speaks a level: writes its words at the start of the lent output, or refuses and leaves every
 // byte. Only an output that is shorter than the longest words can be too short.
+#[tactic(auto, using(crate::proofs::Spoken::answered))]
 pub fn speak_level(level: i32, out: &mut [u8]) -> Answer
     ensures { LevelPromise level out.old out.new result }
 {
