@@ -33,6 +33,7 @@ fn note(s: Seen, wanted: usize, number: usize, place: usize) -> Seen
 }
 
 // Goes through the book record by record to its end, also where the number wanted is found before.
+#[tactic(auto, using(crate::proofs::Walks::rest_15))]
 pub fn walk(book: &[u8], wanted: usize) -> Walked
     ensures { result ≡ walked_of (read_book book_storage book.now) wanted }
 {

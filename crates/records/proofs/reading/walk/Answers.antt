@@ -2,7 +2,7 @@
 use Rattle.laws.proofs.Kit.{◌+◌, ◌≤◌, ◌≡◌, sym, ◌∙◌, arith, length, drop, length-drop, rules}
 use Rattle.spec.specs.Book.{book_storage, number_place, number_in, span_in}
 use Rattle.laws.proofs.Book.{Stands, record_stands}
-use Rattle.records.proofs.Walks.{pair_behind, going_start, going_15, going_16, going_more, going_all}
+use Rattle.records.proofs.Walks.{pair_behind, going_start, going_16, going_more, going_all}
 use Rattle.records.proofs.reading.walk.Goals as goal
 use Rattle.records.proofs.reading.walk.Goals.{After-pair_at-number, In-loop-number}
 
@@ -53,8 +53,5 @@ loop-number-preserved c =
     going_more c.loop-number.invariant (there p.In-loop-number) (number_there p.After-pair_at-number) c.record_end-i.ensures
     c.if-number-s.false c.note-s.ensures
 
-pub returns-then-i-book : goal.returns-then-i-book
-returns-then-i-book c = going_15 c.loop-number.invariant c.if-i-book.true (sym c.is_record.ensures ∙ c.loop-number-test.false)
-
 pub returns : goal.returns
-returns c = going_all c.loop-number.invariant c.if-i-book.false
+returns c = going_all c.loop-number.invariant (omega arith)
