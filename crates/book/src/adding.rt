@@ -102,6 +102,7 @@ fn append(
 // The writer: adds the tape of a message, in an edition, under a number and for a set of listeners,
 // at the end of the book. That is for dispatch alone; anyone else is turned away before all other
 // checks.
+#[tactic(auto, using(crate::proofs::TurnedAway::turned_away))]
 pub fn add(
     listener: Listener,
     edition: Edition,
