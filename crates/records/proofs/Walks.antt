@@ -136,10 +136,13 @@ pub rest_15 : (book : List ℕ) (i least : ℕ) → i < length book → is_recor
 unfolding row15
 rest_15 book i least more h = read_15 book_storage i least (drop i book) (omega (arith, length-drop i book, more)) (rw h refl)
 
--- Where a record stands the walk stops with 16, or goes on behind a record.
+-- At a place with more bytes the walk stops with 15 or 16, or goes on behind a record.
 module _ {book : List ℕ} {n i : ℕ} {s : Seen} (g : Going book n i s) where
   abbrev x : List ℕ
   x = drop i book
+
+  pub going_15 : i < length book → is_record book_storage x ≡ false → Unsound (refusal 15 i) ≡ walked_of (read_book book_storage book) n
+  going_15 more h = sym (rw (rest_15 book i s.least more h) at g.rest)
 
   module _ (there : Stands book_storage x) {number : ℕ} (e : number ≡ number_in x) where
     left : 0 < length x
