@@ -1,7 +1,7 @@
 -- A number in decimal is read digit by digit, and clipped where it has left the range: what is answered for it is the same.
 use Rattle.laws.proofs.Kit.{ℕ, zero, suc, ◌+◌, ◌-◌, ◌*◌, ◌<◌, ◌≤◌, arith, add-one, ◌≡◌, refl, sym, ap, ◌∙◌, inl, inr, ⊎_elim, true, false}
 use Rattle.laws.proofs.Kit.{cond, ◌&&◌, not, and-eq-true_iff, List, [], ◌∷◌, eqb, leb, length, drop, get_or, drop-cons, drop-length}
-use Rattle.laws.proofs.Kit.{drop_of_length-le, leb-true, leb-false, ne_eqb, not-true}
+use Rattle.laws.proofs.Kit.{drop_of_length-le, leb-true, leb-false, lt-leb, ne_eqb, not-true}
 use lib.IntN.{pos, neg_ℤ, nat_abs, ◌-ℤ◌, +ℤ_idl}
 use mir.Syntax.{w32}
 use mir.Val.{SFits, to_z, of_z}
@@ -25,6 +25,11 @@ digits_more t i h e = sym (digits_step t i h ∙ rw e)
 pub digits_stop : (t : List ℕ) (i : ℕ) → i < length t
     → (leb 48 (get_or t i 0) && leb (get_or t i 0) 57) ≡ false → are_digits (drop i t) ≡ false
 digits_stop t i h e = digits_step t i h ∙ rw e
+
+-- a text of more bytes than 4,096 is no number
+pub no_number : (t : List ℕ) → 4096 < length t → is_decimal t ≡ false
+unfolding is_decimal
+no_number t h = rw (lt-leb (length t) 4096 h)
 
 -- Digits that are read up to place i, as n.
 pub record Reads (t : List ℕ) (i n : ℕ) : Type 0 where

@@ -53,6 +53,7 @@ fn are_digits(t: &[u8]) -> bool
 }
 
 // Is the text a number, with a sign of this length?
+#[tactic(auto, using(crate::proofs::Numbers::no_number))]
 fn is_decimal(t: &[u8], sign: usize) -> bool
     requires { sign ≡ sign_length t.now }
     ensures { result ≡ is_decimal t.now }

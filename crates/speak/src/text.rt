@@ -47,6 +47,7 @@ fn put_read(t: &[u8], read: &mut [u8], plain: &mut [u8], print: &mut [u8]) -> us
 }
 
 // Puts the whole of what is printed, and answers how long it is: 0 where the text is too long.
+#[tactic(auto, using(crate::proofs::Texts::text_long))]
 pub fn print_text(
     t: &[u8],
     read: &mut [u8; TEXT_MAX],
