@@ -2,101 +2,73 @@
 ghost use Rattle.std.specs.Prelude.{◌≡◌, length};
 ghost use Rattle.spec.specs.Book.{book_storage, read_book, after_book, phrase_of, record_of};
 ghost use Rattle.spec.specs.Book.{AddPromise};
+ghost use Rattle.spec.specs.Results.{wrote};
 ghost use Rattle.laws.specs.Putting.{Put};
-ghost use Rattle.book.specs.Entries.{RecordDue};
+ghost use Rattle.book.specs.Entries.{asked, unwritten, RecordDue};
 
-use message::answers::refused;
 use message::check::check;
 use records::listeners::not_for_listener;
+use records::put_head;
 use records::reading::{book_end, walk};
-use records::{Walked, put_head};
-use spec::{Answer, Checked, Edition, Listener, Refusal, numbers};
-use transcriber::tables::lay_tables;
+use spec::{Edition, Listener, Refusal, Written, numbers};
 use transcriber::tape::write_tape;
 
-// The book's refusals of an addition under a number: 15 and 16 of its records, and 16 at its end
-// where the number is not above the last. Where none is due it answers a writing of nothing.
-fn judge(book: &[u8], number: usize) -> Answer
-    ensures { result ≡ after_book (read_book book_storage book.now) number
-        (length book.now) (Answer.Written 0 0) }
-{
-    match walk(book, number) {
-        Walked::Sound { least, place: _ } => {
-            if number < least {
-                return Answer::Refused(Refusal {
-                    number: numbers::NUMBER_NOT_ABOVE,
-                    place: book.len(),
-                });
-            }
-            Answer::Written { length: 0, live: 0 }
-        }
-        Walked::Unsound(r) => Answer::Refused(r),
-    }
+// What an addition asks for: a message in an edition under a number, for a set of listeners.
+#[derive(Clone, Copy)]
+pub struct Addition<'a> {
+    pub edition: Edition,
+    pub number: u16,
+    pub set: u8,
+    pub message: &'a [u8],
 }
 
-// Writes the record of an accepted message, whose tape has n codes, from place i on, and tells
-// where it ends. The tape is put straight to its place, right before that end.
-fn write_record(
-    edition: Edition,
-    m: &[u8],
-    out: &mut [u8],
-    i: usize,
-    number: usize,
-    set: u8,
-    n: usize,
-) -> usize
-    requires { RecordDue m.now out.old i number n }
-    ensures { Put (record_of book_storage (phrase_of book_storage (record {
-      edition = edition;
-      number = number;
-      set = set;
-      message = m.now;
-    })))
+// The book's refusals of an addition under a number: 15 and 16 of its records, and 16 at its end
+// where the number is not above the last.
+#[tactic(auto, using(crate::proofs::Told::judging))]
+fn judge(book: &[u8], number: usize) -> Result<(), Refusal>
+    ensures { result ≡ unwritten (after_book (read_book book_storage book.now) number
+        (length book.now) (wrote 0 0)) }
+{
+    let seen = walk(book, number)?;
+    if number < seen.least {
+        return Err(Refusal {
+            number: numbers::NUMBER_NOT_ABOVE,
+            place: book.len(),
+        });
+    }
+    Ok(())
+}
+
+// Writes the record of an addition whose message is accepted and has a tape of n codes, from place
+// i on, and tells where it ends. The tape is put straight to its place, right before that end.
+fn write_record(addition: Addition, out: &mut [u8], i: usize, n: usize) -> usize
+    requires { RecordDue addition.message.now out.old i addition.number n }
+    ensures { Put (record_of book_storage (phrase_of book_storage (asked addition.entry)))
         out.old out.new result i }
 {
-    let end = put_head(out, i, number, set, n) + n;
-    let tables = lay_tables();
-    write_tape(edition, m, out, end, &tables.bytes, &tables.sounds);
+    let end = put_head(out, i, addition.number as usize, addition.set, n) + n;
+    write_tape(addition.edition, addition.message, out, end);
     end
 }
 
 // Dispatch's addition: puts the record behind the book and answers the new used count, or refuses
 // and leaves every byte.
-fn append(
-    edition: Edition,
-    buffer: &mut [u8],
-    used: usize,
-    number: u16,
-    set: u8,
-    m: &[u8],
-) -> Answer
-    ensures { AddPromise book_storage Listener.Dispatch buffer.old used (record {
-      edition = edition;
-      number = number;
-      set = set;
-      message = m.now;
-    })
+fn append(buffer: &mut [u8], used: usize, addition: Addition) -> Result<Written, Refusal>
+    ensures { AddPromise book_storage Listener.Dispatch buffer.old used (asked addition.entry)
         buffer.new result }
 {
-    let checked = check(m);
-    let Checked::Accepted(counts) = checked else {
-        return refused(checked);
-    };
+    let counts = check(addition.message)?;
     let end = book_end(buffer, used);
-    let judged = judge(&buffer[..end], number as usize);
-    let Answer::Written { length: _, live: _ } = judged else {
-        return judged;
-    };
-    let n = counts.codes;
-    let total = end + records::HEAD_SIZE + n;
+    judge(&buffer[..end], addition.number as usize)?;
+    let total = end + records::HEAD_SIZE + counts.codes;
     if buffer.len() < total {
-        return Answer::Refused(Refusal {
+        return Err(Refusal {
             number: numbers::SHORT_OUTPUT,
             place: total,
         });
     }
-    let length = write_record(edition, m, buffer, end, number as usize, set, n);
-    Answer::Written { length, live: 0 }
+    let length = write_record(addition, buffer, end, counts.codes);
+    Ok(Written { length, live: 0 })
 }
 
 // The writer: adds the tape of a message, in an edition, under a number and for a set of listeners,
@@ -105,24 +77,15 @@ fn append(
 #[tactic(auto, using(crate::proofs::TurnedAway::turned_away))]
 pub fn add(
     listener: Listener,
-    edition: Edition,
     buffer: &mut [u8],
     used: usize,
-    number: u16,
-    set: u8,
-    m: &[u8],
-) -> Answer
-    ensures { AddPromise book_storage listener buffer.old used (record {
-      edition = edition;
-      number = number;
-      set = set;
-      message = m.now;
-    })
+    addition: Addition,
+) -> Result<Written, Refusal>
+    ensures { AddPromise book_storage listener buffer.old used (asked addition.entry)
         buffer.new result }
 {
     match listener {
-        Listener::Pump => Answer::Refused(not_for_listener()),
-        Listener::Road => Answer::Refused(not_for_listener()),
-        Listener::Dispatch => append(edition, buffer, used, number, set, m),
+        Listener::Dispatch => append(buffer, used, addition),
+        Listener::Pump | Listener::Road => Err(not_for_listener()),
     }
 }

@@ -3,38 +3,37 @@ use Rattle.laws.proofs.Kit.{ℕ, ◌≡◌, refl, cond, List, [], ◌∷◌, ari
 use Rattle.spec.specs.Answers.{number_of, length_of, output_after}
 use Rattle.spec.specs.Book.{Phrase, book_storage, NewPhrase, phrase_of, after_listener, add_answer, AddPromise}
 use Rattle.spec.specs.BookDemands.{Addition, used_after, added_by, OneByOne, last_buffer, last_used, accepted}
-use Rattle.spec.specs.{declared.Listener.Listener, declared.Listener.TheVariants.Pump, declared.Answer.Answer}
-use Rattle.spec.specs.{declared.Answer.TheVariants.Written, declared.Answer.TheVariants.Refused}
+use Rattle.spec.specs.{declared.Listener.Listener, declared.Listener.TheVariants.Pump, Results.Answer}
 use Rattle.laws.proofs.Additions.{Numbered, add_numbered, additions_located}
 use Rattle.capi.specs.Said.{SaidAdded, named, AddsFor, Call, count_after, CallByCall, buffer_after_all}
 use Rattle.capi.specs.Said.{count_after_all, accepted_calls, AdditionsInC}
-use Rattle.capi.specs.{declared.GovorunAdded.GovorunAdded, declared.Named.Named, declared.Named.TheVariants.Known}
-use Rattle.capi.specs.{declared.Named.TheVariants.Other}
+use Rattle.capi.specs.declared.GovorunAdded.{GovorunAdded}
+use Rattle.std.proofs.Common.{Option, Some, None, Ok, Err}
 
 -- Who is no listener is turned away as pump crews are.
-abbrev caller : Named → Listener
-caller (Known l) = l
-caller Other = Pump
+abbrev caller : Option Listener → Listener
+caller (Some l) = l
+caller None = Pump
 
-as_caller : (who : Named) (buffer : List ℕ) (used : ℕ) (x : NewPhrase) {buffer' : List ℕ} {a : Answer}
+as_caller : (who : Option Listener) (buffer : List ℕ) (used : ℕ) (x : NewPhrase) {buffer' : List ℕ} {a : Answer}
     → AddsFor who buffer used x buffer' a → AddPromise book_storage (caller who) buffer used x buffer' a
 unfolding add_answer after_listener output_after
-as_caller (Known l) buffer used x p = p
-as_caller Other buffer used x p =
+as_caller (Some l) buffer used x p = p
+as_caller None buffer used x p =
     record { answer = p.answer; output = p.output; number = p.number; place = p.place; length = p.length; live = p.live }
 
 -- what is said of an answer that has a number where it is a refusal
 count_said : (a : Answer) (used : ℕ) {r : GovorunAdded} → Numbered a → SaidAdded a r
     → used_after a used ≡ cond (eqb r.number 0) r.used used
 unfolding used_after number_of length_of
-count_said (Written n k) used h s = rw (s.number, s.used) refl
-count_said (Refused x) used h s = rw (s.number, ne_eqb x.number 0 (λ e. omega (arith, h, e))) refl
+count_said (Ok w) used h s = rw (s.number, s.used) refl
+count_said (Err x) used h s = rw (s.number, ne_eqb x.number 0 (λ e. omega (arith, h, e))) refl
 
 added_said : (a : Answer) (f : Phrase) (fs : List Phrase) {r : GovorunAdded} → Numbered a → SaidAdded a r
     → added_by a f fs ≡ cond (eqb r.number 0) (f ∷ fs) fs
 unfolding added_by number_of
-added_said (Written n k) f fs h s = rw s.number refl
-added_said (Refused x) f fs h s = rw (s.number, ne_eqb x.number 0 (λ e. omega (arith, h, e))) refl
+added_said (Ok w) f fs h s = rw s.number refl
+added_said (Err x) f fs h s = rw (s.number, ne_eqb x.number 0 (λ e. omega (arith, h, e))) refl
 
 -- The calls as additions.
 record Additions (buffer : List ℕ) (used : ℕ) (calls : List Call) : Type 0 where

@@ -3,13 +3,12 @@
 use Rattle.laws.proofs.Kit.{ℕ, ◌≡◌, refl, sym, ◌∙◌, List, take, drop}
 use Rattle.spec.specs.Book.{book_storage, book_in, Heard, nothing, aloud, tape_after, placed, locate_answer, part_at, unheard}
 use Rattle.spec.specs.Book.{LocatePromise}
-use Rattle.spec.specs.{Answers.Carried, BookDemands.AgreeFor, declared.Listener.Listener, declared.Located.Located}
-use Rattle.spec.specs.declared.Located.TheVariants.{At, Refused}
+use Rattle.spec.specs.{Answers.Carried, BookDemands.AgreeFor, declared.Listener.Listener, Results.Located}
 use Rattle.laws.proofs.{Book.sound_read, Lookup.heard_same}
 use Rattle.capi.specs.Said.{SaidFound, number_found, place_found, is_found, start_found, length_found, named, FindsFor, AgreeIn, SaidAlike}
 use Rattle.capi.specs.Said.{SilenceInC}
-use Rattle.capi.specs.{declared.GovorunFound.GovorunFound, declared.Named.Named}
-use Rattle.capi.specs.declared.Named.TheVariants.{Known, Other}
+use Rattle.capi.specs.declared.GovorunFound.{GovorunFound}
+use Rattle.std.proofs.Common.{Option, Some, None, Ok, Err}
 
 -- all numbers that are said of an answer but the start
 abbrev Same : Located → Located → Type 0
@@ -23,8 +22,8 @@ placed_same start start₂ (aloud t) = (refl, refl, refl, refl)
 -- and the bytes that they tell of
 part_said : (a : Located) (buffer : List ℕ) → take (length_found a) (drop (start_found a) buffer) ≡ part_at a buffer
 unfolding start_found length_found part_at
-part_said (At start n) buffer = refl
-part_said (Refused r) buffer = refl
+part_said (Ok s) buffer = refl
+part_said (Err r) buffer = refl
 
 said_alike : {buffer buffer₂ : List ℕ} {a a₂ : Located} {r r₂ : GovorunFound} → Same a a₂ → part_at a buffer ≡ part_at a₂ buffer₂
     → SaidFound a r → SaidFound a₂ r₂ → SaidAlike buffer buffer₂ r r₂
@@ -53,11 +52,11 @@ pub silence_in_c : (listener : ℕ) (buffer : List ℕ) (used : ℕ) (buffer₂ 
     → SilenceInC listener buffer used buffer₂ used₂
 unfolding unheard part_at
 silence_in_c listener buffer used buffer₂ used₂ = of (named listener) where
-  of : (who : Named) → AgreeIn who (book_in buffer used) (book_in buffer₂ used₂) → (n : ℕ) (r r₂ : GovorunFound)
+  of : (who : Option Listener) → AgreeIn who (book_in buffer used) (book_in buffer₂ used₂) → (n : ℕ) (r r₂ : GovorunFound)
       → Carried (FindsFor who buffer used n) SaidFound r → Carried (FindsFor who buffer₂ used₂ n) SaidFound r₂
       → SaidAlike buffer buffer₂ r r₂
-  of (Known l) g n r r₂ k k₂ = let w = located_same g k.promise k₂.promise in said_alike w.0 w.1 k.said k₂.said
-  of Other g n r r₂ k k₂ =
+  of (Some l) g n r r₂ k k₂ = let w = located_same g k.promise k₂.promise in said_alike w.0 w.1 k.said k₂.said
+  of None g n r r₂ k k₂ =
       let e = rw (sound_read book_storage g.sound) at k.promise in
       let e₂ = rw (sound_read book_storage g.sound₂) at k₂.promise in
       said_alike (rw (e, e₂) (refl, refl, refl, refl)) (rw (e, e₂) refl) k.said k₂.said

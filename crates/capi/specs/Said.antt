@@ -1,7 +1,7 @@
 -- What the C interface says of an answer: the paper's four numbers; of the editor's, the reader's
 -- and an addition's three, since no cut is live there; and of a lookup's five.
 -- Assumes nothing: these are definitions.
-use Rattle.std.specs.Prelude.{ℕ, ◌<◌, ◌≡◌, Bool, cond, List, [], ◌∷◌, eqb, take, drop}
+use Rattle.std.specs.Prelude.{ℕ, ◌<◌, ◌≡◌, Bool, cond, List, [], ◌∷◌, eqb, take, drop, Option, Some, None, Ok, Err}
 use Rattle.spec.specs.Answers.{number_of, place_of, length_of, live_of, checked_number}
 use Rattle.spec.specs.Answers.{checked_place}
 use Rattle.spec.specs.Answers.{checked_codes, checked_names, Promise, Carried}
@@ -12,18 +12,13 @@ use Rattle.spec.specs.BookDemands.{HoldsLocated, BothSound, AgreeFor}
 use Rattle.spec.specs.declared.Edition.{Edition}
 use Rattle.spec.specs.declared.Edition.TheVariants.{One, Two}
 use Rattle.spec.specs.declared.Listener.TheVariants.{Pump, Road, Dispatch}
-use Rattle.spec.specs.declared.Answer.{Answer}
-use Rattle.spec.specs.declared.Answer.TheVariants as answer
-use Rattle.spec.specs.declared.Checked.{Checked}
-use Rattle.spec.specs.declared.Located.{Located}
-use Rattle.spec.specs.declared.Located.TheVariants.{At, Refused}
+use Rattle.spec.specs.declared.Listener.{Listener}
+use Rattle.spec.specs.Results.{Checked, Answer, Located}
 use Rattle.capi.specs.declared.GovorunAnswer.{GovorunAnswer}
 use Rattle.capi.specs.declared.GovorunCounts.{GovorunCounts}
 use Rattle.capi.specs.declared.GovorunText.{GovorunText}
 use Rattle.capi.specs.declared.GovorunAdded.{GovorunAdded}
 use Rattle.capi.specs.declared.GovorunFound.{GovorunFound}
-use Rattle.capi.specs.declared.Named.{Named}
-use Rattle.capi.specs.declared.Named.TheVariants.{Known, Other}
 
 -- the four numbers of an answer
 pub record Said (a : Answer) (r : GovorunAnswer) : Type 0 where
@@ -54,24 +49,24 @@ pub record SaidAdded (a : Answer) (r : GovorunAdded) : Type 0 where
 -- the five numbers of a lookup: 0 and 0 where it is not refused, whether there is a tape, and where
 -- it begins and how long it is, 0 and 0 where there is none
 unfoldable pub number_found : Located → ℕ
-number_found (At start n) = 0
-number_found (Refused r) = r.number
+number_found (Ok s) = 0
+number_found (Err r) = r.number
 
 unfoldable pub place_found : Located → ℕ
-place_found (At start n) = 0
-place_found (Refused r) = r.place
+place_found (Ok s) = 0
+place_found (Err r) = r.place
 
 unfoldable pub is_found : Located → ℕ
-is_found (At start n) = 1
-is_found (Refused r) = 0
+is_found (Ok s) = 1
+is_found (Err r) = 0
 
 unfoldable pub start_found : Located → ℕ
-start_found (At start n) = start
-start_found (Refused r) = 0
+start_found (Ok s) = s.start
+start_found (Err r) = 0
 
 unfoldable pub length_found : Located → ℕ
-length_found (At start n) = n
-length_found (Refused r) = 0
+length_found (Ok s) = s.length
+length_found (Err r) = 0
 
 pub record SaidFound (a : Located) (r : GovorunFound) : Type 0 where
   pub number : r.number ≡ number_found a
@@ -86,21 +81,21 @@ edition newer = cond newer Two One
 
 -- whom a number names: 0 pump crews, 1 road crews, 2 dispatch, and any other number someone who is
 -- no listener
-abbrev pub named : ℕ → Named
+abbrev pub named : ℕ → Option Listener
 named n =
-    cond (eqb n 0) (Known Pump)
-    (cond (eqb n 1) (Known Road)
-    (cond (eqb n 2) (Known Dispatch) Other))
+    cond (eqb n 0) (Some Pump)
+    (cond (eqb n 1) (Some Road)
+    (cond (eqb n 2) (Some Dispatch) None))
 
 -- A lookup by him. Who is no listener may hear nothing.
-abbrev pub FindsFor : Named → List ℕ → ℕ → ℕ → Located → Type 0
-FindsFor (Known l) buffer used n r = LocatePromise l buffer used n r
-FindsFor Other buffer used n r = r ≡ Refused (unheard (read_book book_storage (book_in buffer used)))
+abbrev pub FindsFor : Option Listener → List ℕ → ℕ → ℕ → Located → Type 0
+FindsFor (Some l) buffer used n r = LocatePromise l buffer used n r
+FindsFor None buffer used n r = r ≡ Err (unheard (read_book book_storage (book_in buffer used)))
 
 -- An addition by him. Who is no listener may add nothing, and meets 17 with every byte left.
-abbrev pub AddsFor : Named → List ℕ → ℕ → NewPhrase → List ℕ → Answer → Type 0
-AddsFor (Known l) buffer used x buffer' r = AddPromise book_storage l buffer used x buffer' r
-AddsFor Other buffer used x buffer' r = Promise (answer.Refused withheld) [] buffer buffer' r
+abbrev pub AddsFor : Option Listener → List ℕ → ℕ → NewPhrase → List ℕ → Answer → Type 0
+AddsFor (Some l) buffer used x buffer' r = AddPromise book_storage l buffer used x buffer' r
+AddsFor None buffer used x buffer' r = Promise (Err withheld) [] buffer buffer' r
 
 -- Request 6, the list of additions in C. One call of govorun_book_add: whom the caller names and
 -- what he asks for, what is said to him, and what the buffer holds afterwards.
@@ -154,9 +149,9 @@ AdditionsInC buffer calls = CallByCall buffer 0 calls
 
 -- Request 7, the law of silence in C. Two sound books agree in what the one who is named may hear;
 -- where he is no listener, it is enough that both are sound.
-abbrev pub AgreeIn : Named → List ℕ → List ℕ → Type 0
-AgreeIn (Known l) book book₂ = AgreeFor book_storage l book book₂
-AgreeIn Other book book₂ = BothSound book_storage book book₂
+abbrev pub AgreeIn : Option Listener → List ℕ → List ℕ → Type 0
+AgreeIn (Some l) book book₂ = AgreeFor book_storage l book book₂
+AgreeIn None book book₂ = BothSound book_storage book book₂
 
 -- Then what is said to him of a number is the same, but for the start, and so are the bytes that it
 -- tells of.

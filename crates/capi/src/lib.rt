@@ -13,7 +13,7 @@ ghost use Rattle.laws.specs.Bounds.{Small, SmallCheck};
 ghost use Rattle.capi.specs.Said.{Said, Counted, Told, SaidAdded, SaidFound};
 ghost use Rattle.capi.specs.Said.{edition, named, FindsFor, AddsFor};
 
-use book::adding::add;
+use book::adding::{Addition, add};
 use book::lookup::{locate, refuse};
 use editor::edit;
 use joiner::join::join;
@@ -21,7 +21,7 @@ use levels::speak_level;
 use message::check::check;
 use naming::name;
 use records::listeners::not_for_listener;
-use spec::{Answer, Checked, Edition, Listener, Located};
+use spec::{Counts, Edition, Listener, Refusal, Span, Written};
 use transcriber::tape::transcribe;
 use utf8::reader::read_utf8;
 use utf8::writer::write_utf8;
@@ -65,24 +65,27 @@ pub struct GovorunAdded {
 pub struct GovorunFound {
     pub number: u32,
     pub place: usize,
+    // Callers have this field, so it stays.
     pub found: u32,
     pub start: usize,
     pub length: usize,
 }
 
-// The check's answer in four numbers, each of which fits.
-fn count(a: Checked) -> GovorunCounts
+// The check's answer in four numbers, each of which fits. Not by From, which can ask for nothing.
+// Each of C's structs has fields of its own, so this and the conversions below stay apart.
+#[tactic(auto, unfolding(spec::specs::Answers::checked_number, spec::specs::Answers::checked_place, spec::specs::Answers::checked_codes, spec::specs::Answers::checked_names))]
+fn count(a: Result<Counts, Refusal>) -> GovorunCounts
     requires { SmallCheck a }
     ensures { Counted a result }
 {
     match a {
-        Checked::Accepted(counts) => GovorunCounts {
+        Ok(counts) => GovorunCounts {
             number: 0,
             place: 0,
             codes: counts.codes as u32,
             names: counts.names as u32,
         },
-        Checked::Refused(r) => GovorunCounts {
+        Err(r) => GovorunCounts {
             number: r.number as u32,
             place: r.place as u32,
             codes: 0,
@@ -99,18 +102,19 @@ pub extern "C" fn govorun_check(m: &[u8]) -> GovorunCounts
 }
 
 // The same of an operation's answer.
-fn say(a: Answer) -> GovorunAnswer
+#[tactic(auto, unfolding(spec::specs::Answers::number_of, spec::specs::Answers::place_of, spec::specs::Answers::length_of, spec::specs::Answers::live_of))]
+fn say(a: Result<Written, Refusal>) -> GovorunAnswer
     requires { Small a }
     ensures { Said a result }
 {
     match a {
-        Answer::Written { length, live } => GovorunAnswer {
+        Ok(written) => GovorunAnswer {
             number: 0,
             place: 0,
-            length: length as u32,
-            live: live as u32,
+            length: written.length as u32,
+            live: written.live as u32,
         },
-        Answer::Refused(r) => GovorunAnswer {
+        Err(r) => GovorunAnswer {
             number: r.number as u32,
             place: r.place as u32,
             length: 0,
@@ -126,7 +130,8 @@ pub extern "C" fn govorun_name(m: &[u8], out: &mut [u8]) -> GovorunAnswer
     say(name(m, out))
 }
 
-// The edition that a caller in C names.
+// The edition that a caller in C names. Not by From, which would stand beside the type, in the
+// crate that has no function.
 fn edition_of(newer: bool) -> Edition
     ensures { result ≡ edition newer }
 {
@@ -172,20 +177,23 @@ pub extern "C" fn govorun_speak_level(level: i32, out: &mut [u8]) -> GovorunAnsw
 }
 
 // The answer for a text in three numbers, which may be as large as it is long.
-fn tell(a: Answer) -> GovorunText
-    ensures { Told a result }
-{
-    match a {
-        Answer::Written { length, live: _ } => GovorunText {
-            number: 0,
-            place: 0,
-            length,
-        },
-        Answer::Refused(r) => GovorunText {
-            number: r.number as u32,
-            place: r.place,
-            length: 0,
-        },
+impl From<Result<Written, Refusal>> for GovorunText {
+    ghost from_gives = { Told };
+
+    #[tactic(auto, unfolding(spec::specs::Answers::number_of, spec::specs::Answers::place_of, spec::specs::Answers::length_of))]
+    fn from(a: Result<Written, Refusal>) -> GovorunText {
+        match a {
+            Ok(written) => GovorunText {
+                number: 0,
+                place: 0,
+                length: written.length,
+            },
+            Err(r) => GovorunText {
+                number: r.number as u32,
+                place: r.place,
+                length: 0,
+            },
+        }
     }
 }
 
@@ -193,44 +201,40 @@ fn tell(a: Answer) -> GovorunText
 pub extern "C" fn govorun_edit(text: &[u8], out: &mut [u8]) -> GovorunText
     ensures { Carried (EditPromise text.now out.old out.new) Told result }
 {
-    tell(edit(text, out))
+    GovorunText::from(edit(text, out))
 }
 
 #[unsafe(no_mangle)]
 pub extern "C" fn govorun_read_utf8(text: &[u8], out: &mut [u8]) -> GovorunText
     ensures { Carried (ReadPromise text.now out.old out.new) Told result }
 {
-    tell(read_utf8(text, out))
+    GovorunText::from(read_utf8(text, out))
 }
 
 // An addition's answer, where the length is the new used count.
-fn tell_added(a: Answer) -> GovorunAdded
-    ensures { SaidAdded a result }
-{
-    let t = tell(a);
-    GovorunAdded {
-        number: t.number,
-        place: t.place,
-        used: t.length,
+impl From<Result<Written, Refusal>> for GovorunAdded {
+    ghost from_gives = { SaidAdded };
+
+    fn from(a: Result<Written, Refusal>) -> GovorunAdded {
+        let t = GovorunText::from(a);
+        GovorunAdded {
+            number: t.number,
+            place: t.place,
+            used: t.length,
+        }
     }
 }
 
-// Whom a caller in C names: a listener, or someone who is none.
-#[derive(Clone, Copy)]
-pub enum Named {
-    Known(Listener),
-    Other,
-}
-
-// The listeners are numbered; no other number is a listener's.
-fn named_by(number: u32) -> Named
+// Whom a caller in C names. The listeners are numbered; no other number is a listener's. Not by
+// TryFrom, for the same reason.
+fn named_by(number: u32) -> Option<Listener>
     ensures { result ≡ named number }
 {
     match number {
-        0 => Named::Known(Listener::Pump),
-        1 => Named::Known(Listener::Road),
-        2 => Named::Known(Listener::Dispatch),
-        _ => Named::Other,
+        0 => Some(Listener::Pump),
+        1 => Some(Listener::Road),
+        2 => Some(Listener::Dispatch),
+        _ => None,
     }
 }
 
@@ -253,30 +257,41 @@ pub extern "C" fn govorun_book_add(
         book.new) SaidAdded result }
 {
     match named_by(listener) {
-        Named::Known(l) => tell_added(add(l, edition_of(newer), book, used, phrase, set, m)),
-        Named::Other => tell_added(Answer::Refused(not_for_listener())),
+        Some(l) => {
+            let addition = Addition {
+                edition: edition_of(newer),
+                number: phrase,
+                set,
+                message: m,
+            };
+            GovorunAdded::from(add(l, book, used, addition))
+        }
+        None => GovorunAdded::from(Err(not_for_listener())),
     }
 }
 
 // A lookup's answer: found is 1 where there is a tape.
-fn tell_found(a: Located) -> GovorunFound
-    ensures { SaidFound a result }
-{
-    match a {
-        Located::At { start, length } => GovorunFound {
-            number: 0,
-            place: 0,
-            found: 1,
-            start,
-            length,
-        },
-        Located::Refused(refusal) => GovorunFound {
-            number: refusal.number as u32,
-            place: refusal.place,
-            found: 0,
-            start: 0,
-            length: 0,
-        },
+impl From<Result<Span, Refusal>> for GovorunFound {
+    ghost from_gives = { SaidFound };
+
+    #[tactic(auto, unfolding(crate::specs::Said::number_found, crate::specs::Said::place_found, crate::specs::Said::is_found, crate::specs::Said::start_found, crate::specs::Said::length_found))]
+    fn from(a: Result<Span, Refusal>) -> GovorunFound {
+        match a {
+            Ok(span) => GovorunFound {
+                number: 0,
+                place: 0,
+                found: 1,
+                start: span.start,
+                length: span.length,
+            },
+            Err(refusal) => GovorunFound {
+                number: refusal.number as u32,
+                place: refusal.place,
+                found: 0,
+                start: 0,
+                length: 0,
+            },
+        }
     }
 }
 
@@ -290,7 +305,7 @@ pub extern "C" fn govorun_book_find(
     ensures { Carried (FindsFor (named listener) book.now used phrase) SaidFound result }
 {
     match named_by(listener) {
-        Named::Known(l) => tell_found(locate(l, book, used, phrase)),
-        Named::Other => tell_found(Located::Refused(refuse(book, used))),
+        Some(l) => GovorunFound::from(locate(l, book, used, phrase)),
+        None => GovorunFound::from(Err(refuse(book, used))),
     }
 }

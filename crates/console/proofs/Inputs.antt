@@ -1,11 +1,15 @@
--- What is read in turn stands together in the text, and the reader has lost it.
-use Rattle.std.proofs.Common.{ℕ, suc, true, false, true≢false, IsTrue, ◌↔◌, ◌≢◌, ◌+◌, ◌-◌, ◌<◌, ◌≤◌, ◌≡◌, List, [], ◌++◌, IfSome, length}
+-- What is read in turn stands together in the buffer, and the reader has lost it; what is made of that and printed.
+use Rattle.std.proofs.Common.{ℕ, suc, ◌+◌, ◌-◌, ◌<◌, ◌≤◌, ◌≡◌, List, [], ◌++◌, IfSome, IfOk, Result, Ok, Err, length}
 use Rattle.std.proofs.Common.{take, drop, arith, refl, sym, ap, subst, ◌∙◌, append-nil}
 use Rattle.laws.proofs.Kit.{⊎_elim, take_all, take_at}
 use Rattle.laws.proofs.{Classes.below_or}
 use Rattle.std.specs.declared.option.Option.{Option}
 use Rattle.std.specs.declared.option.Option.TheVariants.{None, Some}
 use Rattle.std.specs.Io.KnownBytes.{Appends, Consumes, IsAtEnd}
+use Rattle.std.specs.Fn.{Once, FnOnceReturnsAt}
+use Rattle.std.specs.Borrow.{Bor}
+use Rattle.arrayvec.specs.ArrayVec.{ArrayVec}
+use Rattle.console.specs.Reading.{Takes, EndsOrFills, Makes}
 use Rattle.std.proofs.KnownBytes.{Consumes-trans}
 use Rattle.std.proofs.lemmas.List.{length-append, length-take-le, take-append-le}
 use Rattle.std.proofs.Math.Seq.{take-append-add}
@@ -36,26 +40,53 @@ takes_more n m text part old now new h k before read = (
   subst (Consumes old new) (sym (reaches n m text part h k)) (Consumes-trans old now new (take n text) (take m part) before read),
 )
 
--- What was read of a known input is all of it, or as much as the text has room for.
-heard : (most n : ℕ) (buffer t rest : List ℕ) → length buffer ≡ suc most → n ≤ length buffer
-    → t ≡ take n buffer ++ rest → (n < length buffer → rest ≡ [])
-    → take (suc most) t ≡ take n buffer
-heard most n buffer t rest long h lost end =
+-- What was read of a known input is all of it, or as much as the buffer has room for,
+pub heard : (n : ℕ) (buffer : List ℕ) (old now : Option (List ℕ)) → n ≤ length buffer
+    → Takes n old now buffer → EndsOrFills n now buffer → IfSome old (λ t. take n buffer ≡ take (length buffer) t)
+heard n buffer None now h read end = tt
+heard n buffer (Some t) None h read end = absurd read
+heard n buffer (Some t) (Some rest) h read end =
     let l = length-take-le n buffer h in
-    rw lost (⊎_elim
-    (λ (short : n < length buffer). rw (end short, append-nil) (take_all (suc most) (take n buffer) (omega arith)))
-    (λ (full : length buffer ≤ n). take_at (take n buffer) rest (suc most) (omega arith))
+    rw read (⊎_elim
+    (λ (short : n < length buffer). rw (end short, append-nil) (sym (take_all (length buffer) (take n buffer) (omega arith))))
+    (λ (full : length buffer ≤ n). sym (take_at (take n buffer) rest (length buffer) (omega arith)))
     (below_or n (length buffer)))
 
--- So where all inputs are printed as what is kept of them, what is printed for that is what is printed for the input.
+-- so the text that is made of what was read is made of that much of the input.
+pub text_made : {F : Type 0} (g : Once F (Bor (List ℕ) × Unit {0}) (ArrayVec ℕ)) (f : F) (P : List ℕ → Type 0) (size : ℕ)
+    (old : Option (List ℕ)) (p : Bor (List ℕ)) (text : ArrayVec ℕ) → g.post f (p, tt) text
+    → IfSome old (λ t. p.now ≡ take size t) → P text.items → IfSome old (λ t. Makes g f (take size t) P)
+text_made g f P size None p text r e h = tt
+text_made g f P size (Some t) p text r e h = record { text = text; made = (p, r, e); met = h }
+
+-- Where no more than so much of any input tells what is printed, the text is what is printed for the input.
+module _ {F : Type 0} (g : Once F (Bor (List ℕ) × Unit {0}) (ArrayVec ℕ)) (f : F) (size : ℕ) (print : List ℕ → List ℕ) (most : ℕ)
+    (kept : (n : ℕ) → most < n → (t : List ℕ) → print (take n t) ≡ print t) (more : most < size)
+    (prints : (t : List ℕ) (text : ArrayVec ℕ) → FnOnceReturnsAt g f t text → text.items ≡ print t) where
+  pub prints_for : (P : List ℕ → Type 0) (old : Option (List ℕ))
+      → IfSome old (λ t. Makes g f (take size t) P) → IfSome old (λ t. P (print t))
+  prints_for P None h = tt
+  prints_for P (Some t) h = rw (← kept size more t, ← prints _ h.text h.made) h.met
+
+  pub answer_for : {T E : Type 0} (P : T → List ℕ → Type 0) (old : Option (List ℕ)) (r : Result T E)
+      → IfOk r (λ v. IfSome old (λ t. Makes g f (take size t) (P v))) → IfOk r (λ v. IfSome old (λ t. P v (print t)))
+  answer_for P old (Ok v) h = prints_for (P v) old h
+  answer_for P old (Err e) h = tt
+
+-- Nothing more is written of no text.
+pub none_more : (known : Option (List ℕ)) (text : List ℕ) → text ≡ [] → Appends known known text
+none_more None text e = tt
+none_more (Some held) text e = rw (e, append-nil) refl
+
+-- The same of a text as a list: where all inputs are printed as what is kept of them, what is printed for that is what is printed for the
+-- input.
 pub printed_for : (print : List ℕ → List ℕ) (most : ℕ) → ((t : List ℕ) → print (take (suc most) t) ≡ print t)
     → (old now : Option (List ℕ)) (n : ℕ) (buffer : List ℕ) → length buffer ≡ suc most → n ≤ length buffer
     → Consumes old now (take n buffer) → (n < length buffer → IsAtEnd now)
     → (text : List ℕ) → text ≡ print (take n buffer) → IfSome old (λ t. text ≡ print t)
 printed_for print most kept None now n buffer long h read end text e = tt
-printed_for print most kept (Some t) None n buffer long h read end text e = absurd read
-printed_for print most kept (Some t) (Some rest) n buffer long h read end text e =
-    e ∙ ap print (sym (heard most n buffer t rest long h read end)) ∙ kept t
+printed_for print most kept (Some t) now n buffer long h read end text e =
+    e ∙ ap print (heard n buffer (Some t) now h read end) ∙ rw long (kept t)
 
 -- Where that was written, the output has grown by what is printed for the input,
 pub written : (print : List ℕ → List ℕ) (old before after : Option (List ℕ)) (text : List ℕ)
@@ -66,17 +97,4 @@ written print (Some t) before after text e w = subst (Appends before after) e w
 -- and so it has where nothing was written, since nothing is printed.
 pub nothing_written : (print : List ℕ → List ℕ) (old before : Option (List ℕ))
     → IfSome old (λ t. [] ≡ print t) → IfSome old (λ t. Appends before before (print t))
-nothing_written print None before e = tt
-nothing_written print (Some t) None e = tt
-nothing_written print (Some t) (Some held) e = rw (← e, append-nil) refl
-
--- That something was printed can be told by what was put.
-pub some_told : (print : List ℕ → List ℕ) (old : Option (List ℕ)) (text : List ℕ) → 0 < length text
-    → IfSome old (λ t. text ≡ print t) → IfSome old (λ t. IsTrue true ↔ (print t ≢ []))
-some_told print None text some e = tt
-some_told print (Some t) text some e = (λ y. λ z. absurd (omega (arith, ap length e, ap length z)), λ y. refl)
-
-pub none_told : (print : List ℕ → List ℕ) (old : Option (List ℕ))
-    → IfSome old (λ t. [] ≡ print t) → IfSome old (λ t. IsTrue false ↔ (print t ≢ []))
-none_told print None e = tt
-none_told print (Some t) e = (λ y. absurd (true≢false (sym y)), λ n. absurd (n (sym e)))
+nothing_written print old before e = written print old before before [] e (none_more before [] refl)

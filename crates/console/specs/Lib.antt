@@ -1,2 +1,2 @@
-pub mod Putting
+pub mod Complaints
 pub mod Reading

@@ -1,22 +1,23 @@
--- What came of standard input, as a number, and what was read of bytes that are known.
+-- What was read of bytes that are known, and what is made of it.
 -- Assumes nothing: these are definitions.
-use Rattle.std.specs.Prelude.{ℕ, ◌<◌, List, length, take, ⊤}
+use Rattle.std.specs.Prelude.{ℕ, ◌<◌, List, length, take}
 use Rattle.std.specs.Io.KnownBytes.{Consumes, IsAtEnd}
+use Rattle.std.specs.Fn.{Once, FnOnceReturnsAt}
+use Rattle.std.specs.Borrow.{Bor}
 use Rattle.std.specs.declared.option.Option.{Option}
-use Rattle.console.specs.declared.Input.{Input}
-use Rattle.console.specs.declared.Input.TheVariants.{Bytes, Failed}
+use Rattle.arrayvec.specs.ArrayVec.{ArrayVec}
 
--- how many bytes were read; a read that failed gives none
-abbrev pub read_of : Input → ℕ
-read_of (Bytes n) = n
-read_of Failed = 0
+-- bytes that were left begin with the first n of the buffer, and lose them
+abbrev pub Takes : ℕ → Option (List ℕ) → Option (List ℕ) → List ℕ → Type 0
+Takes n old new buffer = Consumes old new (take n buffer)
 
--- bytes that were left begin with those that stand in the text, and lose them
-abbrev pub Takes : Input → Option (List ℕ) → Option (List ℕ) → List ℕ → Type 0
-Takes (Bytes n) old new text = Consumes old new (take n text)
-Takes Failed old new text = ⊤
+-- none is left where the buffer has room for one
+abbrev pub EndsOrFills : ℕ → Option (List ℕ) → List ℕ → Type 0
+EndsOrFills n new buffer = n < length buffer → IsAtEnd new
 
--- none is left where the text has room for one
-abbrev pub EndsOrFills : Input → Option (List ℕ) → List ℕ → Type 0
-EndsOrFills (Bytes n) new text = n < length text → IsAtEnd new
-EndsOrFills Failed new text = ⊤
+-- f makes a text of the input, and its bytes are as P says
+pub record Makes {F : Type 0} (g : Once F (Bor (List ℕ) × Unit {0}) (ArrayVec ℕ)) (f : F)
+    (input : List ℕ) (P : List ℕ → Type 0) : Type 0 where
+  pub text : ArrayVec ℕ
+  pub made : FnOnceReturnsAt g f input text
+  pub met : P text.items

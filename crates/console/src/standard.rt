@@ -1,26 +1,59 @@
-// Standard input, read whole.
-ghost use Rattle.std.specs.Prelude.{◌≤◌, length};
-ghost use Rattle.console.specs.Reading.{read_of, Takes, EndsOrFills};
+// Standard input, read whole, and what a program prints for it.
+ghost use Rattle.std.specs.Prelude.{◌≡◌, ◌≢◌, ◌↔◌, ◌≤◌, [], IfOk, IfSome, IsErrOf, IsTrue, OnOk};
+ghost use Rattle.std.specs.Prelude.{length, take};
+ghost use Rattle.std.specs.Io.KnownBytes.{Appends};
+ghost use Rattle.console.specs.Reading.{Takes, EndsOrFills, Makes};
 
-use crate::Input;
-use std::io::Read;
+use crate::Failure;
+use crate::text::Text;
+use std::io::{Read, Write};
 
-// Reads until the input ends or the buffer is full. A read that fails is told from the end, so that
-// no part of a text passes for the whole.
-pub fn read_input<R: Read>(input: &mut R, text: &mut [u8]) -> Input
-    ensures within { read_of result ≤ length text.new }
-    ensures bytes { Takes result (R.remaining input.old) (R.remaining input.new) text.new }
-    ensures whole { EndsOrFills result (R.remaining input.new) text.new }
+// Reads until the input ends or the buffer is full, and answers how many bytes there are. A read
+// that fails is told from the end, so that no part of a text passes for the whole.
+pub fn read_input<R: Read>(input: &mut R, buffer: &mut [u8]) -> Result<usize, Failure>
+    ensures within { IfOk result (λ n. n ≤ length buffer.new) }
+    ensures bytes { IfOk result
+        (λ n. Takes n (R.remaining input.old) (R.remaining input.new) buffer.new) }
+    ensures whole { IfOk result (λ n. EndsOrFills n (R.remaining input.new) buffer.new) }
 {
     let mut n = 0;
-    while n < text.len() {
-        let Ok(more) = input.read(&mut text[n..]) else {
-            return Input::Failed;
-        };
+    // A `while`, since each read takes as many bytes as it likes, and no count of reads is known.
+    while n < buffer.len() {
+        let more = input.read(&mut buffer[n..]).map_err(|_| Failure::Unread)?;
         if more == 0 {
-            return Input::Bytes(n);
+            return Ok(n);
         }
         n += more;
     }
-    Input::Bytes(n)
+    Ok(n)
+}
+
+// Reads the input as far as the buffer goes, and writes the text for it in one piece, where there
+// is any. Answers whether there is. Nothing is written for an input that could not be read.
+// The answer is a bool, since `some` says by it whether there was a text, and programs complain so.
+pub fn print_input<R: Read, W: Write, F: FnOnce(&[u8]) -> Text>(
+    input: &mut R,
+    output: &mut W,
+    buffer: &mut [u8],
+    make_text: F,
+) -> Result<bool, Failure>
+    requires { F.IsAlwaysCallable make_text }
+    ensures text { OnOk result (IfSome (R.remaining input.old)
+        (λ t. Makes F.FnOnce make_text (take (length buffer.old) t)
+        (λ text. Appends (W.contents output.old) (W.contents output.new) text))) }
+    ensures some { IfOk result (λ some. IfSome (R.remaining input.old)
+        (λ t. Makes F.FnOnce make_text (take (length buffer.old) t)
+        (λ text. IsTrue some ↔ (text ≢ [])))) }
+    ensures unread { IsErrOf result Failure.Unread
+        → W.contents output.new ≡ W.contents output.old }
+{
+    let n = read_input(input, buffer)?;
+    let text = make_text(&buffer[..n]);
+    if text.is_empty() {
+        return Ok(false);
+    }
+    output
+        .write_all(text.as_slice())
+        .map_err(|_| Failure::Unwritten)?;
+    Ok(true)
 }

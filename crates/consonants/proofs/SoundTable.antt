@@ -1,10 +1,11 @@
--- The code's table by its rule: what it gives for a letter and a sound is the letter's code before that sound, by one computation over all
--- of them.
-use Rattle.laws.proofs.Kit.{ℕ, ◌+◌, ◌*◌, ◌%◌, ◌<◌, ◌≤◌, ◌≡◌, refl, true, cond, not, List, [], ◌∷◌}
+-- The code's table is its rule's, by one computation; and what the rule gives for a letter and a sound is the letter's code before that
+-- sound, by one over all of them.
+use Rattle.laws.proofs.Kit.{ℕ, ◌+◌, ◌*◌, ◌%◌, ◌<◌, ◌≤◌, ◌≡◌, refl, Bool, true, cond, not, List, [], ◌∷◌}
 use Rattle.laws.proofs.Kit.{arith, eqb, leb, get_or, eqb-true, leb-true}
 use Rattle.laws.proofs.Classes.{below_same, where_same, pairs_same}
 use Rattle.spec.specs.{Letters.small, Letters.is_consonant, Refusals.consonant_byte, Codes.is_sound_code}
 use Rattle.letters.proofs.Computed.{everything}
+use Rattle.consonants.specs.declared.tables.TheConstants.{SOUNDS}
 use Rattle.consonants.specs.Following.{acting, following_end, stepped, is_voiced, voices_over, following_by}
 use Rattle.consonants.specs.Sounds.{consonant_code, code_before, Heard, alike, row_in, soft_row, sound_row}
 use Rattle.consonants.specs.Sounds.{code_row, first_rows, sound_table}
@@ -18,6 +19,11 @@ follows = tt
 unfoldable pub table : Unit {0}
 unfolding everything is_sound_code follows consonant_code alike row_in soft_row sound_row code_row first_rows sound_table
 table = tt
+
+-- the numbers of the code are the rule's
+pub the_rule : SOUNDS ≡ sound_table
+unfolding table
+the_rule = refl
 
 -- the rows of sounds that act alike; the table has four more
 abbrev pub alike_rows : ℕ
@@ -49,12 +55,12 @@ abbrev in_row : ℕ → ℕ → ℕ
 in_row j s = get_or sound_table (row_number sound_table s * 4 + j) 0
 
 -- is the letter's code, and that of a consonant is a sound
-code_row_lem : (j s : ℕ) → j < 26 → s < 128
-    → (eqb (in_row j s) (code_before (224 + j) s) ∷ cond (is_consonant (224 + j)) (is_sound_code (in_row j s)) true ∷ []) ≡ (true ∷ true ∷ [])
+abbrev told : ℕ → ℕ → List Bool
+told j s = eqb (in_row j s) (code_before (224 + j) s) ∷ cond (is_consonant (224 + j)) (is_sound_code (in_row j s)) true ∷ []
+
+told_lem : (j s : ℕ) → j < 26 → s < 128 → told j s ≡ (true ∷ true ∷ [])
 unfolding table
-code_row_lem j s =
-    pairs_same (λ x y. eqb (in_row x y) (code_before (224 + x) y) ∷ cond (is_consonant (224 + x)) (is_sound_code (in_row x y)) true ∷ [])
-    (λ _ _. true ∷ true ∷ []) 26 128 j s refl
+told_lem j s = pairs_same told (λ _ _. true ∷ true ∷ []) 26 128 j s refl
 
 -- the small letter of a consonant byte is told by its last five bits
 consonant_letter : (b : ℕ) → b < 256 → consonant_byte b ≡ true → (224 + b % 32 ≡ small b) × (leb (b % 32) 25 ≡ true)
@@ -75,6 +81,6 @@ pub code_read : (t : List ℕ) (b s : ℕ) → t ≡ sound_table → b < 256 →
 unfolding consonant_byte
 code_read t b s e h k =
     let l = consonant_letter b h k.letter in
-    let r = rw (l.0, k.letter) at (code_row_lem (b % 32) s (omega (arith, leb-true (b % 32) 25 l.1)) k.sound) in
+    let r = rw (l.0, k.letter) at (told_lem (b % 32) s (omega (arith, leb-true (b % 32) 25 l.1)) k.sound) in
     let c : in_row (b % 32) s ≡ code_before (small b) s = eqb-true _ _ (cc) in
     rw e (record { row = leb-true _ last_row (row_low s k.sound); code = c; sound = rw (← c) (cc) })

@@ -4,14 +4,15 @@
 ghost use Rattle.std.specs.Prelude.{◌≡◌, cond, ◌+◌, ◌%◌};
 ghost use Rattle.spec.specs.Letters.{small};
 ghost use Rattle.consonants.specs.Following.{voices_over, following_by};
-ghost use Rattle.consonants.specs.Sounds.{Heard, code_before, sound_table};
+ghost use Rattle.consonants.specs.Sounds.{Heard, code_before};
 
-use tables::SoundTable;
+use tables::SOUNDS;
 
-pub mod tables;
+mod tables;
 
 // What stands right of a letter is a number: the code of the next sound of the word, or one of two
-// more where it has none, and then the next word decides how an obstruent sounds.
+// more where it has none, and then the next word decides how an obstruent sounds. It is an index
+// of the table: an enum would be turned into this number at each look-up.
 pub const VOICELESS_END: usize = 0;
 
 const VOICED_END: usize = 57;
@@ -20,21 +21,20 @@ const VOICED_END: usize = 57;
 const PALATALIZING: usize = 64;
 
 // The code of the consonant b, a small letter or a capital, before a sound.
-pub fn consonant_code(b: u8, sound: usize, s: &SoundTable) -> u8
-    requires { (s.now ≡ sound_table) × Heard b sound }
+pub fn consonant_code(b: u8, sound: usize) -> u8
+    requires { Heard b sound }
     ensures { result ≡ code_before (small b) sound }
 {
-    let row = s[tables::ROWS + sound] as usize;
-    s[row * tables::UNIT + (b % 32) as usize]
+    let row = SOUNDS[tables::ROWS + sound] as usize;
+    SOUNDS[row * tables::UNIT + (b % 32) as usize]
 }
 
 // What stands right of a word's last letter, where a gap and a word that begins with this sound
 // follow. No letter palatalizes across the gap.
-pub fn sound_over_gap(sound: usize, s: &SoundTable) -> usize
-    requires { s.now ≡ sound_table }
+pub fn sound_over_gap(sound: usize) -> usize
     ensures { result ≡ cond (voices_over (following_by (sound % 64))) 57 0 }
 {
-    if s[tables::ROWS + sound % PALATALIZING] < tables::NOT_VOICING {
+    if SOUNDS[tables::ROWS + sound % PALATALIZING] < tables::NOT_VOICING {
         return VOICED_END;
     }
     VOICELESS_END

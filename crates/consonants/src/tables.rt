@@ -1,7 +1,5 @@
-// The table of the sounds. specs/Sounds.antt has its rule, and that these numbers keep it is shown
-// here once; whoever walks a message makes a copy and lends it.
-ghost use Rattle.std.specs.Prelude.{◌≡◌};
-ghost use Rattle.consonants.specs.Sounds.{sound_table};
+// The table of the sounds. specs/Sounds.antt has its rule, and proofs/SoundTable.antt shows once
+// that these numbers keep it.
 
 // The rows of sounds that act alike: those of sounds that voice are the first of them.
 const VOICING_ROWS: usize = 6;
@@ -26,12 +24,10 @@ pub const ROWS: usize = ALL_ROWS * ROW;
 // There is one for each sound, twice: the next letter palatalizes or not.
 const SIZE: usize = ROWS + 128;
 
-pub type SoundTable = [u8; SIZE];
-
 // The codes of the letters а to ы before each kind of sound, a row each; then for each sound, which
-// is 64 more where its letter palatalizes, the number of its row. A row ends with ы: whoever makes
-// a copy lays it out, and a run of zeros to я would cost more than the codes do.
-const SOUNDS: SoundTable = [
+// is 64 more where its letter palatalizes, the number of its row. The last consonant is щ: two
+// letters more make a row's length a multiple of UNIT.
+pub static SOUNDS: [u8; SIZE] = [
     0, // а before Б
     16, // б before Б
     18, // в before Б
@@ -805,10 +801,3 @@ const SOUNDS: SoundTable = [
     154, // palatalizing unused 62
     154, // palatalizing unused 63
 ];
-
-// The table of sounds.
-pub fn sound_table() -> SoundTable
-    ensures { result ≡ sound_table }
-{
-    SOUNDS
-}

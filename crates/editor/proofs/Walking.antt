@@ -2,14 +2,16 @@
 use Rattle.laws.proofs.Kit.{ℕ, zero, suc, ◌+◌, ◌-◌, ◌<◌, ◌≤◌, arith, add-one, ◌≡◌, refl, sym, ap, ◌∙◌, ⊎_elim, Bool, true, false}
 use Rattle.laws.proofs.Kit.{true≢false, cond, ◌||◌, not, or-true, List, [], ◌∷◌, ◌++◌, append_assoc, eqb, length, take, drop, get_or, set}
 use Rattle.laws.proofs.Kit.{length-append, take-suc, get_or-drop, length-drop, drop-cons, drop_at, drop-length, drop-drop}
-use Rattle.laws.proofs.Kit.{drop_of_length-le, length-take-le, take-append-drop, take-add, get_or-take, not-true}
+use Rattle.laws.proofs.Kit.{length-take-le, take-append-drop, take-add, not-true}
+use Rattle.std.specs.List.{prefix_len}
+use Rattle.std.proofs.lemmas.List.Sums.{prefix_len_is}
 use Rattle.spec.specs.{Alphabet.gap, Alphabet.pause, Tables.among, Letters.is_break, Editing.pause_marks, Editing.gap_marks}
 use Rattle.spec.specs.{Editing.replaced, Editing.one_break, Editing.edited}
 use Rattle.laws.proofs.Edited.{begun, one_some, edited_walk}
 use Rattle.laws.specs.{Edited.breaks, Edited.put_wait, Edited.edit_from, Edited.leading, Putting.Put}
-use Rattle.laws.proofs.{Classes.either, Classes.below_or, Classes.break_both, Putting.put_none, Putting.put_at, Putting.put_behind}
-use Rattle.laws.proofs.{Putting.put_length, Putting.rest_of, Putting.rest_part, Putting.put_part}
-use Rattle.editor.specs.Walk.{others, Trailing, Last, LastWord, EndsInWord, run_from, ReadsRun, reads, piece, Goes}
+use Rattle.laws.proofs.{Classes.either, Classes.below_or, Classes.break_both, Putting.put_at, Putting.put_behind}
+use Rattle.laws.proofs.{Putting.put_none, Putting.put_length, Putting.rest_of, Putting.rest_part, Putting.put_part}
+use Rattle.editor.specs.Walk.{others, Last, LastWord, run_from, ReadsRun, reads, piece, Goes}
 use Rattle.editor.specs.{declared.Run.Run, declared.Stride.Stride}
 use Rattle.editor.proofs.Punctuation.{break_told, pause_told}
 
@@ -40,6 +42,12 @@ module _ (test : ℕ → Bool) where
   unfolding leading
   leading_first t {i} h e = either (test (get_or t i 0)) (λ q. q) (λ q. absurd (omega (arith, rw (drop-cons t i 0 h, q) at e)))
 
+  -- they are counted as the library counts them
+  pub leading_prefix : (t : List ℕ) → leading test t ≡ prefix_len test t
+  unfolding leading
+  leading_prefix [] = refl
+  leading_prefix (b ∷ t) = either (test b) (λ q. rw (q, leading_prefix t) (omega arith)) (λ q. rw q refl)
+
   -- A loop counts them: it stands at place k, and each byte before it led.
   abbrev pub Counting : List ℕ → ℕ → Type 0
   Counting t k = k + leading test (drop k t) ≡ leading test t
@@ -57,27 +65,31 @@ module _ (test : ℕ → Bool) where
     unfolding leading
     counting_more h q = let e = rw (drop-cons t k 0 h, q) at c in rw (add-one k) (omega (arith, e))
 
-    -- or it does not, or there is none
+    -- or it does not
     pub counting_stop : k < length t → test (get_or t k 0) ≡ false → k ≡ leading test t
     unfolding leading
     counting_stop h q = let e = rw (drop-cons t k 0 h, q) at c in omega (arith, e)
 
-    pub counting_end : length t ≤ k → k ≡ leading test t
-    unfolding leading
-    counting_end h = let e = rw (drop_of_length-le t h) at c in omega (arith, e)
+  -- all lead where each passes
+  leading_all_pass : (t : List ℕ) → ((k : ℕ) → k < length t → test (get_or t k 0) ≡ true) → leading test t ≡ length t
+  leading_all_pass t all =
+      leading_prefix t ∙ prefix_len_is test t (length t) 0 (omega arith) all (λ h. absurd (omega (arith, h)))
 
-  -- A loop goes back: behind a text nothing fails the test,
-  pub trailing_none : (t : List ℕ) → Trailing test t (length t)
-  unfolding leading
-  trailing_none t = record { within = omega arith; all = rw (drop-length t) refl }
+  -- A search from the end on: the last byte that fails the test is at place i,
+  pub last_found : (t : List ℕ) (i : ℕ) → i < length t → test (get_or t i 0) ≡ false
+      → ((k : ℕ) → i < k → k < length t → test (get_or t k 0) ≡ true) → Last test t (i + 1)
+  last_found t i h q all = record {
+    trailing = record {
+      within = omega arith;
+      all = leading_all_pass (drop (i + 1) t) (λ k l.
+          rw (get_or-drop (i + 1) t k 0) (all (i + 1 + k) (omega arith) (omega (arith, length-drop (i + 1) t))));
+    };
+    before = λ z. let e : i + 1 - 1 ≡ i = omega arith in rw e q;
+  }
 
-  -- and no more does from a byte on that passes it
-  pub trailing_more : {t : List ℕ} {i : ℕ} → Trailing test t i → 0 < i → test (get_or t (i - 1) 0) ≡ true → Trailing test t (i - 1)
-  unfolding leading
-  trailing_more {t} {i} r z q =
-      let e : suc (i - 1) ≡ i = omega arith in
-      let d = rw e at (drop-cons t (i - 1) 0 (omega (arith, r.within))) in
-      record { within = omega (arith, r.within); all = rw (d, q) (ap suc r.all) }
+  -- or none does
+  pub last_none : (t : List ℕ) → ((k : ℕ) → k < length t → test (get_or t k 0) ≡ true) → Last test t 0
+  last_none t all = record { trailing = record { within = omega arith; all = leading_all_pass t all }; before = λ z. absurd (omega arith) }
 
 -- The run's loop counts breaks, and what they become with those to come is what all become.
 pub record Running (t : List ℕ) (k becomes : ℕ) : Type 0 where
@@ -170,10 +182,6 @@ module _ (t : List ℕ) {w : ℕ} {r : Run} (e : w ≡ leading others t) (f : Re
       let g = rw (rest_part t w) at f in
       let l = put_length (take w t) out out₁ w 0 (omega arith) p in
       rw (← e, ← g.becomes) (put_behind (omega arith) p (put_at out₁ w r.becomes (omega arith)))
-
--- the run behind a word ends before the text does
-pub run_within : (t : List ℕ) {w : ℕ} → w ≡ leading others t → reads t < length t → leading breaks (rest_of t w) < length (rest_of t w)
-run_within t {w} e h = rw (rest_part t w) (rw e (omega (arith, length-drop (leading others t) t)))
 
 -- a text is not read in vain
 reads_some : (t : List ℕ) → 0 < length t → 0 < reads t
@@ -297,9 +305,6 @@ module _ {t out₀ out : List ℕ} {i at : ℕ} (w : Writing t out₀ out i at) 
   writing_kept : length out ≡ length out₀
   writing_kept = put_length w.done out₀ out at 0 (omega (arith, stands_most w.stands, w.room)) w.put
 
-  pub writing_at : at ≤ length out
-  writing_at = omega (arith, stands_most w.stands, w.room, writing_kept)
-
   module _ {last : ℕ} (l : LastWord t last) where
     -- a word and a break fit what is left of the output, and are put there
     module _ (h : i < last) where
@@ -357,13 +362,3 @@ module _ (t : List ℕ) {end from : ℕ} (e : Last breaks t end) (f : from ≡ l
   pub between_edited : edit_from 0 between ≡ edited t
   between_edited =
       rw (edited_walk t, ← between_begun) (sym (rw (take-append-drop end t) at (edited_behind (take end t) (drop end t) e.trailing.all)))
-
-  -- and it ends in a word
-  pub between_word : EndsInWord between
-  between_word z =
-      let n : length between ≡ end - from =
-      length-take-le (end - from) (drop from t) (omega (arith, length-drop from t, e.trailing.within)) in
-      let m : 0 < end - from = omega (arith, n) in
-      let s : from + (end - from - 1) ≡ end - 1 = omega arith in
-      rw (n, get_or-take (end - from) (drop from t) (end - from - 1) 0 (omega arith), get_or-drop from t (end - from - 1) 0, s)
-      (e.before (omega arith))

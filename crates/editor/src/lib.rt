@@ -1,6 +1,6 @@
 // The editor (paper 02, slip 1). The breaks at the ends are taken off and the last word is found
-// first. So each word before it ends at a break and each run of breaks at a word, and the loops
-// over them ask for no end.
+// first. So each word before it ends at a break and each run of breaks at a word, and copy_word and
+// read_run ask for no end: as iterators they do, and were measured to be slower.
 #![tactic(auto)]
 
 ghost use Rattle.std.specs.Prelude.{◌≡◌, ◌∷◌, ◌+◌, ◌<◌, ◌≤◌, length, take};
@@ -14,7 +14,7 @@ ghost use Rattle.editor.specs.Walk.{others, Last, LastWord, EndsInWord, ReadsRun
 ghost use Rattle.editor.specs.Walk.{piece, Goes};
 
 use spec::alphabet::{GAP, PAUSE};
-use spec::{Answer, Refusal, numbers};
+use spec::{Refusal, Written, numbers};
 
 // A run of breaks: how many bytes it has, and the break that it becomes.
 #[derive(Clone, Copy)]
@@ -51,65 +51,43 @@ pub fn is_break(b: u8) -> bool
     is_pause(b) | is_gap(b)
 }
 
-// Where the breaks begin that the text ends with.
+// Where the breaks begin that the text ends with. This search and the next three are the library's
+// with a test each; one function that takes the test would say no less.
 fn last_breaks(text: &[u8]) -> usize
     ensures { Last breaks text.now result }
 {
-    let mut end = text.len();
-    while 0 < end {
-        if is_break(text[end - 1]) {
-            end -= 1;
-        } else {
-            return end;
-        }
+    match text.iter().rposition(|&b| !is_break(b)) {
+        Some(i) => i + 1,
+        None => 0,
     }
-    end
 }
 
 // Where the word begins that the text ends with.
 fn last_word(text: &[u8]) -> usize
     ensures { Last others text.now result }
 {
-    let mut i = text.len();
-    while 0 < i {
-        if is_break(text[i - 1]) {
-            return i;
-        }
-        i -= 1;
+    match text.iter().rposition(|&b| is_break(b)) {
+        Some(i) => i + 1,
+        None => 0,
     }
-    i
 }
 
 // How many breaks the text begins with.
 fn first_breaks(text: &[u8]) -> usize
     ensures { result ≡ leading breaks text.now }
 {
-    let mut from = 0;
-    while from < text.len() {
-        if is_break(text[from]) {
-            from += 1;
-        } else {
-            return from;
-        }
-    }
-    from
+    text.iter().take_while(|&&b| is_break(b)).count()
 }
 
-// How many bytes the first word has. A break follows it, so no end is asked for.
+// How many bytes the first word has.
 fn count_word(text: &[u8]) -> usize
-    requires { leading others text.now < length text.now }
     ensures { result ≡ leading others text.now }
 {
-    let mut k = 0;
-    loop {
-        if is_break(text[k]) {
-            return k;
-        }
-        k += 1;
-    }
+    text.iter().take_while(|&&b| !is_break(b)).count()
 }
 
-// The same, and copies them.
+// The same, and copies them. A break follows, so no end is asked for: as an iterator it took 10.7
+// instructions a byte of edited text where this takes 9.0.
 fn copy_word(text: &[u8], out: &mut [u8]) -> usize
     requires { (leading others text.now < length text.now)
         × (leading others text.now ≤ length out.old) }
@@ -117,18 +95,16 @@ fn copy_word(text: &[u8], out: &mut [u8]) -> usize
     ensures put { Put (take result text.now) out.old out.new result 0 }
 {
     let mut k = 0;
-    loop {
-        let b = text[k];
-        if is_break(b) {
-            return k;
-        }
-        out[k] = b;
+    while !is_break(text[k]) {
+        out[k] = text[k];
         k += 1;
     }
+    k
 }
 
 // The run of breaks that the text begins with, a pause if one of them is a pause. A word follows
-// it, so no end is asked for.
+// it, so no end is asked for: as an iterator it took 11.4 instructions a byte where this takes 9.0,
+// and 10.3 as a while that asks for a break and then for a pause.
 fn read_run(text: &[u8]) -> Run
     requires { leading breaks text.now < length text.now }
     ensures { ReadsRun text.now result }
@@ -161,7 +137,7 @@ fn pass_word(text: &[u8]) -> Stride
     }
 }
 
-// The same when it is written.
+// The same when it is written: two functions for the reason that stands at `measure`.
 fn write_word(text: &[u8], out: &mut [u8]) -> Stride
     requires { (reads text.now < length text.now) × (leading others text.now < length out.old) }
     ensures { Goes text.now result × Put (piece text.now) out.old out.new result.put 0 }
@@ -174,20 +150,22 @@ fn write_word(text: &[u8], out: &mut [u8]) -> Stride
     Stride { read, put }
 }
 
-// Copies a text as it is.
+// Copies a text as it is. Not by the library's copy, which calls outside the archive: the C
+// interface rules that out.
 fn copy_all(text: &[u8], out: &mut [u8])
     requires { length text.now ≤ length out.old }
     ensures { Put text.now out.old out.new (length text.now) 0 }
 {
-    let mut k = 0;
-    while k < text.len() {
-        out[k] = text[k];
-        k += 1;
+    for (k, &b) in text.iter().enumerate() {
+        out[k] = b;
     }
 }
 
 // How long a text without breaks at its ends is when it is edited. Its last word begins at place
-// last.
+// last. A turn is as long as its word and run, so no `for` counts the places. One walk for this and
+// for write_edited is no plainer: it needs a trait, two types with its laws, and the name of the
+// lent output in them. To count all bytes but a break behind a break took 29.3 instructions a byte
+// where this takes 17.4, the writing with it.
 fn measure(text: &[u8], last: usize) -> usize
     requires { LastWord text.now last }
     ensures { result ≡ length (edit_from 0 text.now) }
@@ -219,7 +197,7 @@ fn write_edited(text: &[u8], last: usize, out: &mut [u8]) -> usize
 }
 
 // Edits a text without breaks at its ends. Only an output that is shorter than it can be too short.
-fn edit_between(text: &[u8], out: &mut [u8]) -> Answer
+fn edit_between(text: &[u8], out: &mut [u8]) -> Result<Written, Refusal>
     requires { EndsInWord text.now }
     ensures { Promise (within (length out.old) (length (edit_from 0 text.now)) 0)
         (edit_from 0 text.now) out.old out.new result }
@@ -228,19 +206,19 @@ fn edit_between(text: &[u8], out: &mut [u8]) -> Answer
     if out.len() < text.len() {
         let n = measure(text, last);
         if out.len() < n {
-            return Answer::Refused(Refusal {
+            return Err(Refusal {
                 number: numbers::SHORT_OUTPUT,
                 place: n,
             });
         }
     }
     let length = write_edited(text, last, out);
-    Answer::Written { length, live: 0 }
+    Ok(Written { length, live: 0 })
 }
 
 // The editor: writes the edited text at the start of the lent output, or refuses and leaves every
 // byte.
-pub fn edit(text: &[u8], out: &mut [u8]) -> Answer
+pub fn edit(text: &[u8], out: &mut [u8]) -> Result<Written, Refusal>
     ensures { EditPromise text.now out.old out.new result }
 {
     let end = last_breaks(text);

@@ -1,123 +1,90 @@
 // What is printed for a level in decimal: the level's refusal, or what the transcriber answers for
 // its words.
-ghost use Rattle.std.specs.Prelude.{◌≡◌, true, ◌&&◌, ◌≤◌, leb, length, take};
+ghost use Rattle.std.specs.Prelude.{◌≡◌, ◌↔◌, ◌+◌, ◌++◌, ◌≤◌, true, drop, IsSome, IfSome};
 ghost use Rattle.spec.specs.Tape.{tape};
 ghost use Rattle.spec.specs.SpokenLevels.{spoken};
 ghost use Rattle.spec.specs.Printed.{printed_answer, sign_length, are_digits, is_decimal};
 ghost use Rattle.spec.specs.Printed.{digits_from, level_in, spoken_answer, printed_level};
-ghost use Rattle.console.specs.Putting.{Appended, IsPrefixLen};
+ghost use Rattle.arrayvec.specs.ArrayVec.{array_vec_len};
 ghost use Rattle.gauge.specs.Reading.{Clipped, Like};
 
-use console::text::{TEXT, put_answer, put_bytes, put_refusal};
+use console::text::{ANSWER, TEXT, Text, put_answer, put_refusal};
 use levels::{LONGEST, speak_level};
-use spec::{Answer, Edition};
+use spec::Edition;
 
 // The longest text that is read as a number.
 pub const TYPED_MAX: usize = 4096;
 
-// A number as large is outside the range, whatever digits follow.
+// A number as large is outside the range, and so is a larger one.
 const OUTSIDE: usize = 10000;
 
-// How long the sign is that the text begins with: a minus sign, or none.
-fn sign_length(t: &[u8]) -> usize
-    ensures { result ≡ sign_length t.now }
+// What stands behind the sign, which is a minus sign or none.
+fn behind_sign(t: &[u8]) -> &[u8]
+    ensures { result.now ≡ drop (sign_length t.now) t.now }
 {
-    if t.len() == 0 {
-        return 0;
-    }
-    if t[0] == b'-' {
-        return 1;
-    }
-    0
-}
-
-fn is_digit(b: u8) -> bool
-    ensures { result ≡ (leb 48 b && leb b 57) }
-{
-    (b'0' <= b) & (b <= b'9')
+    t.strip_prefix(b"-").unwrap_or(t)
 }
 
 // Is there nothing but digits?
 fn are_digits(t: &[u8]) -> bool
     ensures { result ≡ are_digits t.now }
 {
-    let mut i = 0;
-    while i < t.len() {
-        if is_digit(t[i]) {
-            i += 1;
-        } else {
-            return false;
-        }
-    }
-    true
-}
-
-// Is the text a number, with a sign of this length?
-#[tactic(auto, using(crate::proofs::Numbers::no_number))]
-fn is_decimal(t: &[u8], sign: usize) -> bool
-    requires { sign ≡ sign_length t.now }
-    ensures { result ≡ is_decimal t.now }
-{
-    if TYPED_MAX < t.len() {
-        return false;
-    }
-    if t.len() <= sign {
-        return false;
-    }
-    are_digits(&t[sign..])
+    t.iter().all(|b| b.is_ascii_digit())
 }
 
 // The number that digits say; or, where that is outside the range, one that is, too.
+#[tactic(auto, using(crate::proofs::Numbers::reading))]
 fn read_digits(t: &[u8]) -> usize
     requires { are_digits t.now ≡ true }
     ensures { Clipped result (digits_from 0 t.now) }
 {
     let mut n = 0;
-    let mut i = 0;
-    while i < t.len() {
-        if n < OUTSIDE {
-            n = 10 * n + (t[i] - b'0') as usize;
-        }
-        i += 1;
+    // No `fold`: the bound of the sum would have to come from a `requires` of its closure.
+    for &b in t {
+        let digit = (b - b'0') as usize;
+        n = OUTSIDE.min(10 * n + digit);
     }
     n
 }
 
-// The level that the number says, as exactly as its digits are read.
-fn read_level(t: &[u8], sign: usize) -> i32
-    requires { (sign ≡ sign_length t.now) × (is_decimal t.now ≡ true) }
-    ensures { Like result (level_in t.now) }
+// The level that the text says, as exactly as its digits are read; none where it is no number.
+#[tactic(auto, using(crate::proofs::Numbers::numbers))]
+fn read_level(t: &[u8]) -> Option<i32>
+    ensures number { IsSome result ↔ (is_decimal t.now ≡ true) }
+    ensures value { IfSome result (λ level. Like level (level_in t.now)) }
 {
-    let n = read_digits(&t[sign..]) as i32;
-    if sign == 0 {
-        return n;
+    let digits = behind_sign(t);
+    if TYPED_MAX < t.len() || digits.is_empty() || !are_digits(digits) {
+        return None;
     }
-    -n
+    let n = read_digits(digits) as i32;
+    Some(if digits.len() < t.len() { -n } else { n })
 }
 
-// Speaks the level, lent room for the words of any, and puts what the transcriber answers.
-fn put_level(level: i32, text: &mut [u8]) -> usize
-    requires { 32768 ≤ length text.old }
-    ensures appended { Appended (printed_answer (spoken_answer level)
-        (tape Edition.One (spoken level))) text.old text.new 0 result }
-    ensures upper_bound { result ≤ 32768 }
+// Speaks the level, lent room for the words of any, and puts what the transcriber answers, as
+// `put_answer` puts a tape.
+fn put_level(level: i32, text: &mut Text)
+    requires { array_vec_len text.old + ANSWER ≤ TEXT }
+    ensures appended { text.new.items ≡ text.old.items ++ printed_answer
+        (spoken_answer level) (tape Edition.One (spoken level)) }
+    ensures upper_bound { array_vec_len text.new ≤ array_vec_len text.old + ANSWER }
 {
     let mut words = [0u8; LONGEST];
     match speak_level(level, &mut words) {
-        Answer::Written { length, live: _ } => put_answer(&words[..length], text),
-        Answer::Refused(r) => put_refusal(r, text),
+        Ok(w) => put_answer(&words[..w.length], text),
+        Err(r) => put_refusal(r, text),
     }
 }
 
-// Puts the whole of what is printed, and answers how long it is: 0 where the text is no number.
-pub fn print_level(t: &[u8], text: &mut [u8; TEXT]) -> usize
-    ensures prefix_len { IsPrefixLen result text.new }
-    ensures text_after { take result text.new ≡ printed_level t.now }
+// The whole text for what was typed; empty where that is no number.
+pub fn print_level(t: &[u8]) -> Text
+    ensures { result.items ≡ printed_level t.now }
 {
-    let sign = sign_length(t);
-    if is_decimal(t, sign) {
-        let end = put_level(read_level(t, sign), text);
-        return put_bytes(text, end, b"\n");
-    }
-    0
+    let mut text = Text::new();
+    let Some(level) = read_level(t) else {
+        return text;
+    };
+    put_level(level, &mut text);
+    text.push(b'\n');
+    text
 }

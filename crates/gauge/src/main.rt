@@ -8,9 +8,7 @@ ghost use Rattle.std.specs.Prelude.{◌≡◌, ◌≢◌, ◌↔◌, [], IfOk, I
 ghost use Rattle.std.specs.Io.KnownBytes.{Appends};
 ghost use Rattle.spec.specs.Printed.{printed_level};
 
-use console::standard::read_input;
-use console::text::TEXT;
-use console::{Failure, Input};
+use console::{Failure, standard};
 use level::{TYPED_MAX, print_level};
 use std::io::{Read, Write};
 
@@ -25,27 +23,13 @@ fn print_input<R: Read, W: Write>(input: &mut R, output: &mut W) -> Result<bool,
     ensures unread { IsErrOf result Failure.Unread
         → W.contents output.new ≡ W.contents output.old }
 {
-    let mut typed = [0u8; TYPED_MAX + 1];
-    let Input::Bytes(n) = read_input(input, &mut typed) else {
-        return Err(Failure::Unread);
-    };
-    let mut text = [0u8; TEXT];
-    let end = print_level(&typed[..n], &mut text);
-    if end == 0 {
-        return Ok(false);
-    }
-    match output.write_all(&text[..end]) {
-        Ok(()) => Ok(true),
-        Err(_) => Err(Failure::Unwritten),
-    }
+    standard::print_input(input, output, &mut [0u8; TYPED_MAX + 1], print_level)
 }
 
 fn main(rt: HostRuntime) {
-    let complaint = match print_input(&mut rt.stdin(), &mut rt.stdout()) {
-        Ok(true) => return,
-        Ok(false) => "standard input is no number",
-        Err(Failure::Unread) => "standard input could not be read",
-        Err(Failure::Unwritten) => "standard output could not be written",
+    let _ = match print_input(&mut rt.stdin(), &mut rt.stdout()) {
+        Ok(true) => Ok(()),
+        Ok(false) => eprintln!(rt; "gauge: standard input is no number"),
+        Err(failure) => eprintln!(rt; "gauge: {failure}"),
     };
-    let _ = eprintln!(rt; "gauge: {complaint}");
 }

@@ -10,7 +10,6 @@ use mathlib.Core.List.{map, map-append}
 use Rattle.laws.proofs.Editions.{read_take, tape_length}
 use Rattle.spec.specs.{Editions.code_in, declared.Edition.Edition}
 use Rattle.spec.specs.{Tape.sounds, Tape.tape, Refusals.check_of, LevelSteps.level_steps, Layers.TapePromise}
-use Rattle.spec.specs.{declared.Checked.TheVariants.Accepted}
 use Rattle.laws.proofs.Parts.{or-false, live_here, part_first, first_own}
 use Rattle.laws.specs.{Parts.part, Parts.Begins, Parts.changed_after, Parts.changed_before, Parts.Ends}
 use Rattle.laws.proofs.MarkIndex.{Placed, stretch, end_own, placed, own_length, own_codes, mark_code_there}
@@ -22,6 +21,7 @@ use Rattle.joiner.specs.Writing.{steps_behind, join_steps, rest_of, Laid, JoinWr
 use Rattle.joiner.specs.{declared.Changes.Changes, declared.Progress.Progress}
 use Rattle.joiner.proofs.Looking.{whole_less}
 use mir.Val.{bool_byte}
+use Rattle.std.proofs.Common.{Ok}
 
 -- the second tape from a place on: the first part's, and what follows it
 joined_part : (e : Edition) (m : List ℕ) (a : ℕ) (cuts : List ℕ) → joined_from (tape e) m a cuts
@@ -120,7 +120,7 @@ module _ (ed : Edition) {m : List ℕ} {a e : ℕ} (s : Piece m a e) where
   piece_own q o = ap (map (code_in ed)) (own_codes m a e s.begins s.order s.ends q o)
 
   -- its bytes are accepted
-  passed : check_of (part m a e) ≡ Accepted (counts_of (part m a e))
+  passed : check_of (part m a e) ≡ Ok (counts_of (part m a e))
   passed = part_accepted m s.valid.counts a e s.valid.accepted s.begins s.order s.within s.ends
 
   -- so it has codes

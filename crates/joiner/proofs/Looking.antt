@@ -1,34 +1,30 @@
 -- The looks back: from an index down to the first element that passes a test, and from the mark of a place, break by break and mark by mark, to that of a cut.
-use Rattle.laws.proofs.Kit.{ℕ, suc, ◌-◌, ◌<◌, ◌≤◌, ◌≡◌, refl, sym, ◌∙◌, Bool, true, false, cond, true≢false, inl, ⊎_elim, List, arith, eqb}
-use Rattle.laws.proofs.Kit.{length, get_or, ne_eqb}
+use Rattle.laws.proofs.Kit.{ℕ, ◌<◌, ◌≤◌, ◌≡◌, refl, sym, ◌∙◌, Bool, true, false, cond, inl, List, arith, eqb}
+use Rattle.laws.proofs.Kit.{length, take, get_or, ne_eqb, length-take-le}
+use Rattle.std.proofs.lemmas.List.{get_or-take}
 use Rattle.spec.specs.{Letters.is_break, Tape.tape, Joints.mark_index}
 use Rattle.letters.specs.{Classes.class_of, Places.Steady}
 use Rattle.letters.proofs.Computed.{everything}
-use Rattle.laws.proofs.{Classes.below_or, MarkIndex.is_no_sound, MarkIndex.last_above, MarkIndex.last_once, MarkIndex.last_mark}
+use Rattle.laws.proofs.{MarkIndex.is_no_sound, MarkIndex.last_above, MarkIndex.last_once, MarkIndex.last_mark}
 use Rattle.laws.proofs.Classes.{below_same}
 use Rattle.laws.specs.Beside.{Last}
 use Rattle.joiner.specs.Writing.{outside, Looks, Whole, Reach}
+
+-- The last of the first i elements that passes a test is the last one before index i that does.
+pub last_found : (test : ℕ → Bool) (x : List ℕ) (i r : ℕ) → i ≤ length x → r < length (take i x) → test (get_or (take i x) r 0) ≡ true
+    → ((k : ℕ) → r < k → k < length (take i x) → test (get_or (take i x) k 0) ≡ false) → Last test x i r
+last_found test x i r w b h past =
+    let l = length-take-le i x w in
+    record {
+      below = omega (arith, l);
+      here = rw (get_or-take i x r 0 (omega (arith, l))) at h;
+      past = λ j lo hi. rw (get_or-take i x j 0 hi) at (past j lo (omega (arith, l)));
+    }
 
 module _ {test : ℕ → Bool} {x : List ℕ} {i : ℕ} where
   -- a look back to an element that passes the test
   looks_for : (r : ℕ) → i ≤ length x → r < i → test (get_or x r 0) ≡ true → Looks test x i i
   looks_for r w b h = record { within = w; least = r; below = b; here = h; high = omega arith; past = λ k lo hi. absurd (omega arith) }
-
-  module _ {j : ℕ} where
-    -- the next one to be looked at
-    pub looks_on : Looks test x i j → Looks test x i (suc (j - 1))
-    looks_on l = let e : suc (j - 1) ≡ j = omega (arith, l.below) in rw e l
-
-    -- an element that fails the test is not the one that passes it
-    pub looks_more : Looks test x i (suc j) → test (get_or x j 0) ≡ false → Looks test x i j
-    looks_more l f = record {
-      within = omega (arith, l.within);
-      least = l.least;
-      below = ⊎_elim (λ h. h) (λ h. let e : l.least ≡ j = omega (arith, l.below) in absurd (true≢false (sym l.here ∙ rw e f))) (below_or l.least j);
-      here = l.here;
-      high = omega (arith, l.high);
-      past = λ k lo hi. ⊎_elim (λ h. l.past k h hi) (λ h. let e : k ≡ j = omega arith in rw e f) (below_or j k);
-    }
 
 -- in an accepted message the breaks are the bytes below the stress mark
 break_outside : (m : List ℕ) → Steady m → (j : ℕ) → j < length m → outside 0x2A 0xFF (get_or m j 0) ≡ is_break (get_or m j 0)

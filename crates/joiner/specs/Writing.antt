@@ -2,17 +2,19 @@
 -- written, where a mark stands, and what a cut changes beside it.
 -- Assumes nothing: these are definitions.
 use Rattle.std.specs.Prelude.{ℕ, suc, ◌+◌, ◌-◌, ◌*◌, ◌<◌, ◌≤◌, ◌≡◌, Bool, true, false, cond, not}
-use Rattle.std.specs.Prelude.{◌||◌, List, [], ◌∷◌, ◌++◌, length, take, drop, get_or}
+use Rattle.std.specs.Prelude.{◌||◌, List, [], ◌∷◌, ◌++◌, eqb, length, take, drop, get_or, Result, Ok}
+use Rattle.std.specs.Prelude.{Err}
+use Rattle.spec.specs.Numbers.{misplaced_cut}
 use Rattle.spec.specs.Letters.{between, is_break}
 use Rattle.spec.specs.Codes.{mark_of}
 use Rattle.spec.specs.Tape.{sounds, tape}
 use Rattle.spec.specs.declared.Edition.{Edition}
 use Rattle.letters.specs.Places.{Steady}
-use Rattle.spec.specs.Refusals.{check_of}
-use Rattle.spec.specs.Joints.{Rising, joined_from, joined, mark_index, live_count}
+use Rattle.spec.specs.Refusals.{refusal, check_of}
+use Rattle.spec.specs.Joints.{Rising, joined_from, joined, mark_index, live_count, bad_cut}
+use Rattle.spec.specs.declared.Refusal.{Refusal}
 use Rattle.spec.specs.{LevelSteps.level_steps, Layers.TapeDue}
 use Rattle.spec.specs.declared.Counts.{Counts}
-use Rattle.spec.specs.declared.Checked.TheVariants.{Accepted}
 use Rattle.laws.specs.{Parts.part, Parts.changed_after, Parts.changed_before, Parts.Ends}
 use Rattle.laws.specs.{Putting.Put}
 use Rattle.joiner.specs.declared.Changes.{Changes}
@@ -22,7 +24,7 @@ use Rattle.joiner.specs.declared.JoinCounts.{JoinCounts}
 -- an accepted message
 pub record Valid (m : List ℕ) : Type 0 where
   pub counts : Counts
-  pub accepted : check_of m ≡ Accepted counts
+  pub accepted : check_of m ≡ Ok counts
   pub steady : Steady m
 
 -- the message and its cuts are accepted, and an output of this size is as long as its tape
@@ -46,6 +48,11 @@ pub record PartWritten (e : Edition) (p : List ℕ) (changed : Bool) (out out' :
     : Type 0 where
   pub put : PutBefore (tape e p) out out' at
   pub counted : k ≡ cond changed (level_steps p) 0
+
+-- number 12 at the index of the first bad cut of the list, if there is one
+unfoldable pub cuts_checked : List ℕ → List ℕ → Result (Unit {0}) Refusal
+cuts_checked m cuts =
+    cond (eqb (bad_cut m cuts) (length cuts)) (Ok tt) (Err (refusal misplaced_cut (bad_cut m cuts)))
 
 -- a byte that is none of low to high
 abbrev pub outside : ℕ → ℕ → ℕ → Bool

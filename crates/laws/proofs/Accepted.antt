@@ -1,15 +1,16 @@
--- The message check gives a number exactly where its condition holds and none earlier does, and accepts exactly what no number fits: the scan goes on over a byte only where no row fits, and at a byte the first row of the list that fits is given.
+-- The message check gives a number exactly where its condition holds and none earlier does, and accepts exactly what no number fits: the
+-- scan goes on over a byte only where no row fits, and at a byte the first row of the list that fits is given.
 use Rattle.laws.proofs.Kit.{ℕ, zero, suc, ◌<◌, ◌≤◌, ◌≡◌, refl, sym, ap, ◌∙◌, ◌⊎◌, inl, inr, ⊎_elim, true, false, cond, ◌&&◌}
-use Rattle.laws.proofs.Kit.{and-eq-true_iff, and-false, or-true, true≢false, false≢true, List, [], ◌∷◌, arith, eqb, leb, length, get_or}
+use Rattle.laws.proofs.Kit.{and_parts, and-false, or-true, true≢false, false≢true, List, [], ◌∷◌, arith, eqb, leb, length, get_or}
 use Rattle.laws.proofs.Kit.{drop, length-drop, drop-cons, eqb-true, eqb-false, eq-eqb, ne_eqb, leb-true, leb-false, le-leb, lt-leb}
 use Rattle.spec.specs.Refusals.{Row, ◌when◌, rows, first_fit, fault_at, refusal, scan, check_of, fits_in, before_at, fits, index_in, rank}
 use Rattle.spec.specs.Refusals.{NoneFits, Earlier, Given}
 use Rattle.spec.specs.Counting.{code_count, name_count}
-use Rattle.spec.specs.{Tape.sounds, Tape.names, Tables.among, declared.Counts.Counts, declared.Checked.Checked}
-use Rattle.spec.specs.{declared.Checked.TheVariants.Accepted, declared.Checked.TheVariants.Refused}
+use Rattle.spec.specs.{Tape.sounds, Tape.names, Tables.among, declared.Counts.Counts, Results.Checked}
 use Rattle.spec.proofs.Computed.{everything}
 use Rattle.laws.proofs.Classes.{cond_app, cond_same, either, refuted, below_or, among_same, among_none}
 use Rattle.laws.proofs.Counting.{tape_count, names_count}
+use Rattle.std.proofs.Common.{Ok, Err}
 
 -- the numbers of a list of rows
 unfoldable pub numbers : List Row → List ℕ
@@ -38,7 +39,8 @@ module _ (before : List ℕ) (b : ℕ) (after : List ℕ) where
       either (eqb n k) (λ q. rw (eqb-true n k q, eq-eqb k k refl)) (λ q. rw (fits_among rs k (rw q at e), or-true))
 
   -- the first row that fits does fit
-  first_fits : (rs : List Row) → Distinct rs → 0 < first_fit rs before b after → fits_in rs (first_fit rs before b after) before b after ≡ true
+  first_fits : (rs : List Row) → Distinct rs → 0 < first_fit rs before b after
+      → fits_in rs (first_fit rs before b after) before b after ≡ true
   unfolding first_fit fits_in
   first_fits [] o z = absurd (omega arith)
   first_fits ((n when test) ∷ rs) o z =
@@ -62,7 +64,8 @@ Clear before b after = (k : ℕ) → fits_in rows k before b after ≡ false
 pub fault_clear : (before : List ℕ) (b : ℕ) (after : List ℕ) → fault_at before b after ≡ 0 → Clear before b after
 unfolding fault_at everything numbers
 fault_clear before b after e k = refuted _ (λ f.
-    let i = among_same (λ x. leb (suc (index_in rows x)) (index_in rows 0)) (λ _. true) (numbers rows) k refl (fits_among before b after rows k f) in
+    let i = among_same (λ x. leb (suc (index_in rows x)) (index_in rows 0)) (λ _. true) (numbers rows) k refl
+    (fits_among before b after rows k f) in
     true≢false (sym f ∙ first_first before b after rows k (rw e (leb-true _ _ i))))
 
 -- what an accepted message's check answers
@@ -89,13 +92,13 @@ pub record Passes (m : List ℕ) : Type 0 where
 pub record Fault (m : List ℕ) (d : Checked) : Type 0 where
   pub number : ℕ
   pub place : ℕ
-  pub refused : d ≡ Refused (refusal number place)
+  pub refused : d ≡ Err (refusal number place)
   pub given : Given m number place
   pub within : place ≤ 4096
 
 -- what the check has found in a message: nothing, or the first fault
 abbrev pub Finds : List ℕ → Checked → Type 0
-Finds m d = ((d ≡ Accepted (counts_of m)) × Passes m) ⊎ Fault m d
+Finds m d = ((d ≡ Ok (counts_of m)) × Passes m) ⊎ Fault m d
 
 -- a test of two numbers is one of them the other way round
 eqb_swap : (a b : ℕ) → eqb a b ≡ eqb b a
@@ -110,7 +113,8 @@ rank_index k = rw (eqb_swap k 1, eqb_swap k 2) (sym (ap (cond (eqb 1 k) 0) (cond
 fits_number : (m : List ℕ) (k p : ℕ) → fits m k p ≡ true → among (numbers table) k ≡ true
 unfolding fits among numbers
 fits_number m k p e = either (eqb k 1) (λ q. rw q) (λ q. either (eqb k 2) (λ r. rw (eqb-true k 2 r)) (λ r.
-    rw (q, r) (fits_among (before_at m p) (get_or m p 0) (drop (suc p) m) rows k ((and-eq-true_iff (leb (suc p) (length m)) _).0 (rw (q, r) at e)).1)))
+    rw (q, r) (fits_among (before_at m p) (get_or m p 0) (drop (suc p) m) rows k
+    (and_parts (leb (suc p) (length m)) _ (rw (q, r) at e)).1)))
 
 rank_number : (m : List ℕ) (k p : ℕ) → fits m k p ≡ true → get_or (numbers table) (rank k) 0 ≡ k
 unfolding everything numbers
@@ -120,7 +124,8 @@ rank_number m k p e = among_same (λ x. get_or (numbers table) (rank x) 0) (λ x
 pub given_range : {m : List ℕ} {n p : ℕ} → Given m n p → (1 ≤ n) × (n ≤ 10)
 unfolding everything numbers
 given_range {m} {n} {p} g =
-    let r = (and-eq-true_iff (leb 1 n) (leb n 10)).0 (among_same (λ x. leb 1 x && leb x 10) (λ _. true) (numbers table) n refl (fits_number m n p g.holds)) in
+    let r = and_parts (leb 1 n) (leb n 10) (among_same (λ x. leb 1 x && leb x 10) (λ _. true) (numbers table) n refl
+    (fits_number m n p g.holds)) in
     (leb-true 1 n r.0, leb-true n 10 r.1)
 
 -- number 1: nothing comes before it
@@ -176,7 +181,8 @@ module _ (m : List ℕ) (z : 0 < length m) (s : length m ≤ 4096) where
   -- at a place of it
   sized_fits : (k p : ℕ) → p < length m → fits m k p ≡ fits_in table k (before_at m p) (get_or m p 0) (drop (suc p) m)
   unfolding fits fits_in
-  sized_fits k p h = rw (ne_eqb (length m) 0 (omega arith), le-leb (length m) 4096 s, le-leb (suc p) (length m) h, and-false, eqb_swap k 1, eqb_swap k 2)
+  sized_fits k p h =
+      rw (ne_eqb (length m) 0 (omega arith), le-leb (length m) 4096 s, le-leb (suc p) (length m) h, and-false, eqb_swap k 1, eqb_swap k 2)
 
   clear_fits : (k p : ℕ) → p < length m → ClearAt m p → fits m k p ≡ false
   unfolding fits_in
@@ -185,20 +191,24 @@ module _ (m : List ℕ) (z : 0 < length m) (s : length m ≤ 4096) where
   -- and none past its end
   past_fits : (k p : ℕ) → length m ≤ p → fits m k p ≡ false
   unfolding fits
-  past_fits k p h = rw (ne_eqb (length m) 0 (omega arith), le-leb (length m) 4096 s, lt-leb (suc p) (length m) (omega arith), and-false) (simp cond_same)
+  past_fits k p h =
+      rw (ne_eqb (length m) 0 (omega arith), le-leb (length m) 4096 s, lt-leb (suc p) (length m) (omega arith), and-false) (simp cond_same)
 
   -- the first place with a fault gives its number
   fault_given : (p : ℕ) → p < length m → ((j : ℕ) → j < p → ClearAt m j)
-      → (fault_at (before_at m p) (get_or m p 0) (drop (suc p) m) ≡ 0 → ⊥) → Given m (fault_at (before_at m p) (get_or m p 0) (drop (suc p) m)) p
+      → (fault_at (before_at m p) (get_or m p 0) (drop (suc p) m) ≡ 0 → ⊥)
+      → Given m (fault_at (before_at m p) (get_or m p 0) (drop (suc p) m)) p
   unfolding fault_at first_fit
   fault_given p h c f = record {
     holds = sized_fits _ p h ∙ first_fits (before_at m p) (get_or m p 0) (drop (suc p) m) table table_distinct (omega arith);
     first = λ k q. ⊎_elim (λ l. clear_fits k q (omega arith) (c q l))
-        (λ e. rw e.0 (sized_fits k p h ∙ first_first (before_at m p) (get_or m p 0) (drop (suc p) m) table k (rw (rank_index k, rank_index (first_fit rows (before_at m p) (get_or m p 0) (drop (suc p) m))) at e.1)));
+        (λ e. rw e.0 (sized_fits k p h ∙ first_first (before_at m p) (get_or m p 0) (drop (suc p) m) table k
+        (rw (rank_index k, rank_index (first_fit rows (before_at m p) (get_or m p 0) (drop (suc p) m))) at e.1)));
   }
 
   -- the scan goes on over the bytes that are clear, to the end or to the first fault
-  scan_finds : (r : List ℕ) (i : ℕ) → drop i m ≡ r → i ≤ length m → ((j : ℕ) → j < i → ClearAt m j) → Finds m (scan (Accepted (counts_of m)) (before_at m i) r)
+  scan_finds : (r : List ℕ) (i : ℕ) → drop i m ≡ r → i ≤ length m → ((j : ℕ) → j < i → ClearAt m j)
+      → Finds m (scan (Ok (counts_of m)) (before_at m i) r)
   unfolding scan before_at
   scan_finds [] i e h c = inl (refl, record { some = z; short = s; rows = λ j l. c j (omega (arith, length-drop i m, ap length e)) })
   scan_finds (b ∷ r) i e h c =
@@ -218,10 +228,13 @@ module _ (m : List ℕ) (z : 0 < length m) (s : length m ≤ 4096) where
 -- What the check finds in a message.
 pub check_finds : (m : List ℕ) → Finds m (check_of m)
 unfolding check_of before_at
-check_finds m = either (eqb (length m) 0) (λ q. rw q (inr (record { number = 1; place = 0; refused = refl; given = empty_given m (eqb-true _ _ q); within = omega arith }))) (λ q.
-    rw q (either (leb (length m) 4096)
-    (λ r. rw r (scan_finds m (omega (arith, eqb-false (length m) 0 q)) (leb-true (length m) 4096 r) m 0 refl (omega arith) (λ j l. absurd (omega arith))))
-    (λ r. rw r (inr (record { number = 2; place = 0; refused = refl; given = long_given m (omega (arith, leb-false (length m) 4096 r)); within = omega arith })))))
+check_finds m = either (eqb (length m) 0)
+    (λ q. rw q (inr (record { number = 1; place = 0; refused = refl; given = empty_given m (eqb-true _ _ q); within = omega arith })))
+    (λ q. rw q (either (leb (length m) 4096)
+    (λ r. rw r (scan_finds m (omega (arith, eqb-false (length m) 0 q)) (leb-true _ _ r) m 0 refl (omega arith)
+    (λ j l. absurd (omega arith))))
+    (λ r. let g = long_given m (leb-false _ _ r) in
+    rw r (inr (record { number = 2; place = 0; refused = refl; given = g; within = omega arith })))))
 
 -- a message that passes is fitted by nothing
 pub passes_none : (m : List ℕ) → Passes m → NoneFits m
@@ -248,31 +261,33 @@ given_once m n p k q g h =
     (sym (rank_number m n p g.holds) ∙ rw r (rank_number m k q h.holds), e)
 
 -- Accepted: nothing fits.
-pub accepted_passes : (m : List ℕ) (counts : Counts) → check_of m ≡ Accepted counts → Passes m
-accepted_passes m counts e = ⊎_elim (λ f. f.1) (λ f. absurd (let z : ◌≡◌ {A = ℕ} 0 1 = cc in omega arith)) (check_finds m)
+pub accepted_passes : (m : List ℕ) (counts : Counts) → check_of m ≡ Ok counts → Passes m
+accepted_passes m counts e = ⊎_elim (λ f. f.1) (λ f. cc (e, f.refused)) (check_finds m)
 
 -- Nothing fits: accepted.
-pub none_accepted : (m : List ℕ) → NoneFits m → check_of m ≡ Accepted (counts_of m)
+pub none_accepted : (m : List ℕ) → NoneFits m → check_of m ≡ Ok (counts_of m)
 none_accepted m n = ⊎_elim (λ f. f.0) (λ f. absurd (none_given m _ _ n f.given)) (check_finds m)
 
 pub none_passes : (m : List ℕ) → NoneFits m → Passes m
 none_passes m f = accepted_passes m (counts_of m) (none_accepted m f)
 
 -- Given: refused so.
-pub given_refused : (m : List ℕ) (n p : ℕ) → Given m n p → check_of m ≡ Refused (refusal n p)
+pub given_refused : (m : List ℕ) (n p : ℕ) → Given m n p → check_of m ≡ Err (refusal n p)
 given_refused m n p g =
-    ⊎_elim (λ f. absurd (none_given m n p (passes_none m f.1) g)) (λ f. let e = given_once m _ _ n p f.given g in f.refused ∙ rw (e.0, e.1)) (check_finds m)
+    ⊎_elim (λ f. absurd (none_given m n p (passes_none m f.1) g)) (λ f. let e = given_once m _ _ n p f.given g in f.refused ∙ rw (e.0, e.1))
+    (check_finds m)
 
 -- The first fault of a message is refused with its place.
-pub first_refused : (m : List ℕ) → length m ≤ 4096 → (p : ℕ) → p < length m → ((j : ℕ) → j < p → ClearAt m j) → (n : ℕ) → fault_at (before_at m p) (get_or m p 0) (drop (suc p) m) ≡ n → (n ≡ 0 → ⊥)
-    → check_of m ≡ Refused (refusal n p)
+pub first_refused : (m : List ℕ) → length m ≤ 4096 → (p : ℕ) → p < length m → ((j : ℕ) → j < p → ClearAt m j) → (n : ℕ)
+    → fault_at (before_at m p) (get_or m p 0) (drop (suc p) m) ≡ n → (n ≡ 0 → ⊥)
+    → check_of m ≡ Err (refusal n p)
 first_refused m s p h c n e z = given_refused m n p (rw e at (fault_given m (omega arith) s p h c (λ f. z (sym e ∙ f))))
 
-pub passes_accepted : (m : List ℕ) → Passes m → check_of m ≡ Accepted (counts_of m)
+pub passes_accepted : (m : List ℕ) → Passes m → check_of m ≡ Ok (counts_of m)
 passes_accepted m p = none_accepted m (passes_none m p)
 
 -- the counts are those of the tape and the naming
-pub accepted_counts : (m : List ℕ) (counts : Counts) → check_of m ≡ Accepted counts
+pub accepted_counts : (m : List ℕ) (counts : Counts) → check_of m ≡ Ok counts
     → (counts.codes ≡ length (sounds m)) × (counts.names ≡ length (names m)) × (length m ≤ 4096) × (0 < length m)
 accepted_counts m counts e =
     let p = accepted_passes m counts e in

@@ -2,7 +2,7 @@
 -- book on, they leave just the records of those that were accepted. For that a tape must be stored in as many bytes as its codes take. What
 -- holds in the plain storage besides stands last in this file.
 use Rattle.laws.proofs.Kit.{ℕ, zero, suc, ◌+◌, ◌*◌, ◌<◌, ◌≤◌, ◌≡◌, refl, sym, ap, ◌∙◌, true, ◌⊎◌, inl, inr, ⊎_elim, List, [], ◌∷◌}
-use Rattle.laws.proofs.Kit.{◌++◌, append_assoc, append-nil, arith, leb, length, take, drop, length-append, take-append-drop, take_at}
+use Rattle.laws.proofs.Kit.{◌++◌, append_assoc, append-nil, arith, leb, length, take, drop, length-append, take_at}
 use Rattle.laws.proofs.Kit.{take-length, le-leb, lt-leb}
 use Rattle.spec.specs.Book.{Phrase, Storage, Sized, plain, record_of, records, row15, row16, Reading, holds, unsound, ◌then◌, read_from}
 use Rattle.spec.specs.Book.{read_book, Bytes, book_in, find_answer, tape_after, least_after, after_listener, after_book, NewPhrase}
@@ -13,13 +13,15 @@ use Rattle.spec.specs.BookDemands.{AddedTo, used_after, added_by, OneByOne, last
 use Rattle.spec.specs.BookDemands.{PlainDemands, AdditionsLocated}
 use Rattle.spec.specs.Answers.{within, after_check, output_after}
 use Rattle.spec.specs.{Listeners.may_write, declared.Listener.Listener, Tape.tape, Refusals.refusal, Refusals.NoneFits}
-use Rattle.spec.specs.{declared.Answer.Answer, declared.Refusal.Refusal}
-use Rattle.spec.specs.declared.Answer.TheVariants.{Written, Refused}
+use Rattle.spec.specs.{Results.Answer, declared.Refusal.Refusal}
 use Rattle.laws.proofs.Accepted.{Passes, check_finds, passes_none, passes_accepted, none_accepted, given_refused, given_range}
 use Rattle.laws.proofs.Demands.{Ways, settled, exactly}
 use Rattle.laws.proofs.Book.{Judged, is_sound, is_refused, judge, record_size, sound_read, due_read, bytes_in}
 use Rattle.laws.proofs.{Classes.either, Classes.below_or, Sizes.tape_size, Editions.tape_length, Lookup.looks_up}
 use Rattle.laws.proofs.{Lookup.find_promised}
+use Rattle.std.proofs.Common.{Ok, Err}
+use Rattle.spec.specs.Results.{wrote}
+use Rattle.std.proofs.lemmas.Grind.{common_steps}
 
 -- a book's refusal, where it is not sound, has a number,
 abbrev NumberedBook : Reading → Type 0
@@ -33,8 +35,8 @@ then_numbered f (unsound r) h = h
 
 -- and so has an answer's, where it is one: none has number 0
 abbrev pub Numbered : Answer → Type 0
-Numbered (Written n k) = Unit {0}
-Numbered (Refused r) = 1 ≤ r.number
+Numbered (Ok w) = Unit {0}
+Numbered (Err r) = 1 ≤ r.number
 
 room_numbered : (room size : ℕ) → Numbered (within room size 0)
 unfolding within
@@ -45,22 +47,17 @@ unfolding after_book
 book_numbered (holds fs) n bookEnd a h g = either (leb (least_after 0 fs) n) (λ q. rw q g) (λ q. rw q (omega arith))
 book_numbered (unsound r) n bookEnd a h g = h
 
--- the bytes that an output begins with are a book in it
-book_first : (x y : List ℕ) → book_in (x ++ y) (length x) ≡ x
-unfolding book_in
-book_first x y = take_at x y (length x) refl
-
 -- after an addition all is as it was
 pub record AsBefore (buffer : List ℕ) (a : Addition) : Type 0 where
   pub refusal : Refusal
-  pub answer : a.answer ≡ Refused refusal
+  pub answer : a.answer ≡ Err refusal
   pub after : a.after ≡ buffer
 
 -- what an addition added and what the later ones did
 added_all : (r : Answer) (fs gs : List Phrase) (f : Phrase) → fs ++ added_by r f [] ++ gs ≡ fs ++ added_by r f gs
 unfolding added_by
-added_all (Written n k) fs gs f = append_assoc fs (f ∷ []) gs
-added_all (Refused x) fs gs f = rw (append-nil fs) refl
+added_all (Ok w) fs gs f = append_assoc fs (f ∷ []) gs
+added_all (Err x) fs gs f = rw (append-nil fs) refl
 
 -- A book in a storage.
 module _ (st : Storage) where
@@ -75,29 +72,21 @@ module _ (st : Storage) where
     abbrev Due : ℕ → ℕ → Type 0
     Due = AddDue st l book x (length text) (length buffer)
 
-    written : MayAdd st l book x → length text ≤ length buffer → add_answer st l book x (length buffer) ≡ Written (length text) 0
-    unfolding add_answer after_listener after_check after_book within
-    written a h = rw (
-      a.writes,
-      none_accepted m a.message,
-      sound_read st a.sound,
-      le-leb (least_after 0 a.phrases) x.number a.above,
-      le-leb (length text) (length buffer) h,
-    ) refl
+    may_add : MayAdd st l book x → add_answer st l book x (length buffer) ≡ within (length buffer) (length text) 0
+    unfolding add_answer after_listener after_check after_book
+    may_add a = rw (a.writes, none_accepted m a.message, sound_read st a.sound, le-leb (least_after 0 a.phrases) x.number a.above) refl
 
-    refused : (k p : ℕ) → Due k p → add_answer st l book x (length buffer) ≡ Refused (refusal k p)
+    written : MayAdd st l book x → length text ≤ length buffer → add_answer st l book x (length buffer) ≡ wrote (length text) 0
+    unfolding within
+    written a h = may_add a ∙ rw (le-leb (length text) (length buffer) h) refl
+
+    refused : (k p : ℕ) → Due k p → add_answer st l book x (length buffer) ≡ Err (refusal k p)
     unfolding add_answer after_listener after_check after_book within
     refused _ _ (not_dispatch w) = rw w refl
     refused k p (of_message _ _ w g) = rw (w, given_refused m k p g) refl
     refused k p (of_book _ _ w f d) = rw (w, none_accepted m f, due_read st b d) refl
     refused _ _ (not_above_last fs w f s h) = rw (w, none_accepted m f, sound_read st s, lt-leb (least_after 0 fs) x.number h) refl
-    refused _ _ (no_room_behind a h) = rw (
-      a.writes,
-      none_accepted m a.message,
-      sound_read st a.sound,
-      le-leb (least_after 0 a.phrases) x.number a.above,
-      lt-leb (length text) (length buffer) h,
-    ) refl
+    refused _ _ (no_room_behind a h) = may_add a ∙ rw (lt-leb (length text) (length buffer) h) refl
 
     abbrev Ends : Type 0
     Ends = (MayAdd st l book x × (length text ≤ length buffer)) ⊎ ((k : ℕ) × (p : ℕ) × Due k p × (1 ≤ k))
@@ -122,13 +111,8 @@ module _ (st : Storage) where
   book_left : (buffer : List ℕ) (used : ℕ) (x : NewPhrase) (a : Answer)
       → take (length (book_in buffer used)) (output_after a (with_addition st (book_in buffer used) x) buffer) ≡ book_in buffer used
   unfolding output_after with_addition book_in
-  book_left buffer used x (Written k live) =
-      let book = take used buffer in
-      let f = record_of st (phrase_of st x) in
-      rw (append_assoc book f (drop k buffer)) (take_at book (f ++ drop k buffer) (length book) refl)
-  book_left buffer used x (Refused r) =
-      let book = take used buffer in
-      rw (take-append-drop used buffer) at (take_at book (drop used buffer) (length book) refl)
+  book_left buffer used x (Ok w) = grind (arith, common_steps)
+  book_left buffer used x (Err r) = grind (arith, common_steps)
 
   -- What holds of a book.
   pub book_demands : (buffer : List ℕ) (used : ℕ) → Bytes buffer → BookDemands st buffer used
@@ -165,7 +149,7 @@ module _ (st : Storage) where
   records_more : (fs : List Phrase) (f : Phrase) → records st fs ++ record_of st f ≡ records st (fs ++ (f ∷ []))
   unfolding records
   records_more [] f = sym (append-nil (record_of st f))
-  records_more (g ∷ fs) f = append_assoc (record_of st g) (records st fs) (record_of st f) ∙ ap (record_of st g ++◌) (records_more fs f)
+  records_more (g ∷ fs) f = grind (arith, common_steps, records_more fs f)
 
   rising_more : (least : ℕ) (fs : List Phrase) (f : Phrase) → RisingFrom st least fs → Fits st f → least_after least fs ≤ f.number
       → RisingFrom st least (fs ++ (f ∷ []))
@@ -179,7 +163,7 @@ module _ (st : Storage) where
   -- After an addition all is as it was, or a book of these phrases holds one more.
   pub data Next (buffer : List ℕ) (fs : List Phrase) (a : Addition) : Type 0 where
     as_before : AsBefore buffer a → Next buffer fs a
-    one_more : (k : ℕ) → a.answer ≡ Written k 0 → k ≡ length (records st (fs ++ (added a ∷ [])))
+    one_more : (k : ℕ) → a.answer ≡ wrote k 0 → k ≡ length (records st (fs ++ (added a ∷ [])))
         → Sound st (book_in a.after k) (fs ++ (added a ∷ [])) → Next buffer fs a
 
   module _ {buffer : List ℕ} {used : ℕ} {a : Addition} (kept : AddedTo st buffer used a) where
@@ -192,7 +176,7 @@ module _ (st : Storage) where
     abbrev due : Answer
     due = add_answer st a.listener book a.phrase (length buffer)
 
-    refused_next : (x : Refusal) → due ≡ Refused x → AsBefore buffer a
+    refused_next : (x : Refusal) → due ≡ Err x → AsBefore buffer a
     unfolding output_after
     refused_next x e = record { refusal = x; answer = kept.promise.answer ∙ e; after = kept.promise.output ∙ rw e refl }
 
@@ -209,12 +193,12 @@ module _ (st : Storage) where
     unsound_next {x} e = unless_accepted (λ r. r) (λ w c. refused_next x (rw (w, passes_accepted a.phrase.message c, e) refl))
 
     module _ {fs : List Phrase} (now : Sound st book fs) where
-      written_next : due ≡ Written (length whole) 0 → Fits st (added a) → least_after 0 fs ≤ a.phrase.number → Next buffer fs a
-      unfolding output_after with_addition
+      written_next : due ≡ wrote (length whole) 0 → Fits st (added a) → least_after 0 fs ≤ a.phrase.number → Next buffer fs a
+      unfolding output_after with_addition book_in
       written_next e fit above =
           let t : whole ≡ records st (fs ++ (added a ∷ [])) = ap (◌++ record_of st (added a)) now.bytes ∙ records_more fs (added a) in
           one_more (length whole) (kept.promise.answer ∙ e) (ap length t) (record {
-            bytes = rw (kept.promise.output, e) (book_first whole (drop (length whole) buffer) ∙ t);
+            bytes = rw (kept.promise.output, e) (take_at whole (drop (length whole) buffer) (length whole) refl ∙ t);
             rising = rising_more 0 fs (added a) now.rising fit above;
           })
 

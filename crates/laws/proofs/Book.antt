@@ -1,10 +1,10 @@
 -- The phrase book, in any storage: a record that is written reads back, and what reads as a record was written so; hence any bytes are the
 -- records of some rising phrases and then their end or the first place of a refusal. Of the storage nothing is asked.
-use Rattle.laws.proofs.Kit.{ℕ, zero, suc, ◌+◌, ◌-◌, ◌*◌, ◌/◌, ◌%◌, ◌<◌, ◌≤◌, ◌≡◌, refl, sym, ap, ◌∙◌, true, false, not, ◌&&◌}
-use Rattle.laws.proofs.Kit.{true≢false, false≢true, ◌⊎◌, inl, inr, ⊎_elim, List, [], ◌∷◌, ◌++◌, append_assoc, append-nil, arith, eqb}
-use Rattle.laws.proofs.Kit.{leb, length, take, drop, length-append, length-drop, take-append-drop, take_at, drop_at, get_or-drop}
-use Rattle.laws.proofs.Kit.{get_or-take, List·getD-eq-default, drop-drop, length-take, length-take-le, eqb-true, eq-eqb, leb-true}
-use Rattle.laws.proofs.Kit.{le-leb, lt-leb}
+use Rattle.laws.proofs.Kit.{ℕ, zero, suc, ◌+◌, ◌-◌, ◌*◌, ◌/◌, ◌%◌, ◌<◌, ◌≤◌, ◌≡◌, refl, sym, ap, ◌∙◌, true, false, ◌&&◌}
+use Rattle.laws.proofs.Kit.{true≢false, ◌⊎◌, inl, inr, ⊎_elim, List, [], ◌∷◌, ◌++◌, append_assoc, append-nil, arith, eqb}
+use Rattle.laws.proofs.Kit.{length, take, drop, length-append, length-drop, take-append-drop, take_at, drop_at, get_or-drop}
+use Rattle.laws.proofs.Kit.{drop-drop, length-take-le, eqb-true, eq-eqb, leb-true}
+use Rattle.laws.proofs.Kit.{and_parts, le-leb, leb-false, lt-leb, not-false, not-true}
 use Rattle.spec.specs.Book.{Phrase, Storage, record_mark, two_bytes, head_of, record_of, records, head_size, number_in, set_in, length_in}
 use Rattle.spec.specs.Book.{span_in}
 use Rattle.spec.specs.Book.{pair_at, phrase_in, has_record_mark, is_whole, is_record, row15, row16, Reading, holds, unsound, ◌then◌}
@@ -12,7 +12,8 @@ use Rattle.spec.specs.Book.{read_from}
 use Rattle.spec.specs.Book.{read_book, Bytes, book_in, least_after, Fits, RisingFrom, Sound}
 use Rattle.spec.specs.BookDemands.{UpTo, BookDue, no_record, not_above}
 use Rattle.spec.specs.{Tables.same, Refusals.refusal, declared.Refusal.Refusal}
-use Rattle.laws.proofs.{Classes.either, Classes.below_or}
+use Rattle.laws.proofs.{Classes.either}
+use Rattle.std.proofs.lemmas.Grind.{common_steps}
 
 -- the two bytes of a number give it back
 pair_back : (n : ℕ) → n % 256 + n / 256 * 256 ≡ n
@@ -25,9 +26,7 @@ bytes_behind k x b = λ j. rw (get_or-drop k x j 0) (b (k + j))
 -- and so is each of a book in a buffer
 pub bytes_in : (buffer : List ℕ) (used : ℕ) → Bytes buffer → Bytes (book_in buffer used)
 unfolding book_in
-bytes_in buffer used b j = ⊎_elim (λ h. rw (get_or-take used buffer j 0 h) (b j))
-    (λ (h : used ≤ j). let past : length (take used buffer) ≤ j = omega (arith, length-take used buffer, h) in
-    rw (List·getD-eq-default (take used buffer) 0 past) (omega arith)) (below_or j used)
+bytes_in buffer used b j = grind (arith, common_steps, b j)
 
 -- phrases before what the records after them hold
 abbrev pub then_all : List Phrase → Reading → Reading
@@ -46,9 +45,7 @@ all_unsound (f ∷ fs) r = rw (all_unsound fs r) refl
 
 -- a test of two bytes
 marked : (a b c : ℕ) → (eqb a 82 && (eqb b c && true)) ≡ true → (a ≡ 82) × (b ≡ c)
-marked a b c h = either (eqb a 82)
-    (λ p. either (eqb b c) (λ q. (eqb-true a 82 p, eqb-true b c q)) (λ q. absurd (false≢true (rw (p, q) at h))))
-    (λ p. absurd (false≢true (rw p at h)))
+marked a b c h = let p = and_parts _ _ h in (eqb-true a 82 p.0, eqb-true b c (and_parts _ _ p.1).0)
 
 -- A book in a storage.
 module _ (st : Storage) where
@@ -69,7 +66,8 @@ module _ (st : Storage) where
       rw (e, p) (skipped k (suc place) least x)
 
   -- What stands at a record's start is no record,
-  pub read_15 : (place least : ℕ) (x : List ℕ) → 0 < length x → row15 st x ≡ true → read_from st 0 place least x ≡ unsound (refusal 15 place)
+  pub read_15 : (place least : ℕ) (x : List ℕ) → 0 < length x → row15 st x ≡ true
+      → read_from st 0 place least x ≡ unsound (refusal 15 place)
   unfolding read_from
   read_15 place least [] more h = absurd (omega arith)
   read_15 place least (b ∷ x) more h = rw h refl
@@ -83,7 +81,8 @@ module _ (st : Storage) where
 
   -- or a record that holds a phrase, and the reading goes on behind it.
   pub read_record : (place least : ℕ) (x : List ℕ) → 0 < length x → row15 st x ≡ false → row16 least x ≡ false
-      → read_from st 0 place least x ≡ (phrase_in st x then read_from st 0 (place + span_in st x) (suc (number_in x)) (drop (span_in st x) x))
+      → read_from st 0 place least x ≡ (phrase_in st x then read_from st 0 (place + span_in st x) (suc (number_in x))
+      (drop (span_in st x) x))
   unfolding read_from
   read_record place least [] more h k = absurd (omega arith)
   read_record place least (b ∷ x) more h k = rw (h, k, behind (span_in st (b ∷ x)) place (suc (number_in (b ∷ x))) b x (omega arith)) refl
@@ -102,9 +101,9 @@ module _ (st : Storage) where
   pub record_stands : (x : List ℕ) → is_record st x ≡ true → Stands x
   unfolding is_record is_whole
   record_stands x h =
-      either (has_record_mark st x) (λ m. either (leb head_size (length x)) (λ a. either (leb (span_in st x) (length x))
-      (λ b. record { mark = m; head = leb-true head_size (length x) a; whole = leb-true (span_in st x) (length x) b })
-      (λ b. absurd (false≢true (rw (m, a, b) at h)))) (λ a. absurd (false≢true (rw (m, a) at h)))) (λ m. absurd (false≢true (rw m at h)))
+      let p = and_parts _ _ h in
+      let q = and_parts _ _ p.1 in
+      record { mark = p.0; head = leb-true _ _ q.0; whole = leb-true _ _ q.1 }
 
   pub stands_15 : {x : List ℕ} → Stands x → row15 st x ≡ false
   unfolding row15
@@ -112,7 +111,7 @@ module _ (st : Storage) where
 
   pub standing : (x : List ℕ) → row15 st x ≡ false → Stands x
   unfolding row15
-  standing x h = record_stands x (either (is_record st x) (λ q. q) (λ q. absurd (true≢false (rw q at h))))
+  standing x h = record_stands x (not-false _ h)
 
   -- A record that was written reads back, whatever stands behind it.
   pub record Written (f : Phrase) (rest x : List ℕ) : Type 0 where
@@ -214,19 +213,18 @@ module _ (st : Storage) where
         ⊎ ((0 < length rest) × ((row15 st rest ≡ true) ⊎ (row15 st rest ≡ false) × (row16 (least_after least phrases) rest ≡ true)))
 
   -- a record more before them
-  run_more : (least : ℕ) (x : List ℕ) → Bytes x → row15 st x ≡ false → row16 least x ≡ false → Run (suc (number_in x)) (drop (span_in st x) x)
+  run_more : (least : ℕ) (x : List ℕ) → Bytes x → row15 st x ≡ false → row16 least x ≡ false
+      → Run (suc (number_in x)) (drop (span_in st x) x)
       → Run least x
   unfolding records least_after row16 phrase_in
   run_more least x b h k r =
       let w = stands_written x b (standing x h) in
       let f = phrase_in st x in
-      let a : least ≤ number_in x =
-      ⊎_elim (λ l. absurd (true≢false (rw (lt-leb least (number_in x) l) at k))) (λ l. l) (below_or (number_in x) least) in
       record {
         phrases = f ∷ r.phrases;
         rest = r.rest;
         bytes = w.bytes ∙ rw (r.bytes, append_assoc (record_of st f) (records st r.phrases) r.rest) refl;
-        rising = (w.fits, a, r.rising);
+        rising = (w.fits, leb-true _ _ (not-false _ k), r.rising);
         ends = r.ends;
       }
 
@@ -246,7 +244,8 @@ module _ (st : Storage) where
       let stop : (row15 st y ≡ true) ⊎ (row15 st y ≡ false) × (row16 least y ≡ true) → Run least y =
       λ s. record { phrases = []; rest = y; bytes = refl; rising = tt; ends = inr (omega arith, s) } in
       either (row15 st y) (λ p. stop (inl p)) (λ p. either (row16 least y) (λ q. stop (inr (p, q)))
-      (λ q. run_more least y b p q (run n (suc (number_in y)) (drop span y) (omega (arith, h, length-drop span y)) (bytes_behind span y b))))
+      (λ q. run_more least y b p q (run n (suc (number_in y)) (drop span y) (omega (arith, h, length-drop span y))
+      (bytes_behind span y b))))
 
   -- So a book is sound, and then its phrases are read, or one of its numbers is due, and then that is its refusal.
   pub sound_read : {book : List ℕ} {fs : List Phrase} → Sound st book fs → read_book st book ≡ holds fs
@@ -312,16 +311,13 @@ module _ (st : Storage) where
       let w = stands_written x (bytes_after u b) (standing x h.0) in
       let v : UpTo st book fs (record_of st (phrase_in st x) ++ drop (span_in st x) x) =
       record { bytes = r.bytes ∙ ap (records st fs ++◌) w.bytes; rising = r.rising } in
-      is_refused 16 _ (omega arith, omega arith) (not_above fs _ _ w.fits v (not_above_lem (least_after 0 fs) (number_in x) h.1))
+      is_refused 16 _ (omega arith, omega arith) (not_above fs _ _ w.fits v (leb-false _ _ (not-true _ h.1)))
       (stopped_16 u e.0 h.0 h.1)) e.1) r.ends
     where
       at_start : {fs : List Phrase} (rest : List ℕ) → 0 < length rest → UpTo st book fs rest → row15 st rest ≡ true
           → BookDue st book 15 (length (records st fs))
       at_start [] more u h = absurd (omega (arith, more))
       at_start {fs} (c ∷ rest) more u h = no_record fs c rest u (none_there u (bytes_after u b) h)
-
-      not_above_lem : (least n : ℕ) → not (leb least n) ≡ true → n < least
-      not_above_lem least n h = ⊎_elim (λ l. l) (λ l. absurd (false≢true (rw (le-leb least n l) at h))) (below_or n least)
 
   pub judge : (book : List ℕ) → Bytes book → Judged book
   judge book b = judge_run b (run (length book) 0 book (omega arith) b)

@@ -1,10 +1,14 @@
--- A test has two outcomes, so what holds in both holds; and a class is a list of bytes, so what holds of all its letters is one computation over that list, as what holds of all numbers below a bound is.
-use Rattle.laws.proofs.Kit.{ℕ, zero, suc, ◌<◌, ◌≤◌, ◌≡◌, refl, sym, ap, ◌∙◌, Bool, true, false, cond, ◌||◌, true≢false, false≢true, ◌⊎◌}
-use Rattle.laws.proofs.Kit.{inl, inr, List, [], ◌∷◌, ◌++◌, map, arith, eqb, leb, eqb-true, eqb-false, leb-true, leb-false}
+-- A test has two outcomes, so what holds in both holds; and a class is a list of bytes, so what holds of all its letters is one computation
+-- over that list, as what holds of all numbers below a bound is.
+use Rattle.laws.proofs.Kit.{ℕ, zero, suc, ◌<◌, ◌≡◌, refl, sym, ap, ◌∙◌, Bool, true, false, cond, true≢false, false≢true}
+use Rattle.laws.proofs.Kit.{List, [], ◌∷◌, ◌++◌, map, arith, eqb, eqb-true, eqb-false}
 use Rattle.spec.specs.Letters.{is_break, is_mark, plain_vowels, softening_vowels, is_vowel, is_obstruent, is_paired}
 use Rattle.spec.specs.Refusals.{vowel_byte, sign_byte, hard_sign_byte, consonant_byte}
 use Rattle.spec.specs.{Tables.among, Alphabet.gap, Alphabet.pause, Codes.mark_of}
 use Rattle.spec.proofs.Computed.{everything}
+-- std's: a test that cannot hold fails, an or that fails fails twice, and a number is below another or not
+pub use Rattle.std.proofs.lemmas.Bool.{false_from_ne_true as refuted, or_parts as or-false, cases_lt as below_or}
+pub use Rattle.std.specs.List.{AllByRecursion as EachOf}
 
 -- what holds of each choice by the test's outcome holds of what a test chooses
 pub cond_by : {A : Type 0} (P : A → Type 0) (t : Bool) {x y : A} → (t ≡ true → P x) → (t ≡ false → P y) → P (cond t x y)
@@ -35,25 +39,16 @@ pub either : {P : Type 0} (t : Bool) → (t ≡ true → P) → (t ≡ false →
 either true f g = f refl
 either false f g = g refl
 
--- a test that cannot hold fails
-pub refuted : (t : Bool) → (t ≡ true → ⊥) → t ≡ false
-refuted true f = absurd (f refl)
-refuted false f = refl
-
--- an or that fails fails twice
-pub or-false : (s t : Bool) → (s || t) ≡ false → (s ≡ false) × (t ≡ false)
-or-false true t e = absurd (true≢false e)
-or-false false t e = (refl, e)
-
--- a number is below another or not
-pub below_or : (a b : ℕ) → (a < b) ⊎ (b ≤ a)
-below_or a b = either (leb (suc a) b) (λ q. inl (leb-true (suc a) b q)) (λ q. inr (omega (arith, leb-false (suc a) b q)))
-
 -- two functions that agree on a list agree at each of its bytes
 pub among_same : {A : Type 0} (f g : ℕ → A) (xs : List ℕ) (b : ℕ) → map f xs ≡ map g xs → among xs b ≡ true → f b ≡ g b
 unfolding among
 among_same f g [] b e h = absurd (false≢true h)
 among_same f g (x ∷ xs) b e h = either (eqb b x) (λ d. rw (eqb-true b x d) (cc)) (λ d. among_same f g xs b (cc) (rw d at h))
+
+-- what is claimed of two lists is claimed of both
+pub each_append : {A : Type 0} (Claim : A → Type 0) (a b : List A) → EachOf Claim a → EachOf Claim b → EachOf Claim (a ++ b)
+each_append Claim [] b p q = q
+each_append Claim (x ∷ a) b p q = (p.0, each_append Claim a b p.1 q)
 
 -- the numbers below n
 abbrev pub below : ℕ → List ℕ
@@ -63,11 +58,8 @@ below (suc n) = n ∷ below n
 -- two functions that agree on the numbers below n agree at each of them
 pub below_same : {A : Type 0} (f g : ℕ → A) (n b : ℕ) → map f (below n) ≡ map g (below n) → b < n → f b ≡ g b
 below_same f g zero b e h = absurd (omega arith)
-below_same f g (suc n) b e h = by (eqb b n) refl (below_same f g n b (cc))
-  where
-    by : (t : Bool) → eqb b n ≡ t → (b < n → f b ≡ g b) → f b ≡ g b
-    by true d r = rw (eqb-true b n d) (cc)
-    by false d r = r (omega (arith, eqb-false b n d))
+below_same f g (suc n) b e h =
+    either (eqb b n) (λ d. rw (eqb-true b n d) (cc)) (λ d. below_same f g n b (cc) (omega (arith, eqb-false b n d)))
 
 -- two that agree on the bytes that pass a test agree at each of them
 pub where_same : {A : Type 0} (t : ℕ → Bool) (f g : ℕ → A) (d : A) (b : ℕ)
@@ -75,7 +67,8 @@ pub where_same : {A : Type 0} (t : ℕ → Bool) (f g : ℕ → A) (d : A) (b : 
 where_same t f g d b e h k = rw k at (below_same (λ x. cond (t x) (f x) d) (λ x. cond (t x) (g x) d) 256 b e h)
 
 -- so do two functions of two numbers
-pub pairs_same : {A : Type 0} (f g : ℕ → ℕ → A) (n p k c : ℕ) → map (λ x. map (f x) (below p)) (below n) ≡ map (λ x. map (g x) (below p)) (below n)
+pub pairs_same : {A : Type 0} (f g : ℕ → ℕ → A) (n p k c : ℕ)
+    → map (λ x. map (f x) (below p)) (below n) ≡ map (λ x. map (g x) (below p)) (below n)
     → k < n → c < p → f k c ≡ g k c
 pairs_same f g n p k c e h l = below_same (f k) (g k) p c (below_same (λ x. map (f x) (below p)) (λ x. map (g x) (below p)) n k e h) l
 
@@ -102,31 +95,27 @@ pub break_both : (P : ℕ → Type 0) → P gap → P pause → (d : ℕ) → is
 unfolding is_break
 break_both P g p d e = either (eqb d gap) (λ q. rw (eqb-true d gap q) g) (λ q. rw (eqb-true d pause (rw q at e)) p)
 
--- a class without the gap and the pause
-no_break : (class : ℕ → Bool) → class gap ≡ false → class pause ≡ false → NoBreak class
-no_break class = break_both (λ d. class d ≡ false)
-
 -- a break is no mark
 pub break_mark : NoBreak is_mark
 unfolding everything
-break_mark = no_break is_mark refl refl
+break_mark = break_both (λ d. is_mark d ≡ false) refl refl
 
 -- no vowel
 pub break_vowel : NoBreak vowel_byte
 unfolding everything
-break_vowel = no_break vowel_byte refl refl
+break_vowel = break_both (λ d. vowel_byte d ≡ false) refl refl
 
 -- no sign
 pub break_sign : NoBreak sign_byte
 unfolding everything
-break_sign = no_break sign_byte refl refl
+break_sign = break_both (λ d. sign_byte d ≡ false) refl refl
 
 -- no ъ
 pub break_hard_sign : NoBreak hard_sign_byte
 unfolding everything
-break_hard_sign = no_break hard_sign_byte refl refl
+break_hard_sign = break_both (λ d. hard_sign_byte d ≡ false) refl refl
 
 -- and no consonant
 pub break_consonant : NoBreak consonant_byte
 unfolding everything
-break_consonant = no_break consonant_byte refl refl
+break_consonant = break_both (λ d. consonant_byte d ≡ false) refl refl

@@ -1,7 +1,7 @@
--- The codes of a tape. Every letter of an accepted message is one of the alphabet, so each code of its words is a sound, 1 to 13 or 16 to 56,
--- and the marks on its tape are those of its breaks.
-use Rattle.laws.proofs.Kit.{ℕ, zero, suc, ◌+◌, ◌-◌, ◌<◌, ◌≡◌, refl, sym, ap, ◌∙◌, Bool, true, false, cond, not, ◌&&◌, ◌||◌, map, eqb}
-use Rattle.laws.proofs.Kit.{and-eq-true_iff, and-true, or-false, true≢false, List, [], ◌∷◌, ◌++◌, arith, length, take, drop, get_or}
+-- The codes of a tape. Every letter of an accepted message is one of the alphabet, so each code of its words is a sound, 1 to 13 or 16 to
+-- 56, and the marks on its tape are those of its breaks.
+use Rattle.laws.proofs.Kit.{ℕ, suc, ◌+◌, ◌-◌, ◌<◌, ◌≡◌, refl, sym, ap, ◌∙◌, Bool, true, false, cond, not, ◌&&◌, ◌||◌, map, eqb}
+use Rattle.laws.proofs.Kit.{and_parts, and-true, or-false, true≢false, List, [], ◌∷◌, ◌++◌, arith, length, take, drop, get_or}
 use Rattle.laws.proofs.Kit.{length-take, length-drop, take-length, get_or-take, get_or-drop, not-false}
 use Rattle.spec.specs.Letters.{Letter, Message, last, more, read, put_letter, hard_only, paired, soft_only, plain_vowels, softening_vowels}
 use Rattle.spec.specs.Letters.{obstruents, is_gap, is_break, is_mark, is_paired, is_consonant, is_sign, is_vowel, is_obstruent}
@@ -23,27 +23,19 @@ use Rattle.spec.specs.{declared.Syllable.Syllable, declared.Level.Level, declare
 use Rattle.spec.specs.{declared.Level.TheVariants.First, declared.Level.TheVariants.Second}
 use Rattle.spec.proofs.Computed.{everything}
 use Rattle.laws.proofs.Classes.{cond_both, mark_both, cond_app, cond_same, either, refuted, among_same, vowel_single, vowel_quiet}
+use Rattle.laws.proofs.Classes.{EachOf, each_append}
 use Rattle.laws.proofs.Editions.{sound_code, own_code, mark_own}
 use Rattle.laws.proofs.{Word.phones_cases, Accepted.Passes, Accepted.none_passes}
 use Rattle.laws.specs.Beside.{is_voiced}
+use Rattle.std.specs.List.{AllZip}
+use Rattle.std.proofs.lemmas.List.Elements.{All-from_recursion, All-get_or}
 
 -- a claim on each code of a tape, or on each name
 abbrev pub Each : (ℕ → Bool) → List ℕ → Type 0
-Each f [] = Unit {0}
-Each f (c ∷ t) = (f c ≡ true) × Each f t
+Each f t = EachOf (λ c. f c ≡ true) t
 
 pub each_at : (f : ℕ → Bool) (t : List ℕ) (j : ℕ) → Each f t → j < length t → f (get_or t j 0) ≡ true
-each_at f [] j s h = absurd (omega arith)
-each_at f (c ∷ t) zero s h = s.0
-each_at f (c ∷ t) (suc j) s h = each_at f t j s.1 (omega arith)
-
-each_append : (f : ℕ → Bool) (s t : List ℕ) → Each f s → Each f t → Each f (s ++ t)
-each_append f [] t a b = b
-each_append f (c ∷ s) t a b = (a.0, each_append f s t a.1 b)
-
-each_more : (f g : ℕ → Bool) → ((c : ℕ) → f c ≡ true → g c ≡ true) → (t : List ℕ) → Each f t → Each g t
-each_more f g h [] s = tt
-each_more f g h (c ∷ t) s = (h c s.0, each_more f g h t s.1)
+each_at f t j s h = All-get_or (λ c. f c ≡ true) t j 0 h (All-from_recursion (λ c. f c ≡ true) t s)
 
 -- a letter of the alphabet
 unfoldable pub spells : ℕ → Bool
@@ -51,8 +43,7 @@ spells b = is_consonant b || (is_sign b || is_vowel b)
 
 -- a word of such letters
 abbrev pub Spelled : List Letter → Type 0
-Spelled [] = Unit {0}
-Spelled (l ∷ w) = (spells l.byte ≡ true) × Spelled w
+Spelled w = EachOf (λ (l : Letter). spells l.byte ≡ true) w
 
 -- pass 1 only takes letters away
 pub elide_spelled : (p : ℕ) (w : List Letter) → Spelled w → Spelled (elide_from p w)
@@ -68,8 +59,8 @@ both f b c = f c && (not (is_paired b) || f (suc c))
 pub soft_both : (f : ℕ → Bool) (x : Phone) (n c : ℕ) → both f x.letter c ≡ true → f (cond (is_soft x n) (suc c) c) ≡ true
 unfolding both is_soft
 soft_both f x n c h =
-    let e = (and-eq-true_iff (f c) _).0 h in
-    either (is_soft x n) (λ s. rw s (rw ((and-eq-true_iff (is_paired x.letter) _).0 s).0 at e.1)) (λ s. rw s e.0)
+    let e = and_parts (f c) _ h in
+    either (is_soft x n) (λ s. rw s (rw (and_parts (is_paired x.letter) _ s).0 at e.1)) (λ s. rw s e.0)
 
 -- The letter b may make the sound c: ИЭ is made by а, е and я alone, and they make no Э1.
 unfoldable pub makes : ℕ → ℕ → Bool
@@ -86,8 +77,7 @@ fine b c = both (makes b) b c && (is_obstruent b || both (λ x. not (is_voiced x
 
 -- each of these sounds is so
 abbrev pub Fine : List Phone → Type 0
-Fine [] = Unit {0}
-Fine (x ∷ xs) = (fine x.letter x.code ≡ true) × Fine xs
+Fine xs = EachOf (λ (x : Phone). fine x.letter x.code ≡ true) xs
 
 -- a vowel has no palatalized sound and is no obstruent
 vowel_fine : (b c : ℕ) → is_vowel b ≡ true → plain b c ≡ true → fine b c ≡ true
@@ -101,13 +91,14 @@ vowel_plain hard p s b h = among_same (λ x. plain x (vowel_sound hard p s x)) (
     (each s.level refl) h
   where
     each : (level : Level) → s.level ≡ level
-        → map (λ x. plain x (vowel_sound hard p s x)) (plain_vowels ++ softening_vowels) ≡ map (λ _. true) (plain_vowels ++ softening_vowels)
+        → map (λ x. plain x (vowel_sound hard p s x)) (plain_vowels ++ softening_vowels)
+        ≡ map (λ _. true) (plain_vowels ++ softening_vowels)
     each Stressed e = rw e (simp (cond_app (plain «и»), cond_same))
     each First e = rw e (simp (cond_app (plain «а»), cond_app (plain «э»), cond_same))
     each Second e = rw e (simp (cond_app (plain «а»), cond_app (plain «э»), cond_same))
 
 pub vowel_makes : (hard : Bool) (p : ℕ) (s : Syllable) (b : ℕ) → is_vowel b ≡ true → makes b (vowel_sound hard p s b) ≡ true
-vowel_makes hard p s b h = ((and-eq-true_iff (makes b (vowel_sound hard p s b)) _).0 (vowel_plain hard p s b h)).0
+vowel_makes hard p s b h = (and_parts (makes b (vowel_sound hard p s b)) _ (vowel_plain hard p s b h)).0
 
 -- so the sound of another vowel than а, е and я is its own code
 pub vowel_own : (e : Edition) (hard : Bool) (p : ℕ) (s : Syllable) (b : ℕ) → is_vowel b ≡ true → among reducing b ≡ false
@@ -123,7 +114,7 @@ glide_plain b = simp cond_same
 -- what a letter makes is a sound
 pub made_sound : (b c : ℕ) → makes b c ≡ true → is_sound c ≡ true
 unfolding makes
-made_sound b c h = either (among reducing b) (λ q. ((and-eq-true_iff (is_sound c) _).0 (rw q at h)).0) (λ q. rw (rw q at h))
+made_sound b c h = either (among reducing b) (λ q. (and_parts (is_sound c) _ (rw q at h)).0) (λ q. rw (rw q at h))
 
 -- a consonant's sound as written
 written_fine : (b : ℕ) → is_consonant b ≡ true → fine b (written_code b) ≡ true
@@ -154,10 +145,7 @@ toned_made asWritten b c h f = f
 
 -- a claim on each sound and the letter that made it
 abbrev pub EachBy : (ℕ → ℕ → Bool) → List ℕ → List ℕ → Type 0
-EachBy f [] [] = Unit {0}
-EachBy f [] (c ∷ t) = ⊥
-EachBy f (b ∷ bs) [] = ⊥
-EachBy f (b ∷ bs) (c ∷ t) = (f b c ≡ true) × EachBy f bs t
+EachBy f bs t = AllZip (λ b c. f b c ≡ true) bs t
 
 each_by : (f : ℕ → ℕ → Bool) (g : ℕ → Bool) → ((b c : ℕ) → f b c ≡ true → g c ≡ true) → (bs t : List ℕ) → EachBy f bs t → Each g t
 each_by f g h [] [] s = tt
@@ -174,7 +162,7 @@ fine_made : (next : Bool) (xs : List Phone) → Fine xs → EachBy makes (letter
 unfolding palatalize voice voice_one fine
 fine_made next [] f = tt
 fine_made next (x ∷ xs) f =
-    let s = ((and-eq-true_iff (both (makes x.letter) x.letter x.code) _).0 f.0).0 in
+    let s = (and_parts (both (makes x.letter) x.letter x.code) _ f.0).0 in
     let t = toned_made (tone_of next (codes_of (voice next xs))) x.letter x.code in
     (soft_both (makes x.letter) _ _ _ (either (is_obstruent x.letter) (λ q. rw q (t q s)) (λ q. rw q s)), fine_made next xs f.1)
 
@@ -185,7 +173,8 @@ unfolding word_tape
 word_made hard next w s = fine_made next (phones_from hard (facts_of w) 0 (elide w)) (word_fine hard w s)
 
 pub word_sounds : (hard next : Bool) (w : List Letter) → Spelled w → Each is_sound (word_tape hard next w)
-word_sounds hard next w s = each_by makes is_sound made_sound (letters_of (phones_from hard (facts_of w) 0 (elide w))) (word_tape hard next w)
+word_sounds hard next w s =
+    each_by makes is_sound made_sound (letters_of (phones_from hard (facts_of w) 0 (elide w))) (word_tape hard next w)
     (word_made hard next w s)
 
 -- a message of such words
@@ -220,7 +209,8 @@ sounds_unmarked : (s : List ℕ) → Each is_sound s → marks_of s ≡ []
 unfolding marks_of is_mark_code is_sound_code among
 sounds_unmarked [] h = refl
 sounds_unmarked (c ∷ s) h =
-    rw (refuted (is_mark_code c) (λ q. true≢false (sym h.0 ∙ among_same is_sound (λ _. false) (0 ∷ 63 ∷ []) c refl (simp or-false q)))) (sounds_unmarked s h.1)
+    rw (refuted (is_mark_code c) (λ q. true≢false (sym h.0 ∙ among_same is_sound (λ _. false) (0 ∷ 63 ∷ []) c refl (simp or-false q))))
+    (sounds_unmarked s h.1)
 
 -- and a break's mark is one
 pub marks_mark : (x : ℕ) (t : List ℕ) → marks_of (mark_of x ∷ t) ≡ mark_of x ∷ marks_of t
@@ -251,7 +241,8 @@ marks_append (c ∷ s) t = rw (marks_append s t) (sym (cond_app (λ (x : List �
 segment_marks : (h n : Bool) (r : Message) → Spells r → marks_of (segment h n r) ≡ marks_in r
 unfolding segment marks_in
 segment_marks h n (last w) s = sounds_unmarked _ (word_sounds h n w s)
-segment_marks h n (more w x r) s = rw (marks_append, sounds_unmarked _ (word_sounds h _ w s.0), marks_mark, segment_marks (is_gap x && ends_hard w) n r s.1)
+segment_marks h n (more w x r) s =
+    rw (marks_append, sounds_unmarked _ (word_sounds h _ w s.0), marks_mark, segment_marks (is_gap x && ends_hard w) n r s.1)
 
 -- The marks on the tape of bytes are those of their breaks, in order, whatever stands around them.
 pub bytes_marks : (h n : Bool) (p : List ℕ) → Spells (read p) → marks_of (segment h n (read p)) ≡ break_marks p
@@ -293,7 +284,7 @@ module _ (e : Edition) where
   segment_codes h n (last w) s = read_codes (word_tape h n w) (word_sounds h n w s)
   segment_codes h n (more w x r) s =
       let v = is_gap x && voices (segment (is_gap x && ends_hard w) n r) in
-      rw (map-append, mark_own) (each_append is_code (map (code_in e) (word_tape h v w)) _
+      rw (map-append, mark_own) (each_append _ (map (code_in e) (word_tape h v w)) _
       (read_codes (word_tape h v w) (word_sounds h v w s.0)) (mark_code x, segment_codes (is_gap x && ends_hard w) n r s.1))
 
   -- so are those of each tape of an accepted message, whole or in parts
@@ -305,7 +296,7 @@ module _ (e : Edition) where
     joined_codes : (a : ℕ) (cuts : List ℕ) → Each is_code (joined_from (tape e) m a cuts)
     unfolding joined_from
     joined_codes a [] = rw (take-length (drop a m)) at (stretch_codes a (length (drop a m)))
-    joined_codes a (c ∷ cuts) = each_append is_code (tape e (take (c - a) (drop a m))) _ (stretch_codes a (c - a))
+    joined_codes a (c ∷ cuts) = each_append _ (tape e (take (c - a) (drop a m))) _ (stretch_codes a (c - a))
         (mark_code (get_or m c 0), joined_codes (suc c) cuts)
 
   -- Every code that the joiner writes for an accepted message is a sound's or a mark, and with no cuts that is the transcriber's tape.
@@ -331,7 +322,7 @@ names_each facts p (l ∷ w) = let r = names_each facts l.byte w in cond_both (E
 names_of_each : (r : Message) → Each is_name (names_of r)
 unfolding names_of word_names
 names_of_each (last w) = names_each (facts_of w) 0 (elide w)
-names_of_each (more w x r) = each_append is_name (names_from (facts_of w) 0 (elide w)) _ (names_each (facts_of w) 0 (elide w)) (names_of_each r)
+names_of_each (more w x r) = each_append _ (names_from (facts_of w) 0 (elide w)) _ (names_each (facts_of w) 0 (elide w)) (names_of_each r)
 
 -- Every name is 1 to 7.
 pub names_written : (m : List ℕ) (i : ℕ) → i < length (names m) → is_name (get_or (names m) i 0) ≡ true

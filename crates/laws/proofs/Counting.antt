@@ -1,7 +1,7 @@
 -- The counts of codes and names letter by letter are the lengths of the tape and of the naming, for every message: passes 4 and 5 give each
 -- sound one code, and pass 1 takes away only letters that are then counted none and change nothing about the letter after them.
-use Rattle.laws.proofs.Kit.{ℕ, ◌+◌, ◌≡◌, refl, ap, ◌∙◌, Bool, true, false, cond, ◌&&◌, List, [], ◌∷◌, ◌++◌}
-use Rattle.laws.proofs.Kit.{arith, eqb, length, length-append, map, sym}
+use Rattle.laws.proofs.Kit.{ℕ, ◌+◌, ◌≡◌, refl, ap, ◌∙◌, Bool, false, cond, ◌&&◌, List, [], ◌∷◌, ◌++◌}
+use Rattle.laws.proofs.Kit.{arith, length, length-append, map, sym}
 use lib.ListN.{length-map, replicate, length-replicate}
 use Rattle.spec.specs.Alphabet.{«е», «ё», «и», «о», «ю», «я»}
 use Rattle.spec.specs.Letters.{Letter, Message, last, more, read, plain_vowels, softening_vowels, is_gap, is_sign, is_vowel}
@@ -18,10 +18,9 @@ use Rattle.laws.proofs.{Elided.elide_cases, Elided.phones_free, Elided.names_eli
 -- a letter that is no vowel has no glide
 no_glide : (p : ℕ) (cover : Cover) (b : ℕ) → is_vowel b ≡ false → glides p cover b ≡ false
 unfolding glides is_vowel among
-no_glide p cover b n = rw (other «е» refl, other «ё» refl, other «ю» refl, other «я» refl, other «и» refl, other «о» refl)
-  where
-    other : (x : ℕ) → among (plain_vowels ++ softening_vowels) x ≡ true → eqb b x ≡ false
-    other x i = among_none (plain_vowels ++ softening_vowels) b x n i
+no_glide p cover b n =
+    let other = among_none (plain_vowels ++ softening_vowels) b in
+    rw (other «е» n refl, other «ё» n refl, other «ю» n refl, other «я» n refl, other «и» n refl, other «о» n refl)
 
 -- a letter that stays makes each of its sounds, which are as many as are counted
 pub letter_makers : (hard : Bool) (facts : Facts) (p : ℕ) (l : Letter) (w : List Letter)

@@ -32,9 +32,11 @@ module _ (m : List ℕ) where
       rw q (omega (arith, p.1, break_within m c p.0, bad_from (suc c) (suc k) cuts)))
 
   -- a cut of a rising list is the place of a break, and not below the least place
-  pub cut_good : {c : ℕ} (least : ℕ) (cuts : List ℕ) → RisingFrom m least cuts → CutOf c cuts → (least ≤ c) × (is_break (get_or m c 0) ≡ true)
+  pub cut_good : {c : ℕ} (least : ℕ) (cuts : List ℕ) → RisingFrom m least cuts → CutOf c cuts
+      → (least ≤ c) × (is_break (get_or m c 0) ≡ true)
   cut_good least [] r i = absurd i
-  cut_good least (d ∷ cuts) r i = ⊎_elim (λ e. rw e (r.0, r.1)) (λ j. let g = cut_good (suc d) cuts r.2 j in (omega (arith, r.0, g.0), g.1)) i
+  cut_good least (d ∷ cuts) r i =
+      ⊎_elim (λ e. rw e (r.0, r.1)) (λ j. let g = cut_good (suc d) cuts r.2 j in (omega (arith, r.0, g.0), g.1)) i
 
 -- Number 12 fits no rising list of breaks.
 pub rising_to : (m cuts : List ℕ) → Rising m cuts → bad_cut m cuts ≡ length cuts
@@ -73,7 +75,10 @@ module _ (m : List ℕ) where
   judged_from least (c ∷ cuts) = either (row12 m least c) (λ q. rw q (λ j l. absurd (omega arith), inr (omega arith, q))) (λ q.
       let k = judged_from (suc c) cuts in
       let p = row12_passes m least c q in
-      rw (q, bad_shift (suc c) 0 cuts) (before q k.0, ⊎_elim (λ r. inl (p.1, p.0, r)) (λ b. inr (omega (arith, b.0), rw (least_next least c cuts _) b.1)) k.1))
+      rw (q, bad_shift (suc c) 0 cuts) (
+        before q k.0,
+        ⊎_elim (λ r. inl (p.1, p.0, r)) (λ b. inr (omega (arith, b.0), rw (least_next least c cuts _) b.1)) k.1,
+      ))
     where
       before : {k : ℕ} → row12 m least c ≡ false → ((j : ℕ) → j < k → row12 m (least_at (suc c) cuts j) (get_or cuts j 0) ≡ false)
           → (j : ℕ) → j < suc k → row12 m (least_at least (c ∷ cuts) j) (get_or (c ∷ cuts) j 0) ≡ false
@@ -105,7 +110,8 @@ module _ (m : List ℕ) where
   full_from least k [] e le = tt
   full_from least k (b ∷ r) e le =
       let s = rest_first m k b r e in
-      either (is_break b) (λ q. rw q (le, rw s.1 q, full_from (suc k) (suc k) r s.2 (omega arith))) (λ q. rw q (full_from least (suc k) r s.2 (omega arith)))
+      either (is_break b) (λ q. rw q (le, rw s.1 q, full_from (suc k) (suc k) r s.2 (omega arith)))
+      (λ q. rw q (full_from least (suc k) r s.2 (omega arith)))
 
   every_from : (k : ℕ) (r : List ℕ) → drop k m ≡ r → (c : ℕ) → k ≤ c → is_break (get_or m c 0) ≡ true → CutOf c (breaks_from k r)
   unfolding breaks_from

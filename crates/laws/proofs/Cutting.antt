@@ -1,4 +1,5 @@
--- The two tapes of a message, for every list of cuts: each cut splits both tapes at one index, and a cut is live just when a bit from over it changes a code beside its mark.
+-- The two tapes of a message, for every list of cuts: each cut splits both tapes at one index, and a cut is live just when a bit from over
+-- it changes a code beside its mark.
 use Rattle.laws.proofs.Kit.{ℕ, zero, suc, ◌+◌, ◌-◌, ◌≤◌, ◌&&◌, ◌++◌, append_assoc, length-append, ◌<◌, ◌≡◌, refl, sym, ap, ◌∙◌, true, false}
 use Rattle.laws.proofs.Kit.{true≢false, inl, inr, ⊎_elim, ◌≢◌, ◌↔◌, List, [], ◌∷◌, arith, length, get_or, take, drop}
 use Rattle.spec.specs.Joints.{RisingFrom, Rising, joined_from, marks_of, break_marks, word_after, CutOf, DiffersAt, joined, is_live}
@@ -69,7 +70,8 @@ module _ (m : List ℕ) (f : NoneFits m) where
   spells = part_spells m (none_passes m f)
 
   -- as many codes as a part has of its own stand on the tape between its two ends
-  part_size : (a c : ℕ) → Begins m a → a ≤ c → is_break (get_or m c 0) ≡ true → mark_index m a + length (sounds (part m a c)) ≡ mark_index m c
+  part_size : (a c : ℕ) → Begins m a → a ≤ c → is_break (get_or m c 0) ≡ true
+      → mark_index m a + length (sounds (part m a c)) ≡ mark_index m c
   part_size a c b le e = omega (arith, own_length m a c b le (inl e), (placed m a c b le (inl e)).size)
 
   -- at the first cut
@@ -86,7 +88,8 @@ module _ (m : List ℕ) (f : NoneFits m) where
   }
 
   -- at a later one
-  cut_later : (a c d : ℕ) (cuts : List ℕ) → Begins m a → RisingFrom m a (d ∷ cuts) → suc d ≤ c → CutAt m (suc d) c (joined_from sounds m (suc d) cuts)
+  cut_later : (a c d : ℕ) (cuts : List ℕ) → Begins m a → RisingFrom m a (d ∷ cuts) → suc d ≤ c
+      → CutAt m (suc d) c (joined_from sounds m (suc d) cuts)
       → CutAt m a c (joined_from sounds m a (d ∷ cuts))
   unfolding joined_from sounds break_marks
   cut_later a c d cuts b r lt k = record {
@@ -94,7 +97,15 @@ module _ (m : List ℕ) (f : NoneFits m) where
     back = k.back;
     split = rw (k.split, append_assoc);
     size = simp length-append (omega (arith, k.size, part_size a d b r.0 r.1, mark_next m d r.1));
-    own = rw (part_split m a d c r.0 lt (break_within m d r.1), marks_append, marks_mark, bytes_marks false false (part m a d) (spells a (d - a)), k.own, breaks_append, r.1);
+    own = rw (
+      part_split m a d c r.0 lt (break_within m d r.1),
+      marks_append,
+      marks_mark,
+      bytes_marks false false (part m a d) (spells a (d - a)),
+      k.own,
+      breaks_append,
+      r.1,
+    );
     unvoiced = λ x u. rw last_append (k.unvoiced (mark_of (get_or m d 0)) (mark_unvoiced (get_or m d 0)));
     low = k.low;
   }
@@ -103,7 +114,8 @@ module _ (m : List ℕ) (f : NoneFits m) where
   cut_at : (a c : ℕ) (cuts : List ℕ) → Begins m a → RisingFrom m a cuts → CutOf c cuts → CutAt m a c (joined_from sounds m a cuts)
   cut_at a c [] b r i = absurd i
   cut_at a c (d ∷ cuts) b r i =
-      ⊎_elim (λ e. rw e (cut_first a d cuts b r)) (λ j. cut_later a c d cuts b r (cut_good m (suc d) cuts r.2 j).0 (cut_at (suc d) c cuts r.1 r.2 j)) i
+      ⊎_elim (λ e. rw e (cut_first a d cuts b r)) (λ j. cut_later a c d cuts b r (cut_good m (suc d) cuts r.2 j).0
+      (cut_at (suc d) c cuts r.1 r.2 j)) i
 
   -- One cut of the list, in an edition.
   module _ (e : Edition) (cuts : List ℕ) (rising : Rising m cuts) (c : ℕ) (cut : CutOf c cuts) where

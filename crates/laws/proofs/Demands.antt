@@ -1,6 +1,8 @@
--- The operator's three demands, from the promises alone: every operation answers the check's refusal, then number 12, then 11, and else its text, so each way of ending is one case. Those of a text are those of its edited form.
-use Rattle.laws.proofs.Kit.{ℕ, ◌≤◌, ◌≡◌, refl, sym, ap, ◌∙◌, cond, ◌⊎◌, inl, inr, ⊎_elim, ◌↔◌, List, [], ◌∷◌, ◌<◌, false≢true, arith, eqb}
-use Rattle.laws.proofs.Kit.{length, take, drop, length-append, length-drop, take_at, eq-eqb, ne_eqb, le-leb, lt-leb}
+-- The operator's three demands, from the promises alone: every operation answers the check's refusal, then number 12, then 11, and else its
+-- text, so each way of ending is one case. Those of a text are those of its edited form.
+use Rattle.laws.proofs.Kit.{ℕ, ◌≤◌, ◌≡◌, refl, sym, ap, ◌∙◌, cond, ◌⊎◌, inl, inr, ⊎_elim, ◌↔◌, List, [], ◌<◌, arith, eqb}
+use Rattle.laws.proofs.Kit.{length, take, drop, length-append, length-drop, take_at, eq-eqb, eqb-true, ne_eqb, le-leb, leb-false, lt-leb}
+use Rattle.laws.proofs.Kit.{not-true}
 use lib.IntN.{ℤ, nat_abs}
 use Rattle.spec.specs.Joints.{Rising, joined, live_count, bad_cut_from, bad_cut}
 use Rattle.spec.specs.Answers.{number_of, place_of, length_of, live_of, checked_number, checked_place, checked_codes, checked_names, within}
@@ -15,7 +17,7 @@ use Rattle.spec.specs.SpokenLevels.{spoken, level_answer, InRange}
 use Rattle.spec.specs.declared.Edition.{Edition}
 use Rattle.laws.proofs.Editions.{tape_length}
 use Rattle.spec.specs.{Tape.tape, Tape.names, Refusals.refusal, Refusals.check_of, Refusals.fits, Refusals.NoneFits, Refusals.Given}
-use Rattle.spec.specs.{declared.Answer.Answer, declared.Answer.TheVariants.Written, declared.Answer.TheVariants.Refused}
+use Rattle.spec.specs.{Results.Answer}
 use Rattle.laws.proofs.Accepted.{check_finds, passes_none, none_accepted, given_range, given_refused, empty_given, long_given}
 use Rattle.laws.proofs.Edited.{edited_size, edited_twice, accepted_own, edited_never_four, only_breaks}
 use Rattle.laws.proofs.Utf8.{read_most, whole_run, run_once, run_whole, stops_at, stops_once, read_back, run_formed, encoded_size}
@@ -24,11 +26,14 @@ use Rattle.laws.proofs.SpokenLevels.{level_size, level_equal, level_marks, level
 use Rattle.laws.proofs.Cuts.{judged, first_bad, rising_to, full_rising, full_every}
 use Rattle.laws.proofs.Counting.{tape_count, names_count}
 use Rattle.laws.proofs.{Classes.below_or, Cutting.counts_none, Cutting.two_tapes}
+use Rattle.std.proofs.Common.{Err}
+use Rattle.std.proofs.lemmas.List.{nil_from_length}
+use Rattle.spec.specs.Results.{wrote}
 
 -- The ways in which an operation can end: what is due is its text where it accepts and there is room, and else a number and its place.
 pub record Ways (Accepted : Type 0) (Number : ℕ → ℕ → Type 0) (text : List ℕ) (count : ℕ) (out : List ℕ) (due : Answer) : Type 0 where
-  pub written : Accepted → length text ≤ length out → due ≡ Written (length text) count
-  pub refused : (n p : ℕ) → Number n p → due ≡ Refused (refusal n p)
+  pub written : Accepted → length text ≤ length out → due ≡ wrote (length text) count
+  pub refused : (n p : ℕ) → Number n p → due ≡ Err (refusal n p)
   pub ends : (Accepted × (length text ≤ length out)) ⊎ ((n : ℕ) × (p : ℕ) × Number n p × (1 ≤ n))
 
 -- An operation that promises what is due
@@ -37,13 +42,16 @@ module _ {Accepted : Type 0} {Number : ℕ → ℕ → Type 0} {text : List ℕ}
   -- carries it out where that is its text
   pub carried : Accepted → length text ≤ length out → CarriedOut text count out out' r
   unfolding output_after number_of place_of length_of live_of
-  carried a h = let p = rw (ways.written a h) at kept in record { output = p.output; number = p.number; place = p.place; length = p.length; live = p.live }
+  carried a h = let p = rw (ways.written a h) at kept in
+      record { output = p.output; number = p.number; place = p.place; length = p.length; live = p.live }
 
   -- is settled
   pub settled : Settled Number text count out out' r
   unfolding output_after number_of place_of length_of live_of
   settled = ⊎_elim
-      (λ w. let c = carried w.0 w.1 in record { ended = inl c; size = ap length c.output ∙ simp (length-append, length-drop) (omega (arith, w.1)) })
+      (λ w.
+      let c = carried w.0 w.1 in
+      record { ended = inl c; size = ap length c.output ∙ simp (length-append, length-drop) (omega (arith, w.1)) })
       (λ d.
       let p = rw (ways.refused _ _ d.2) at kept in
       record {
@@ -85,15 +93,16 @@ module _ {Accepted : Type 0} {Number : ℕ → ℕ → Type 0} {text : List ℕ}
 -- What is due after the check and the list of cuts ends in these ways.
 module _ (m cuts text : List ℕ) (count : ℕ) (out : List ℕ) where
   abbrev due_after : Answer
-  due_after = after_check (check_of m) (cond (eqb (bad_cut m cuts) (length cuts)) (within (length out) (length text) count) (Refused (refusal 12 (bad_cut m cuts))))
+  due_after = after_check (check_of m) (cond (eqb (bad_cut m cuts) (length cuts)) (within (length out) (length text) count)
+      (Err (refusal 12 (bad_cut m cuts))))
 
   -- accepted with room: written
-  written_due : NoneFits m → Rising m cuts → length text ≤ length out → due_after ≡ Written (length text) count
+  written_due : NoneFits m → Rising m cuts → length text ≤ length out → due_after ≡ wrote (length text) count
   unfolding after_check within
   written_due f r h = rw (none_accepted m f, eq-eqb _ _ (rising_to m cuts r), le-leb (length text) (length out) h)
 
   -- a number and its place: refused so
-  refused_due : (n p : ℕ) → Due m cuts (length text) (length out) n p → due_after ≡ Refused (refusal n p)
+  refused_due : (n p : ℕ) → Due m cuts (length text) (length out) n p → due_after ≡ Err (refusal n p)
   unfolding after_check within
   refused_due n p (turned_away k q g) = rw (given_refused m k q g)
   refused_due n p (wrong_cut i f b) = rw (none_accepted m f, first_bad m cuts i b, ne_eqb i (length cuts) (omega (arith, b.within)))
@@ -139,11 +148,13 @@ pub demand2 : (m : List ℕ) → Demand2 m
 unfolding name_answer tape_answer join_answer bad_cut bad_cut_from checked_number checked_place checked_codes checked_names
 demand2 m = record {
   accepts = λ r kept. (
-    λ e. ⊎_elim (λ f. passes_none m f.1) (λ f. absurd (omega (arith, (given_range f.given).0, e, kept.number ∙ ap checked_number f.refused))) (check_finds m),
+    λ e. ⊎_elim (λ f. passes_none m f.1) (λ f. absurd
+        (omega (arith, (given_range f.given).0, e, kept.number ∙ ap checked_number f.refused))) (check_finds m),
     λ f. kept.number ∙ ap checked_number (none_accepted m f),
   );
   refuses = λ r kept n p h. (
-    λ e. ⊎_elim (λ f. absurd (omega (arith, e.0, kept.number ∙ ap checked_number f.0))) (λ f. rw (← e.0, ← e.1, kept.answer, f.refused) f.given) (check_finds m),
+    λ e. ⊎_elim (λ f. absurd (omega (arith, e.0, kept.number ∙ ap checked_number f.0)))
+        (λ f. rw (← e.0, ← e.1, kept.answer, f.refused) f.given) (check_finds m),
     λ g. let e = given_refused m n p g in (kept.number ∙ ap checked_number e, kept.place ∙ ap checked_place e),
   );
   counts = λ r kept f ed.
@@ -180,12 +191,11 @@ edit_ways t out = record {
 -- numbers 1 and 2 go by the length alone
 empty_exactly : (m : List ℕ) → Given m 1 0 ↔ (m ≡ [])
 unfolding fits
-empty_exactly [] = (λ g. refl, λ e. empty_given [] refl)
-empty_exactly (b ∷ m) = (λ g. absurd (false≢true (rw (ne_eqb (length (b ∷ m)) 0 (omega arith)) at g.holds)), λ e. absurd (omega (arith, ap length e)))
+empty_exactly m = (λ g. nil_from_length m (eqb-true (length m) 0 g.holds), λ e. empty_given m (ap length e))
 
 long_exactly : (m : List ℕ) → Given m 2 0 ↔ (4096 < length m)
 unfolding fits
-long_exactly m = (λ g. ⊎_elim (λ h. h) (λ h. absurd (false≢true (rw (le-leb (length m) 4096 h) at g.holds))) (below_or 4096 (length m)), long_given m)
+long_exactly m = (λ g. leb-false (length m) 4096 (not-true _ g.holds), long_given m)
 
 -- The demands for a text, through its edited form.
 pub edited_demands : (t : List ℕ) → EditedDemands t
@@ -217,7 +227,7 @@ read_ways t out = record {
       (below_or (read_to t) (length t));
 }
   where
-    refused : (n p : ℕ) → ReadDue t (length out) n p → read_answer t (length out) ≡ Refused (refusal n p)
+    refused : (n p : ℕ) → ReadDue t (length out) n p → read_answer t (length out) ≡ Err (refusal n p)
     refused n p (unreadable q s) = let e = stops_once t q s in rw (e, ne_eqb (read_to t) (length t) (omega (arith, e, s.within)))
     refused n p (no_room a h) = rw (eq-eqb (read_to t) (length t) (run_whole t a.0 a.1), lt-leb (length (decoded t)) (length out) h)
 
@@ -243,7 +253,11 @@ pub read_demands : (t : List ℕ) → ReadDemands t
 read_demands t = record {
   settled = λ out out' r k. settled (read_ways t out) k;
   exact = λ out out' r k. exactly (read_ways t out) k;
-  others = λ out out' r k. (λ z. unreadable_no_run 13 (place_of r) (((exactly (read_ways t out) k).refuses 13 (place_of r) (omega arith)).0 (z, refl)) refl, no_run_unreadable t out out' r k);
+  others = λ out out' r k. (
+    λ z. unreadable_no_run 13 (place_of r)
+        (((exactly (read_ways t out) k).refuses 13 (place_of r) (omega arith)).0 (z, refl)) refl,
+    no_run_unreadable t out out' r k,
+  );
   malformed = λ out out' r k f. no_run_unreadable t out out' r k (λ a. f (rw a.1.text (run_formed a.0 a.1.rows)));
   once = run_once t;
   size = omega (arith, decoded_size t, read_most t);
@@ -283,7 +297,7 @@ level_ways level out = record {
       (below_or 9999 (nat_abs level));
 }
   where
-    refused : (n p : ℕ) → LevelDue level (length out) n p → level_answer level (length out) ≡ Refused (refusal n p)
+    refused : (n p : ℕ) → LevelDue level (length out) n p → level_answer level (length out) ≡ Err (refusal n p)
     refused n p (outside h) = rw (lt-leb (nat_abs level) 9999 h)
     refused n p (no_room_for a h) = rw (le-leb (nat_abs level) 9999 a, lt-leb (length (spoken level)) (length out) h)
 

@@ -1,6 +1,7 @@
--- The editor's steps as one walk over the text, which carries no more than the break that waits to be put before the next byte; and what follows for edited texts.
+-- The editor's steps as one walk over the text, which carries no more than the break that waits to be put before the next byte; and what
+-- follows for edited texts.
 use Rattle.laws.proofs.Kit.{ℕ, suc, ◌+◌, ◌<◌, ◌≤◌, ◌≡◌, refl, sym, ap, ◌∙◌, ◌⊎◌, inl, inr, ⊎_elim, ◌↔◌, Bool, true, false, cond, ◌&&◌, ◌||◌}
-use Rattle.laws.proofs.Kit.{not, and-false, and-true, or_assoc, true≢false, false≢true, List, [], ◌∷◌, map, arith, eqb, leb, length, drop}
+use Rattle.laws.proofs.Kit.{not, and-false, or_assoc, true≢false, false≢true, List, [], ◌∷◌, map, arith, eqb, leb, length, drop}
 use Rattle.laws.proofs.Kit.{length-drop, leb-true, lt-leb}
 use Rattle.spec.specs.Editing.{pause_marks, gap_marks, replaced, one_break, put_break, merged, without_first, without_last, edited}
 use Rattle.spec.specs.Editing.{OnlyBreaks}
@@ -49,7 +50,8 @@ one_pause a b = either (eqb a pause || eqb b pause) (λ q. rw q) (λ q. rw q)
 one_assoc : (a b c : ℕ) → one_break a (one_break b c) ≡ one_break (one_break a b) c
 unfolding one_break
 one_assoc a b c =
-    let e : (eqb a pause || eqb (one_break b c) pause) ≡ (eqb (one_break a b) pause || eqb c pause) = rw (one_pause b c, one_pause a b) (sym (or_assoc (eqb a pause) (eqb b pause) (eqb c pause))) in
+    let e : (eqb a pause || eqb (one_break b c) pause) ≡ (eqb (one_break a b) pause || eqb c pause) =
+    rw (one_pause b c, one_pause a b) (sym (or_assoc (eqb a pause) (eqb b pause) (eqb c pause))) in
     ap (λ t. cond t pause gap) e
 
 -- after none it is the break itself
@@ -78,7 +80,8 @@ abbrev merge_wait : ℕ → List ℕ → List ℕ
 merge_wait wait t = cond (eqb wait 0) t (put_break wait t)
 
 -- it waits on before a break
-merge_break : (wait x : ℕ) → Waits wait → is_break x ≡ true → (t : List ℕ) → merge_wait (one_break wait x) t ≡ merge_wait wait (put_break x t)
+merge_break : (wait x : ℕ) → Waits wait → is_break x ≡ true → (t : List ℕ)
+    → merge_wait (one_break wait x) t ≡ merge_wait wait (put_break x t)
 merge_break wait x w e t =
     rw (one_some wait x)
     (⊎_elim (λ (z : wait ≡ 0). rw (z, one_alone x e)) (λ (z : is_break wait ≡ true). rw (break_some wait z) (sym (put_twice wait x e t))) w)
@@ -98,7 +101,8 @@ walk_within : (wait : ℕ) → Waits wait → (t : List ℕ) → edit_from wait 
 unfolding edit_from merged
 walk_within wait w [] = sym (merge_end wait w)
 walk_within wait w (b ∷ t) = either (breaks b)
-    (λ q. rw q (walk_within (one_break wait (replaced b)) (inr (one_is_break _ _)) t ∙ ap without_last (merge_break wait (replaced b) w q _)))
+    (λ q. rw q (walk_within (one_break wait (replaced b)) (inr (one_is_break _ _)) t
+    ∙ ap without_last (merge_break wait (replaced b) w q _)))
     (λ q. rw (byte_kept b q, byte_other b q) (rw (walk_within 0 (inl refl) t) (sym (merge_byte wait b (byte_other b q) _))))
 
 -- The edited text is the walk from the first byte on that is no break.
@@ -107,9 +111,11 @@ unfolding edited edit_from merged leading without_first without_last
 edited_walk [] = refl
 edited_walk (b ∷ t) = either (breaks b)
     (λ q. rw q (ap without_last (put_first_lem (replaced b) q _) ∙ edited_walk t))
-    (λ q. rw (byte_kept b q, byte_other b q) (rw (byte_kept b q, byte_other b q, walk_within 0 (inl refl) t) (merge_byte 0 b (byte_other b q) _)))
+    (λ q. rw (byte_kept b q, byte_other b q) (rw (byte_kept b q, byte_other b q, walk_within 0 (inl refl) t)
+    (merge_byte 0 b (byte_other b q) _)))
 
--- No mark of punctuation, and a break only between two other bytes: so it is with the bytes after a break, or after none at all, or after another byte.
+-- No mark of punctuation, and a break only between two other bytes: so it is with the bytes after a break, or after none at all, or after
+-- another byte.
 abbrev CleanAfter : Bool → List ℕ → Type 0
 CleanAfter wide [] = wide ≡ false
 CleanAfter wide (b ∷ t) = (replaced b ≡ b) × ((wide && is_break b) ≡ false) × CleanAfter (is_break b) t
@@ -123,7 +129,8 @@ clean_within wait w (b ∷ t) = either (breaks b) (λ q. rw q (clean_within (one
     let k = byte_kept b q in
     let o = byte_other b q in
     let r = clean_within 0 (inl refl) t in
-    rw q (⊎_elim (λ (z : wait ≡ 0). rw z (k, refl, rw o r)) (λ (z : is_break wait ≡ true). rw (break_some wait z) (break_kept wait z, refl, rw (z, o) (k, refl, r))) w))
+    rw q (⊎_elim (λ (z : wait ≡ 0). rw z (k, refl, rw o r))
+    (λ (z : is_break wait ≡ true). rw (break_some wait z) (break_kept wait z, refl, rw (z, o) (k, refl, r))) w))
 
 -- and from its start, unless nothing is left.
 clean_walk : (t : List ℕ) → (edit_from 0 (begun t) ≡ []) ⊎ CleanAfter true (edit_from 0 (begun t))
@@ -142,7 +149,8 @@ walk_clean wait w [] c = ⊎_elim (λ (z : wait ≡ 0). rw z) (λ (z : is_break 
 walk_clean wait w (b ∷ t) c = either (breaks b)
     (λ q.
     let e = rw c.0 at q in
-    rw q (rw c.0 (⊎_elim (λ (z : wait ≡ 0). rw (z, one_alone b e) (walk_clean b (inr e) t (rw (break_some b e) (rw e at c.2)) ∙ rw (break_some b e)))
+    rw q (rw c.0 (⊎_elim (λ (z : wait ≡ 0). rw (z, one_alone b e)
+    (walk_clean b (inr e) t (rw (break_some b e) (rw e at c.2)) ∙ rw (break_some b e)))
     (λ (z : is_break wait ≡ true). absurd (true≢false (rw (break_some wait z, e) at c.1))) w)))
     (λ q. rw q (rw (walk_clean 0 (inl refl) t (rw (byte_other b q) at c.2))))
 
@@ -196,26 +204,27 @@ opens before = none before || first is_break before
 
 -- number 4 fits a break before which it opens, or after which nothing stands
 four_by : (x n a f : Bool) → ((x && (n || (a || f))) ≡ false) ↔ ((((n || f) && x) ≡ false) × (a ≡ true → x ≡ false))
-four_by false n a f = (λ e. (and-false (n || f), λ q. refl), λ e. refl)
-four_by true true a f = (λ e. absurd (true≢false e), λ e. absurd (true≢false e.0))
-four_by true false true f = (λ e. absurd (true≢false e), λ e. absurd (true≢false (e.1 refl)))
-four_by true false false f = (λ e. (and-true f ∙ e, λ q. absurd (false≢true q)), λ e. sym (and-true f) ∙ e.0)
+four_by x n a f = (λ e. (grind arith, λ q. grind arith), λ e. grind arith)
 
-row_four : (before : List ℕ) (b : ℕ) (after : List ℕ) → (row4 before b after ≡ false) ↔ (((opens before && is_break b) ≡ false) × (none after ≡ true → is_break b ≡ false))
+row_four : (before : List ℕ) (b : ℕ) (after : List ℕ)
+    → (row4 before b after ≡ false) ↔ (((opens before && is_break b) ≡ false) × (none after ≡ true → is_break b ≡ false))
 unfolding row4
 row_four before b after = four_by (is_break b) (none before) (none after) (first is_break before)
 
 -- a mark of punctuation is no byte of a message
 punctuation_refused : (b : ℕ) → row3 [] b [] ≡ false → replaced b ≡ b
 unfolding everything
-punctuation_refused b e = either (among pause_marks b) (λ q. absurd (true≢false (sym (among_same (λ x. row3 [] x []) (λ _. true) pause_marks b refl q) ∙ e)))
-    (λ q. either (among gap_marks b) (λ r. absurd (true≢false (sym (among_same (λ x. row3 [] x []) (λ _. true) gap_marks b refl r) ∙ e))) (λ r. rw (q, r)))
+punctuation_refused b e =
+    either (among pause_marks b) (λ q. absurd (true≢false (sym (among_same (λ x. row3 [] x []) (λ _. true) pause_marks b refl q) ∙ e)))
+    (λ q. either (among gap_marks b) (λ r. absurd (true≢false (sym (among_same (λ x. row3 [] x []) (λ _. true) gap_marks b refl r) ∙ e)))
+    (λ r. rw (q, r)))
 
 -- A message that no row fits is clean.
 clear_clean : (before : List ℕ) (b : ℕ) (m : List ℕ) → ClearFrom before (b ∷ m) → CleanAfter (opens before) (b ∷ m)
 unfolding fits_in rows row3 none first
 clear_clean before b [] c = let f = (row_four before b []).0 (c.0 4) in (punctuation_refused b (c.0 3), f.0, f.1 refl)
-clear_clean before b (d ∷ m) c = (punctuation_refused b (c.0 3), ((row_four before b (d ∷ m)).0 (c.0 4)).0, clear_clean (b ∷ before) d m c.1)
+clear_clean before b (d ∷ m) c =
+    (punctuation_refused b (c.0 3), ((row_four before b (d ∷ m)).0 (c.0 4)).0, clear_clean (b ∷ before) d m c.1)
 
 -- An accepted message is its own edited form.
 pub accepted_own : (m : List ℕ) → NoneFits m → edited m ≡ m
@@ -227,7 +236,8 @@ accepted_own m f = let p = none_passes m f in clean_own m (of m p.some (places_c
     of (b ∷ m) z c = clear_clean [] b m c
 
 -- Number 4 fits no clean text.
-clean_clear : (before : List ℕ) (b : ℕ) (m : List ℕ) → CleanAfter (opens before) (b ∷ m) → EachFrom (λ x c y. row4 x c y ≡ false) before (b ∷ m)
+clean_clear : (before : List ℕ) (b : ℕ) (m : List ℕ) → CleanAfter (opens before) (b ∷ m)
+    → EachFrom (λ x c y. row4 x c y ≡ false) before (b ∷ m)
 unfolding none first
 clean_clear before b [] c = ((row_four before b []).1 (c.1, λ e. c.2), tt)
 clean_clear before b (d ∷ m) c = ((row_four before b (d ∷ m)).1 (c.1, λ e. absurd (false≢true e)), clean_clear (b ∷ before) d m c.2)
@@ -236,7 +246,8 @@ clean_never_four : (m : List ℕ) → CleanAfter true m → (p : ℕ) → fits m
 unfolding fits fits_in rows before_at none
 clean_never_four [] c p = absurd (true≢false c)
 clean_never_four (b ∷ m) c p = either (leb (suc p) (length (b ∷ m)))
-    (λ q. rw q (each_place (b ∷ m) (λ x d y. row4 x d y ≡ false) (b ∷ m) 0 refl (clean_clear [] b m c) p (omega arith) (leb-true (suc p) _ q))) (λ q. rw q)
+    (λ q. rw q (each_place (b ∷ m) (λ x d y. row4 x d y ≡ false) (b ∷ m) 0 refl (clean_clear [] b m c) p (omega arith)
+    (leb-true (suc p) _ q))) (λ q. rw q)
 
 -- An edited text never meets number 4.
 pub edited_never_four : (t : List ℕ) (p : ℕ) → fits (edited t) 4 p ≡ false

@@ -1,6 +1,6 @@
 -- Sounds read as codes, in either edition: one sound alone is changed, and Э1, И1 and that sound answer alike whatever a law asks of a
 -- code. So all that is true of sounds and marks by their number, by such questions and by the marks among them is true of their codes.
-use Rattle.laws.proofs.Kit.{ℕ, zero, suc, ◌≡◌, refl, sym, ap, ◌∙◌, true, cond, List, [], ◌∷◌, map, eqb, eqb-true}
+use Rattle.laws.proofs.Kit.{ℕ, suc, ◌≡◌, refl, sym, ap, ◌∙◌, true, cond, List, [], ◌∷◌, map, eqb, eqb-true}
 use Rattle.laws.proofs.Kit.{length, take, drop, get_or, or-false, true≢false}
 use mathlib.Core.List.{map-append}
 use lib.ListN.{length-map, get_or-map}
@@ -11,6 +11,7 @@ use Rattle.spec.specs.{declared.Edition.Edition, declared.Edition.TheVariants.On
 use Rattle.laws.specs.Beside.{is_voiced, is_high}
 use Rattle.laws.proofs.Classes.{either, refuted, mark_both}
 use Rattle.laws.proofs.Word.{last_code_from}
+use Rattle.std.proofs.lemmas.List.{take-map, drop-map}
 
 -- what holds in each edition holds
 pub edition_both : (P : Edition → Type 0) → P One → P Two → (e : Edition) → P e
@@ -46,14 +47,7 @@ module _ (e : Edition) where
   read_at t k = get_or-map (code_in e) t k 0
 
   pub read_take : (k : ℕ) (t : List ℕ) → take k (map (code_in e) t) ≡ map (code_in e) (take k t)
-  read_take zero t = refl
-  read_take (suc k) [] = refl
-  read_take (suc k) (c ∷ t) = ap (λ x. code_in e c ∷ x) (read_take k t)
-
-  read_drop : (k : ℕ) (t : List ℕ) → drop k (map (code_in e) t) ≡ map (code_in e) (drop k t)
-  read_drop zero t = refl
-  read_drop (suc k) [] = refl
-  read_drop (suc k) (c ∷ t) = read_drop k t
+  read_take k t = take-map (code_in e) k t
 
   -- they voice an obstruent before them as the sounds do
   voices_read : (t : List ℕ) → voices (map (code_in e) t) ≡ voices t
@@ -62,7 +56,7 @@ module _ (e : Edition) where
   voices_read (c ∷ t) = read_same is_voicing refl refl c
 
   pub voices_from : (k : ℕ) (t : List ℕ) → voices (drop k (map (code_in e) t)) ≡ voices (drop k t)
-  voices_from k t = ap voices (read_drop k t) ∙ voices_read (drop k t)
+  voices_from k t = ap voices (drop-map (code_in e) k t) ∙ voices_read (drop k t)
 
   -- the last one tells as much of what follows, and the first one of what stands before
   pub last_read : (t : List ℕ) (c d : ℕ) → is_voiced c ≡ is_voiced d → is_voiced (last_code_from c (map (code_in e) t))

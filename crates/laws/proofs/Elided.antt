@@ -1,5 +1,6 @@
--- Only т and д are elided, and only before с н ч ц ш: none of these is a vowel or a sign or softens, so elision changes no syllable and no softness.
-use Rattle.laws.proofs.Kit.{ℕ, ◌≡◌, refl, sym, ◌∙◌, Bool, true, false, cond, and-false, false≢true, List, [], ◌∷◌, eqb}
+-- Only т and д are elided, and only before с н ч ц ш: none of these is a vowel or a sign or softens, so elision changes no syllable and no
+-- softness.
+use Rattle.laws.proofs.Kit.{ℕ, ◌≡◌, refl, sym, ◌∙◌, Bool, true, false, cond, and-false, false≢true, List, [], ◌∷◌, eqb, map}
 use Rattle.spec.specs.Alphabet.{«д», «н», «с», «т», «ц», «ч», «ш»}
 use Rattle.spec.specs.Letters.{Letter, first_byte, is_sign, is_vowel}
 use Rattle.spec.specs.Elision.{elides_t, elides_d, elides, elide_from, elides_among}
@@ -24,16 +25,18 @@ other_stays p b c d e = rw (among_none silent b «т» e refl, among_none silent
 -- no letter is elided but before с н ч ц ш
 pub before_other : (p b c d : ℕ) → among after_silent c ≡ false → elides_among p b c d ≡ false
 unfolding elides_among elides_t elides_d among
-before_other p b c d e = simp (no «с» refl, no «н» refl, no «ч» refl, no «ц» refl, no «ш» refl, and-false)
-  where
-    no : (x : ℕ) → among after_silent x ≡ true → eqb c x ≡ false
-    no x i = among_none after_silent c x e i
+before_other p b c d e =
+    let no = among_none after_silent c in
+    simp (no «с» e refl, no «н» e refl, no «ч» e refl, no «ц» e refl, no «ш» e refl, and-false)
 
 -- those letters stay
 pub next_stays : (p : ℕ) (w : List Letter) → among after_silent (first_byte w) ≡ true → first_byte (elide_from p w) ≡ first_byte w
 unfolding elide_from elides elides_among first_byte among
 next_stays p [] h = refl
-next_stays p (l ∷ w) h = rw (among_same (λ b. eqb b «т») (λ _. false) after_silent l.byte refl h, among_same (λ b. eqb b «д») (λ _. false) after_silent l.byte refl h)
+next_stays p (l ∷ w) h = rw (
+  among_same (λ b. eqb b «т») (λ _. false) after_silent l.byte refl h,
+  among_same (λ b. eqb b «д») (λ _. false) after_silent l.byte refl h,
+)
 
 -- a byte that is no vowel and no sign, and palatalizes nothing before it
 pub record Plain (b : ℕ) : Type 0 where
@@ -41,22 +44,28 @@ pub record Plain (b : ℕ) : Type 0 where
   pub sign : is_sign b ≡ false
   pub soft : softens b ≡ false
 
+-- and so is each byte of a list of such
+plain_in : (xs : List ℕ) (b : ℕ) → let all : (ℕ → Bool) → Type 0 = λ f. map f xs ≡ map (λ _. false) xs in
+    all is_vowel → all is_sign → all softens → among xs b ≡ true → Plain b
+plain_in xs b v s k h = record { vowel = among_same _ _ xs b v h; sign = among_same _ _ xs b s h; soft = among_same _ _ xs b k h }
+
 -- т and д are so
 pub silent_plain : (b : ℕ) → among silent b ≡ true → Plain b
 unfolding everything
-silent_plain b h = record { vowel = among_same is_vowel (λ _. false) silent b refl h; sign = among_same is_sign (λ _. false) silent b refl h; soft = among_same softens (λ _. false) silent b refl h }
+silent_plain b h = plain_in silent b refl refl refl h
 
 -- с н ч ц ш are so
 pub next_plain : (b : ℕ) → among after_silent b ≡ true → Plain b
 unfolding everything
-next_plain b h = record { vowel = among_same is_vowel (λ _. false) after_silent b refl h; sign = among_same is_sign (λ _. false) after_silent b refl h; soft = among_same softens (λ _. false) after_silent b refl h }
+next_plain b h = plain_in after_silent b refl refl refl h
 
 -- what fails where a test fails holds only where the test holds
 pub only_where : (t x : Bool) → (t ≡ false → x ≡ false) → x ≡ true → t ≡ true
 only_where true x f e = refl
 only_where false x f e = sym (f refl) ∙ e
 
--- A letter goes or stays: what holds of the letters left where it is elided, and where it is not, holds. The letter that goes is plain, and с н ч ц ш is left after it.
+-- A letter goes or stays: what holds of the letters left where it is elided, and where it is not, holds. The letter that goes is plain, and
+-- с н ч ц ш is left after it.
 pub elide_cases : (P : Bool → List Letter → Type 0) (p : ℕ) (l : Letter) (w : List Letter)
     → (Plain l.byte → among after_silent (first_byte (elide_from l.byte w)) ≡ true → P true (elide_from l.byte w))
     → P false (l ∷ elide_from l.byte w) → P (elides p l.byte w) (elide_from p (l ∷ w))
@@ -79,21 +88,25 @@ soft_elide p (l ∷ w) = elide_cases (λ t v. softens (first_byte v) ≡ softens
 pub stress_elide : (p : ℕ) (w : List Letter) → next_stressed (elide_from p w) ≡ next_stressed w
 unfolding elide_from next_stressed
 stress_elide p [] = refl
-stress_elide p (l ∷ w) = elide_cases (λ t v. next_stressed v ≡ next_stressed (l ∷ w)) p l w (λ g n. rw (g.vowel, stress_elide l.byte w)) (rw (stress_elide l.byte w))
+stress_elide p (l ∷ w) = elide_cases (λ t v. next_stressed v ≡ next_stressed (l ∷ w)) p l w (λ g n. rw (g.vowel, stress_elide l.byte w))
+    (rw (stress_elide l.byte w))
 
 -- so a syllable is the same before the letters left
-pub syllable_elide : (facts : Facts) (p q : ℕ) (l : Letter) (w : List Letter) → syllable_of facts p l (elide_from q w) ≡ syllable_of facts p l w
+pub syllable_elide : (facts : Facts) (p q : ℕ) (l : Letter) (w : List Letter)
+    → syllable_of facts p l (elide_from q w) ≡ syllable_of facts p l w
 unfolding syllable_of level_of
 syllable_elide facts p q l w = rw (stress_elide q w)
 
 -- the sounds of what is left after an elided letter do not depend on what stands before it
-pub phones_free : (hard hard' : Bool) (facts : Facts) (p p' : ℕ) (v : List Letter) → among after_silent (first_byte v) ≡ true → phones_from hard facts p v ≡ phones_from hard' facts p' v
+pub phones_free : (hard hard' : Bool) (facts : Facts) (p p' : ℕ) (v : List Letter) → among after_silent (first_byte v) ≡ true
+    → phones_from hard facts p v ≡ phones_from hard' facts p' v
 unfolding phones_from phones_of first_byte
 phones_free hard hard' facts p p' [] h = refl
 phones_free hard hard' facts p p' (l ∷ v) h = let k = next_plain l.byte h in rw (k.sign, k.vowel)
 
 -- nor do its names
-pub names_free : (facts : Facts) (p p' : ℕ) (v : List Letter) → among after_silent (first_byte v) ≡ true → names_from facts p v ≡ names_from facts p' v
+pub names_free : (facts : Facts) (p p' : ℕ) (v : List Letter) → among after_silent (first_byte v) ≡ true
+    → names_from facts p v ≡ names_from facts p' v
 unfolding names_from first_byte among
 names_free facts p p' [] h = absurd (false≢true h)
 names_free facts p p' (l ∷ v) h = rw (next_plain l.byte h).vowel

@@ -10,7 +10,8 @@ word_heard : (h n : Bool) (l : Letter) (w : List Letter) → is_sign l.byte ≡ 
 unfolding word_tape elide elide_from phones_from
 word_heard h n l w s =
     let v = elide_from l.byte w in
-    let k = phones_cases (λ xs. 0 < length xs) h (facts_of (l ∷ w)) 0 l v (λ q. absurd (true≢false (sym q ∙ s))) (λ _ _. (omega arith, omega arith)) (λ _ _. omega arith) in
+    let k = phones_cases (λ xs. 0 < length xs) h (facts_of (l ∷ w)) 0 l v (λ q. absurd (true≢false (sym q ∙ s)))
+    (λ _ _. (omega arith, omega arith)) (λ _ _. omega arith) in
     rw (first_kept l.byte w, sounds_length) (simp length-append (omega (arith, k)))
 
 -- and so a message

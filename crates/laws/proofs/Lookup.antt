@@ -1,7 +1,7 @@
 -- Lookups in a phrase book, in any storage: numbers rise, so what is found under a number is the one phrase that the book has there, and
 -- it stands where the records before it end; a listener hears just the phrases that are for him. Where in the buffer a tape stands is told
 -- of the plain storage alone, last in this file.
-use Rattle.laws.proofs.Kit.{ℕ, suc, ◌+◌, ◌≤◌, ◌≡◌, refl, sym, ap, ◌∙◌, ◌⊎◌, ◌↔◌, inl, inr, ⊎_elim, List, [], ◌∷◌, ◌++◌, append_assoc}
+use Rattle.laws.proofs.Kit.{ℕ, suc, ◌+◌, ◌≤◌, ◌≡◌, refl, sym, ap, ◌∙◌, ◌↔◌, inl, inr, ⊎_elim, List, [], ◌∷◌, ◌++◌, append_assoc}
 use Rattle.laws.proofs.Kit.{arith, eqb, length, take, drop, length-append, length-take, take-append-drop, take_all, take_at, drop_at}
 use Rattle.laws.proofs.Kit.{drop-append-add, eqb-true, eq-eqb, ne_eqb}
 use Rattle.spec.specs.Book.{Phrase, Storage, plain, record_mark, two_bytes, head_of, record_of, records, head_size, Reading, holds, unsound}
@@ -10,45 +10,29 @@ use Rattle.spec.specs.Book.{heard}
 use Rattle.spec.specs.Book.{told, handed, find_answer, tape_after, placed, locate_answer, told_of, part_at, end_of, Fits, RisingFrom}
 use Rattle.spec.specs.Book.{FindPromise, LocatePromise}
 use Rattle.spec.specs.BookDemands.{Listed, IsFor, Has, FindDue, of_records, not_for_him, LooksUp}
-use Rattle.spec.specs.{Listeners.may_hear, Refusals.refusal, declared.Listener.Listener, declared.Found.Found, declared.Located.Located}
-use Rattle.spec.specs.declared.Found.TheVariants.{Tape, Refused}
-use Rattle.spec.specs.declared.Located.TheVariants as located
+use Rattle.spec.specs.{Listeners.may_hear, Refusals.refusal, declared.Listener.Listener, declared.Refusal.Refusal}
+use Rattle.spec.specs.Results.{Found, Located}
 use Rattle.laws.proofs.{Classes.either, Book.Judged, Book.is_sound, Book.is_refused, Book.judge, Book.record_size, Book.sound_read}
 use Rattle.laws.proofs.{Book.due_read, Book.bytes_in}
+use Rattle.std.proofs.Common.{Ok, Err}
+use Rattle.std.proofs.lemmas.Grind.{common_steps}
 
 -- and what is found is one of the list
-no_entry : {f : Phrase} → none ≡ entry f → ⊥
-no_entry h = let z : ◌≡◌ {A = ℕ} 0 1 = ap count h in omega (arith, z) where
-  count : Search → ℕ
-  count none = 0
-  count (entry g) = 1
-
 found_listed : (n : ℕ) (f : Phrase) (fs : List Phrase) → search fs n ≡ entry f → Listed f fs × (f.number ≡ n)
 unfolding search
-found_listed n f [] h = absurd (no_entry h)
+found_listed n f [] h = cc
 found_listed n f (g ∷ fs) h = either (eqb g.number n)
     (λ q. let u : entry g ≡ entry f = rw q at h in let e : f ≡ g = (cc) in (inl e, rw e (eqb-true g.number n q)))
     (λ q. let w = found_listed n f fs (rw q at h) in (inr w.0, w.1))
 
 -- What a listener hears under a number is the tape that is for him there,
 not_aloud : {t : List ℕ} → nothing ≡ aloud t → ⊥
-not_aloud h = let z : ◌≡◌ {A = ℕ} 0 1 = ap count h in omega (arith, z) where
-  count : Heard → ℕ
-  count nothing = 0
-  count (aloud u) = 1
+not_aloud h = cc
 
--- what is told, in numbers
-abbrev way_of : Found → ℕ
-way_of Tape = 0
-way_of (Refused r) = 1
-
-abbrev number_told : Found → ℕ
-number_told Tape = 0
-number_told (Refused r) = r.number
-
-abbrev place_told : Found → ℕ
-place_told Tape = 0
-place_told (Refused r) = r.place
+-- what follows from either way of hearing follows
+hearing : {P : Type 0} (q : Heard) → (q ≡ nothing → P) → ((t : List ℕ) → q ≡ aloud t → P) → P
+hearing nothing n a = n refl
+hearing (aloud t) n a = a t refl
 
 -- A book in a storage.
 module _ (st : Storage) where
@@ -80,7 +64,7 @@ module _ (st : Storage) where
   pub found_stands : (least n : ℕ) (f : Phrase) (fs : List Phrase) → RisingFrom st least fs → search fs n ≡ entry f
       → StandsAt (records st fs) (record_at st fs n) f
   unfolding search record_at records
-  found_stands least n f [] r h = absurd (no_entry h)
+  found_stands least n f [] r h = cc
   found_stands least n f (g ∷ fs) r h = either (eqb g.number n)
       (λ q.
       let u : entry g ≡ entry f = rw q at h in
@@ -103,18 +87,14 @@ module _ (st : Storage) where
 
   module _ {book : List ℕ} {place : ℕ} {f : Phrase} (s : StandsAt book place f) where
     pub stored_inside : place + head_size + length f.stored ≤ length book
-    stored_inside =
-        let all = length-append s.before (record_of st f ++ s.behind) in
-        omega (arith, s.there, ap length s.bytes, all, length-append (record_of st f) s.behind, record_size st f)
+    stored_inside = grind (arith, common_steps, s.there, s.bytes, record_size st f)
 
     pub record_there : drop place book ≡ record_of st f ++ s.behind
     record_there = rw s.bytes (drop_at s.before (record_of st f ++ s.behind) place (sym s.there))
 
     pub stored_there : (c : List ℕ) → take (length f.stored) (drop (place + head_size) (book ++ c)) ≡ f.stored
     stored_there c =
-        let e : book ++ c ≡ s.before ++ (record_of st f ++ (s.behind ++ c)) =
-        ap (◌++ c) s.bytes ∙ append_assoc s.before (record_of st f ++ s.behind) c
-        ∙ ap (s.before ++◌) (append_assoc (record_of st f) s.behind c) in
+        let e : book ++ c ≡ s.before ++ (record_of st f ++ (s.behind ++ c)) = grind (arith, common_steps, s.bytes) in
         rw (e, s.there, drop-append-add s.before (record_of st f ++ (s.behind ++ c)) head_size) (behind_head f (s.behind ++ c))
 
   heard_for : (l : Listener) (n : ℕ) (t : List ℕ) (fs : List Phrase) → heard st l (search fs n) ≡ aloud t → IsFor st l fs n t
@@ -136,18 +116,14 @@ module _ (st : Storage) where
   for_heard l n t fs r h = rw (← h.number, listed_found 0 h.phrase fs r h.listed, h.hears, h.tape) refl
 
   none_heard : (l : Listener) (n : ℕ) (fs : List Phrase) → ((t : List ℕ) → IsFor st l fs n t → ⊥) → heard st l (search fs n) ≡ nothing
-  none_heard l n fs h = which (heard st l (search fs n)) refl where
-    which : (q : Heard) → heard st l (search fs n) ≡ q → heard st l (search fs n) ≡ nothing
-    which nothing e = e
-    which (aloud t) e = absurd (h t (heard_for l n t fs e))
+  none_heard l n fs h = hearing (heard st l (search fs n)) (λ e. e) (λ t e. absurd (h t (heard_for l n t fs e)))
 
   -- So where two lists have the same for him, he hears the same under every number.
   pub heard_same : (l : Listener) (n : ℕ) (fs gs : List Phrase) → RisingFrom st 0 fs → RisingFrom st 0 gs
       → ((t : List ℕ) → IsFor st l fs n t ↔ IsFor st l gs n t) → heard st l (search fs n) ≡ heard st l (search gs n)
-  heard_same l n fs gs r s same = which (heard st l (search fs n)) refl where
-    which : (q : Heard) → heard st l (search fs n) ≡ q → heard st l (search fs n) ≡ heard st l (search gs n)
-    which nothing e = e ∙ sym (none_heard l n gs (λ t h. not_aloud (sym e ∙ for_heard l n t fs r ((same t).1 h))))
-    which (aloud t) e = e ∙ sym (for_heard l n t gs s ((same t).0 (heard_for l n t fs e)))
+  heard_same l n fs gs r s same = hearing (heard st l (search fs n))
+      (λ e. e ∙ sym (none_heard l n gs (λ t h. not_aloud (sym e ∙ for_heard l n t fs r ((same t).1 h)))))
+      (λ t e. e ∙ sym (for_heard l n t gs s ((same t).0 (heard_for l n t fs e))))
 
   -- What a book is to a lookup by a listener: it has a tape for him under the number, or a number of the lookup is due.
   data Standing (l : Listener) (book : List ℕ) (n : ℕ) : Type 0 where
@@ -155,25 +131,22 @@ module _ (st : Storage) where
     is_due : (k p : ℕ) → FindDue st l book n k p → Standing l book n
 
   standing : (l : Listener) (book : List ℕ) (n : ℕ) → Judged st book → Standing l book n
-  standing l book n (is_sound fs s e) = which (heard st l (search fs n)) refl where
-    which : (q : Heard) → heard st l (search fs n) ≡ q → Standing l book n
-    which nothing f =
-        let no : (t : List ℕ) → IsFor st l fs n t → ⊥ = λ t h. not_aloud (sym f ∙ for_heard l n t fs s.rising h) in
-        is_due 17 0 (not_for_him (record { phrases = fs; sound = s; none = no }))
-    which (aloud t) f = has_tape t (record { phrases = fs; sound = s; has = heard_for l n t fs f })
+  standing l book n (is_sound fs s e) = hearing (heard st l (search fs n))
+      (λ f. is_due 17 0 (not_for_him (record { phrases = fs; sound = s; none = λ t h. not_aloud (sym f ∙ for_heard l n t fs s.rising h) })))
+      (λ t f. has_tape t (record { phrases = fs; sound = s; has = heard_for l n t fs f }))
   standing l book n (is_refused k p range d e) = is_due k p (of_records k p d)
 
   module _ (l : Listener) (book : List ℕ) (b : Bytes book) (n : ℕ) (old new : List ℕ) (r : Found)
       (answer : r ≡ find_answer st l (read_book st book) n) (tape : new ≡ tape_after st l (read_book st book) n old) where
     -- each where it is due
-    due_gave : (t : List ℕ) → Has st l book n t → (r ≡ Tape) × (new ≡ t)
+    due_gave : (t : List ℕ) → Has st l book n t → (r ≡ Ok tt) × (new ≡ t)
     unfolding find_answer tape_after told handed
     due_gave t h =
         let e = sound_read st h.sound in
         let f = for_heard l n t h.phrases h.sound.rising h.has in
         (answer ∙ rw (e, f) refl, tape ∙ rw (e, f) refl)
 
-    due_refused : (k p : ℕ) → FindDue st l book n k p → (r ≡ Refused (refusal k p)) × (new ≡ old)
+    due_refused : (k p : ℕ) → FindDue st l book n k p → (r ≡ Err (refusal k p)) × (new ≡ old)
     unfolding find_answer tape_after told handed
     due_refused k p (of_records _ _ d) = let e = due_read st b d in (answer ∙ rw e refl, tape ∙ rw e refl)
     due_refused _ _ (not_for_him h) =
@@ -189,13 +162,17 @@ module _ (st : Storage) where
           let w = due_gave t h in
           record {
             gives = λ u. (λ q. rw (sym q.1 ∙ w.1) h, due_gave u);
-            refuses = λ k p. (λ q. absurd (omega (arith, ap way_of (sym w.0 ∙ q.0))), due_refused k p);
+            refuses = λ k p. (λ q. cc (w.0, q.0), due_refused k p);
           }
       exact (is_due k p d) =
           let w = due_refused k p d in
           record {
-            gives = λ u. (λ q. absurd (omega (arith, ap way_of (sym w.0 ∙ q.0))), due_gave u);
-            refuses = λ i j. (λ q. rw (← ap number_told (sym w.0 ∙ q.0), ← ap place_told (sym w.0 ∙ q.0)) d, due_refused i j);
+            gives = λ u. (λ q. cc (w.0, q.0), due_gave u);
+            refuses = λ i j. (
+              λ q. let e : refusal k p ≡ refusal i j = cc (w.0, q.0) in
+                  rw (← ap (λ (x : Refusal). x.number) e, ← ap (λ (x : Refusal). x.place) e) d,
+              due_refused i j,
+            );
           }
 
 -- In the plain storage the bytes behind a record's head are the tape.
@@ -236,15 +213,16 @@ module _ (l : Listener) (buffer : List ℕ) (used n : ℕ) (b : Bytes buffer) wh
 
 -- What is told by the tape itself is told by its place.
 abbrev pub kept_by : Located → List ℕ → List ℕ → List ℕ
-kept_by (located.At start k) t old = t
-kept_by (located.Refused r) t old = old
+kept_by (Ok s) t old = t
+kept_by (Err r) t old = old
 
 told_same : (l : Listener) (r : Reading) (n : ℕ) (old : List ℕ)
     → (find_answer plain l r n ≡ told_of (locate_answer l r n))
     × (tape_after plain l r n old ≡ kept_by (locate_answer l r n) (tape_after plain l r n []) old)
 unfolding find_answer locate_answer tape_after placed told handed told_of
 told_same l (holds fs) n old = which (heard plain l (search fs n)) where
-  which : (q : Heard) → (told q ≡ told_of (placed (start_of fs n) q)) × (handed q old ≡ kept_by (placed (start_of fs n) q) (handed q []) old)
+  which : (q : Heard)
+      → (told q ≡ told_of (placed (start_of fs n) q)) × (handed q old ≡ kept_by (placed (start_of fs n) q) (handed q []) old)
   which nothing = (refl, refl)
   which (aloud t) = (refl, refl)
 told_same l (unsound r) n old = (refl, refl)

@@ -1,6 +1,6 @@
 -- The two editions of an accepted message: each sound is one that its letter makes, so where the letter is е, я or а it is ИЭ just where
 -- edition 1 has Э1, and elsewhere it is no ИЭ, and both editions have the same code.
-use Rattle.laws.proofs.Kit.{ℕ, ◌≡◌, refl, sym, ap, ◌∙◌, Bool, true, false, and-false, and-eq-true_iff, true≢false, List, [], ◌∷◌}
+use Rattle.laws.proofs.Kit.{ℕ, ◌≡◌, refl, sym, ap, ◌∙◌, Bool, true, false, and-false, and_parts, true≢false, List, [], ◌∷◌}
 use Rattle.laws.proofs.Kit.{◌++◌, ◌&&◌, map, eqb, eqb-true, length, take, append-nil, take-length, not-true, suc}
 use mathlib.Core.List.{map-append}
 use lib.ListN.{length-map}
@@ -30,7 +30,7 @@ made_reads : (b c : ℕ) → makes b c ≡ true → newer b (code_in One c) ≡ 
 unfolding makes newer code_in reduced is_sound_code
 made_reads b c h = either (among reducing b)
     (λ q. rw q (either (eqb c ИЭ) (λ z. rw z) (λ z.
-    rw (z, not-true (eqb c Э1) ((and-eq-true_iff (is_sound c) _).0 (rw q at h)).1))))
+    rw (z, not-true (eqb c Э1) (and_parts (is_sound c) _ (rw q at h)).1))))
     (λ q. rw (q, refuted (eqb c ИЭ) (λ z. true≢false (sym (rw (q, eqb-true c ИЭ z) at h)))))
 
 -- and so with a break's mark, whatever made it

@@ -1,8 +1,9 @@
--- Where the codes of a part and the marks of breaks stand on a tape: before a place as many codes stand as the bytes before it make, so a part's codes in the whole tape are as many
--- as its own, and since each code of a word is a sound the last mark before that of a place is that of the last break before it.
-use Rattle.laws.proofs.Kit.{ℕ, suc, ◌+◌, ◌-◌, ◌<◌, ◌≤◌, ◌≡◌, refl, sym, ap, ◌∙◌, Bool, true, false, not, ◌&&◌, and-eq-true_iff, true≢false}
-use Rattle.laws.proofs.Kit.{◌⊎◌, ⊎_elim, List, [], ◌∷◌, ◌++◌, append-nil, arith, leb, length, take, drop, get_or, length-append}
-use Rattle.laws.proofs.Kit.{length-drop, List·getD-append, List·getD-eq-default, take_all, get_or-append-add, leb-true, le-leb}
+-- Where the codes of a part and the marks of breaks stand on a tape: before a place as many codes stand as the bytes before it make, so a
+-- part's codes in the whole tape are as many as its own, and since each code of a word is a sound the last mark before that of a place is
+-- that of the last break before it.
+use Rattle.laws.proofs.Kit.{ℕ, suc, ◌+◌, ◌-◌, ◌<◌, ◌≤◌, ◌≡◌, refl, sym, ap, ◌∙◌, Bool, true, false, not, ◌&&◌, and_parts, true≢false}
+use Rattle.laws.proofs.Kit.{⊎_elim, List, [], ◌∷◌, ◌++◌, append-nil, arith, leb, length, take, drop, get_or, length-append}
+use Rattle.laws.proofs.Kit.{length-drop, List·getD-eq-default, take_all, leb-true, le-leb}
 use Rattle.spec.specs.Letters.{between, read, first_byte, is_gap, is_break}
 use Rattle.spec.specs.Codes.{А*, Щ, mark_of, is_sound_code, is_sound}
 use mathlib.Core.List.{map, map-append}
@@ -10,7 +11,7 @@ use lib.ListN.{length-map}
 use Rattle.spec.specs.{Editions.code_in, Tape.tape, declared.Edition.Edition}
 use Rattle.laws.proofs.Editions.{read_same, sound_code, mark_own, read_at, last_read}
 use Rattle.spec.specs.{Tape.segment, Tape.sounds, Refusals.check_of, Joints.mark_index, Joints.word_before, Joints.word_after}
-use Rattle.spec.specs.{declared.Counts.Counts, declared.Checked.TheVariants.Accepted}
+use Rattle.spec.specs.{declared.Counts.Counts}
 use Rattle.laws.proofs.Codes.{Each, part_spells, read_marks, segment_sounds, unbroken, each_at}
 use Rattle.laws.proofs.Parts.{last_at_lem, onward_cut, part_own, tape_cut, mark_index_lem, mark_there, code_after, onward_alone}
 use Rattle.laws.specs.Parts.{part, Begins, Ends, hard_at, onward, voiced_at, changed_after, changed_before}
@@ -18,13 +19,18 @@ use Rattle.laws.proofs.Beside.{segment_ends, segment_starts}
 use Rattle.laws.specs.Beside.{Last, is_voiced, is_high, is_i_or_e}
 use Rattle.laws.proofs.{Accepted.accepted_passes, Classes.mark_both, Classes.either, Classes.below_or, Stretch.segment_length}
 use Rattle.laws.proofs.{PartsAccepted.part_length, PartsAccepted.part_at, Marks.tape_from, Marks.mark_next, Marks.mark_last}
+use Rattle.std.proofs.Common.{Ok}
+use Rattle.std.proofs.lemmas.Grind.{common_steps}
 
 -- it is not below another such index
-pub last_above : (test : ℕ → Bool) (x y : List ℕ) (i r s : ℕ) → ((j : ℕ) → j < i → get_or x j 0 ≡ get_or y j 0) → Last test x i r → s < i → test (get_or y s 0) ≡ true → s ≤ r
-last_above test x y i r s same l b h = ⊎_elim (λ g. absurd (true≢false (sym h ∙ ap test (sym (same s b)) ∙ l.past s g b))) (λ g. g) (below_or r s)
+pub last_above : (test : ℕ → Bool) (x y : List ℕ) (i r s : ℕ) → ((j : ℕ) → j < i → get_or x j 0 ≡ get_or y j 0) → Last test x i r → s < i
+    → test (get_or y s 0) ≡ true → s ≤ r
+last_above test x y i r s same l b h =
+    ⊎_elim (λ g. absurd (true≢false (sym h ∙ ap test (sym (same s b)) ∙ l.past s g b))) (λ g. g) (below_or r s)
 
 -- so lists that are the same below i have one
-pub last_once : (test : ℕ → Bool) (x y : List ℕ) (i r s : ℕ) → ((j : ℕ) → j < i → get_or x j 0 ≡ get_or y j 0) → Last test x i r → Last test y i s → r ≡ s
+pub last_once : (test : ℕ → Bool) (x y : List ℕ) (i r s : ℕ) → ((j : ℕ) → j < i → get_or x j 0 ≡ get_or y j 0) → Last test x i r
+    → Last test y i s → r ≡ s
 last_once test x y i r s same l k =
     omega (arith, last_above test x y i r s same l k.below k.here, last_above test y x i s r (λ j b. sym (same j b)) k l.below l.here)
 
@@ -70,7 +76,13 @@ module _ (m : List ℕ) where
         (λ k.
         let t = f.split ∙ ap (λ (x : List ℕ). f.front ++ x) (last_stretch a ∙ sym (append-nil (stretch m a (length m)))) in
         let n = simp (length-append, append-nil) at (ap length t) in
-        rw k (record { front = f.front; rest = []; split = t; start = f.size; size = omega (arith, f.size, n, mark_last m (length m) refl) })) ends
+        rw k (record {
+          front = f.front;
+          rest = [];
+          split = t;
+          start = f.size;
+          size = omega (arith, f.size, n, mark_last m (length m) refl);
+        })) ends
 
     -- they are as many as the part's own
     pub own_length : length (sounds (part m a e)) ≡ length (stretch m a e)
@@ -80,21 +92,22 @@ module _ (m : List ℕ) where
     -- and they are its own where no break changes the first or the last of them
     pub own_codes : changed_after m a ≡ false → changed_before m e ≡ false → sounds (part m a e) ≡ stretch m a e
     own_codes q o = ⊎_elim (λ k. part_own m a e begins le k q o)
-        (λ k. rw k (ap sounds (take_all (length m - a) (drop a m) (omega (arith, length-drop a m))) ∙ onward_alone m a q ∙ last_stretch a)) ends
+        (λ k. rw k (ap sounds (take_all (length m - a) (drop a m) (omega (arith, length-drop a m))) ∙ onward_alone m a q
+        ∙ last_stretch a)) ends
 
 -- a code within sounds that stand on a tape
-inside : (front s rest : List ℕ) (j : ℕ) → Each is_sound s → length front ≤ j → j < length front + length s → is_sound (get_or (front ++ (s ++ rest)) j 0) ≡ true
+inside : (front s rest : List ℕ) (j : ℕ) → Each is_sound s → length front ≤ j → j < length front + length s
+    → is_sound (get_or (front ++ (s ++ rest)) j 0) ≡ true
 inside front s rest j h lo hi =
-    let k = j - length front in
-    let e : j ≡ length front + k = omega arith in
-    rw (e, get_or-append-add front (s ++ rest) k 0, List·getD-append s rest 0 k (omega arith)) (each_at is_sound s k h (omega arith))
+    let e : get_or (front ++ (s ++ rest)) j 0 ≡ get_or s (j - length front) 0 = grind (arith, common_steps) in
+    rw e (each_at is_sound s (j - length front) h (omega arith))
 
 -- the code of a sound is one of 1 to 56
 pub sound_range : (c : ℕ) → is_sound_code c ≡ true → (1 ≤ c) × (c ≤ 56)
 unfolding is_sound_code
 sound_range c s = either (between 1 13 c)
-    (λ q. let a = (and-eq-true_iff (leb 1 c) (leb c 13)).0 q in (leb-true 1 c a.0, omega (arith, leb-true c 13 a.1)))
-    (λ q. let a = (and-eq-true_iff (leb 16 c) (leb c 56)).0 (rw q at s) in (omega (arith, leb-true 16 c a.0), leb-true c 56 a.1))
+    (λ q. let a = and_parts (leb 1 c) (leb c 13) q in (leb-true 1 c a.0, omega (arith, leb-true c 13 a.1)))
+    (λ q. let a = and_parts (leb 16 c) (leb c 56) (rw q at s) in (omega (arith, leb-true 16 c a.0), leb-true c 56 a.1))
 
 -- where a mark stands on a tape in an edition
 pub mark_code_there : (e : Edition) (m : List ℕ) (c : ℕ) → is_break (get_or m c 0) ≡ true → get_or (tape e m) (mark_index m c) 0
@@ -103,7 +116,7 @@ unfolding tape
 mark_code_there e m c b = read_at e (sounds m) (mark_index m c) ∙ ap (code_in e) (mark_there m c b) ∙ mark_own e (get_or m c 0)
 
 module _ (m : List ℕ) where
-  module _ {counts : Counts} (accepted : check_of m ≡ Accepted counts) where
+  module _ {counts : Counts} (accepted : check_of m ≡ Ok counts) where
     -- a word, from the last break before its end on, has sounds only, whatever stands around it
     word_here : (b e : ℕ) → e ≤ length m → Last is_break m e b → (h n : Bool) → Each is_sound (segment h n (read (part m (suc b) e)))
     word_here b e within l h n =

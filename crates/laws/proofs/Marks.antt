@@ -1,4 +1,5 @@
--- How many codes stand before a place of a message: those that the bytes before it make, since neither bit from over a break changes their number.
+-- How many codes stand before a place of a message: those that the bytes before it make, since neither bit from over a break changes their
+-- number.
 use Rattle.laws.proofs.Kit.{ℕ, zero, suc, ◌≡◌, refl, sym, ◌∙◌, true, false, ◌&&◌, List, [], ◌∷◌, ◌++◌, append_assoc, arith, length, take}
 use Rattle.laws.proofs.Kit.{get_or, length-append, take-suc, take-length}
 use Rattle.spec.specs.{Letters.read, Letters.is_gap, Letters.is_break, Codes.mark_of, Voicing.voices, Tape.segment, Tape.sounds}
@@ -38,6 +39,7 @@ module _ (m : List ℕ) where
   tape_from zero b = record { front = []; split = sym (onward_first m); size = sym mark_first }
   tape_from (suc c) b = record {
     front = segment false (voiced_at m c) (read (take c m)) ++ (mark_of (get_or m c 0) ∷ []);
-    split = tape_cut m c b ∙ sym (append_assoc (segment false (voiced_at m c) (read (take c m))) (mark_of (get_or m c 0) ∷ []) (onward m (suc c)));
+    split = tape_cut m c b ∙ sym (append_assoc (segment false (voiced_at m c) (read (take c m))) (mark_of (get_or m c 0) ∷ [])
+        (onward m (suc c)));
     size = rw (mark_next c b) (simp length-append (omega (arith, mark_index_lem m c b)));
   }

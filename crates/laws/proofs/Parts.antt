@@ -1,4 +1,5 @@
--- A message from a place on, whole and in parts: each cut splits both tapes at its mark, and the two sides differ in the bits that come from over the cut alone.
+-- A message from a place on, whole and in parts: each cut splits both tapes at its mark, and the two sides differ in the bits that come
+-- from over the cut alone.
 use Rattle.laws.proofs.Kit.{ℕ, zero, suc, ◌+◌, ◌-◌, ◌<◌, ◌≤◌, ◌≡◌, refl, sym, ap, ◌∙◌, Bool, true, false, ◌&&◌, ◌||◌, and_comm}
 use Rattle.laws.proofs.Kit.{and-or_distrib_left, inl, inr, List, [], ◌∷◌, ◌++◌, append-nil, arith, length, take, drop, get_or}
 use Rattle.laws.proofs.Kit.{length-append, take-append-drop, drop-cons, drop-drop, drop-append-add, take-add, get_or_at}
@@ -56,7 +57,8 @@ module _ (m : List ℕ) where
   unfolding word_before
   word_before_lem zero c b le within = rw part_first
   word_before_lem (suc d) c b le within =
-      let e : take c m ≡ part m 0 d ++ (get_or m d 0 ∷ part m (suc d) c) = sym (part_first c) ∙ part_split 0 d c (omega arith) le (omega arith) in
+      let e : take c m ≡ part m 0 d ++ (get_or m d 0 ∷ part m (suc d) c) =
+      sym (part_first c) ∙ part_split 0 d c (omega arith) le (omega arith) in
       rw (e, read_join (part m 0 d) (part m (suc d) c) (get_or m d 0) b, last_meet)
 
   module _ (a c : ℕ) (begins : Begins m a) (le : a ≤ c) (break : is_break (get_or m c 0) ≡ true) where
@@ -74,12 +76,14 @@ module _ (m : List ℕ) where
     onward_cut = rw (read_rest, segment_join, word_before_lem a c begins le (break_within m c break))
 
     -- a part whose first and last codes nothing changes has its own tape in the whole
-    pub part_own : changed_after m a ≡ false → changed_before m c ≡ false → sounds (part m a c) ≡ segment (hard_at m a) (voiced_at m c) (read (part m a c))
+    pub part_own : changed_after m a ≡ false → changed_before m c ≡ false
+        → sounds (part m a c) ≡ segment (hard_at m a) (voiced_at m c) (read (part m a c))
     unfolding sounds changed_after changed_before
     part_own q o =
         let p = read (part m a c) in
         let left : (hard_at m a && begins_with_i_or_e (first_word p)) ≡ false = rw first_word_lem at q in
-        let right : (voiced_at m c && ends_in_obstruent (last_word p)) ≡ false = rw (word_before_lem a c begins le (break_within m c break)) o in
+        let right : (voiced_at m c && ends_in_obstruent (last_word p)) ≡ false =
+        rw (word_before_lem a c begins le (break_within m c break)) o in
         segment_firm (hard_at m a) false p left ∙ segment_quiet (hard_at m a) (voiced_at m c) p right
 
   module _ (c : ℕ) (break : is_break (get_or m c 0) ≡ true) where
@@ -106,17 +110,13 @@ module _ (m : List ℕ) where
 
     -- and the first of them
     pub code_after : get_or (sounds m) (suc (mark_index m c)) 0 ≡ first_code (onward m (suc c))
-    code_after = rw tape_cut (after_mark (segment false (voiced_at m c) (read (take c m))) (mark_of (get_or m c 0)) (onward m (suc c)) (mark_index m c) mark_index_lem)
+    code_after = rw tape_cut (after_mark (segment false (voiced_at m c) (read (take c m))) (mark_of (get_or m c 0)) (onward m (suc c))
+        (mark_index m c) mark_index_lem)
 
     -- a cut is live just when one of its two neighbours is changed from over the cut
     pub live_here : is_live m c ≡ (changed_before m c || changed_after m (suc c))
     unfolding is_live live_by_voice live_by_hardness changed_before voiced_at changed_after hard_at word_after
     live_here = rw (and-or_distrib_left, codes_after) (simp and_swap)
-
-  -- what the tape from place a on is made of
-  onward_open : (a : ℕ) → onward m a ≡ segment (hard_at m a) false (read (drop a m))
-  unfolding onward
-  onward_open a = refl
 
   -- from the start on it is the whole tape
   pub onward_first : onward m 0 ≡ sounds m
@@ -130,13 +130,14 @@ module _ (m : List ℕ) where
 
   -- where nothing changes what stands at place a, the bytes from there on may be transcribed alone
   pub onward_alone : (a : ℕ) → changed_after m a ≡ false → sounds (drop a m) ≡ onward m a
-  unfolding sounds changed_after
-  onward_alone a q = rw (onward_open a) (segment_firm (hard_at m a) false (read (drop a m)) q)
+  unfolding onward sounds changed_after
+  onward_alone a q = segment_firm (hard_at m a) false (read (drop a m)) q
 
   -- The two tapes from place a on have equal length.
-  pub joined_length : (a : ℕ) (cuts : List ℕ) → Begins m a → RisingFrom m a cuts → length (joined_from sounds m a cuts) ≡ length (onward m a)
-  unfolding joined_from sounds
-  joined_length a [] b r = rw (onward_open a) (segment_length false (hard_at m a) false false (read (drop a m)))
+  pub joined_length : (a : ℕ) (cuts : List ℕ) → Begins m a → RisingFrom m a cuts
+      → length (joined_from sounds m a cuts) ≡ length (onward m a)
+  unfolding onward joined_from sounds
+  joined_length a [] b r = segment_length false (hard_at m a) false false (read (drop a m))
   joined_length a (c ∷ cuts) b r =
       rw (onward_cut a c b r.0 r.1)
       (simp length-append
@@ -152,7 +153,8 @@ module _ (m : List ℕ) where
       rw (onward_cut a c b r.0 r.1, part_own a c b r.0 r.1 q o.0, joined_dead (suc c) cuts r.1 r.2 o.1 (λ d i. n d (inr i)))
 
   -- The first code of the parts' tape tells no hard boundary at place a, whatever the cuts.
-  pub joined_low : (a : ℕ) (cuts : List ℕ) → Begins m a → RisingFrom m a cuts → (is_high (first_code (joined_from sounds m a cuts)) && is_i_or_e (first_byte (first_word (read (drop a m))))) ≡ false
+  pub joined_low : (a : ℕ) (cuts : List ℕ) → Begins m a → RisingFrom m a cuts
+      → (is_high (first_code (joined_from sounds m a cuts)) && is_i_or_e (first_byte (first_word (read (drop a m))))) ≡ false
   unfolding joined_from sounds
   joined_low a [] b r = rw append-nil at (segment_starts false false (read (drop a m)) [])
   joined_low a (c ∷ cuts) b r = rw (first_word_lem a c b r.0 r.1) (segment_starts false false (read (part m a c)) _)

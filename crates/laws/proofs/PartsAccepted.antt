@@ -6,12 +6,12 @@ use Rattle.laws.proofs.Kit.{take_all, take-append-drop, drop-cons, drop-drop, dr
 use Rattle.spec.specs.Refusals.{vowel_byte, sign_byte, hard_sign_byte, first, none, adjacent, vowel_sign, letters_before, row3, row4, row5}
 use Rattle.spec.specs.Refusals.{row6, row7, row8, row9, row10, rows, fits_in, before_at, check_of, NoneFits}
 use Rattle.spec.specs.{Letters.is_break, Letters.is_mark, Joints.RisingFrom, Joints.EachPartFrom, declared.Counts.Counts}
-use Rattle.spec.specs.{declared.Checked.TheVariants.Accepted}
 use Rattle.laws.proofs.Accepted.{counts_of, Clear, Passes, ClearFrom, places_clear, each_place, accepted_passes, passes_accepted}
 use Rattle.laws.proofs.Accepted.{passes_none}
 use Rattle.laws.proofs.Classes.{cond_app, either, refuted, NoBreak, break_mark, break_vowel, break_sign, break_hard_sign, or-false}
 use Rattle.laws.proofs.Cuts.{break_within}
 use Rattle.laws.specs.Parts.{part, Begins}
+use Rattle.std.proofs.Common.{Ok}
 
 -- the bytes before a part, nearest first: none, or a break is next
 abbrev pub Opens : List ℕ → Type 0
@@ -39,10 +39,12 @@ module _ (d : ℕ) (t : List ℕ) (o : is_break d ≡ true) where
   start_over y (b ∷ x) = refl
 
   -- a test that stops at a break stops there from the adjacent letter on
-  adjacent_over : (f : List ℕ → Bool) → ((x : List ℕ) → f (x ++ (d ∷ t)) ≡ f x) → (x : List ℕ) → f (adjacent (x ++ (d ∷ t))) ≡ f (adjacent x)
+  adjacent_over : (f : List ℕ → Bool) → ((x : List ℕ) → f (x ++ (d ∷ t)) ≡ f x) → (x : List ℕ)
+      → f (adjacent (x ++ (d ∷ t))) ≡ f (adjacent x)
   unfolding adjacent
   adjacent_over f h [] = rw (break_mark d o) (h [])
-  adjacent_over f h (b ∷ x) = rw (cond_app f (is_mark b) (x ++ (d ∷ t)) (b ∷ (x ++ (d ∷ t))), h x, h (b ∷ x)) (sym (cond_app f (is_mark b) x (b ∷ x)))
+  adjacent_over f h (b ∷ x) =
+      rw (cond_app f (is_mark b) (x ++ (d ∷ t)) (b ∷ (x ++ (d ∷ t))), h x, h (b ∷ x)) (sym (cond_app f (is_mark b) x (b ∷ x)))
 
   -- the class of the adjacent letter
   near_over : (class : ℕ → Bool) → NoBreak class → (x : List ℕ) → first class (adjacent (x ++ (d ∷ t))) ≡ first class (adjacent x)
@@ -129,7 +131,8 @@ module _ (m : List ℕ) (p : Passes m) where
   part_some : (a : ℕ) → Begins m a → Opens (drop a m) → ⊥
   unfolding before_at fits_in rows row4 none
   part_some zero b o = let d : is_break (get_or m 0 0) ≡ true = rw (drop-cons m 0 0 p.some) at o in true≢false (rw d at (p.rows 0 p.some 4))
-  part_some (suc c) b o = true≢false (sym b ∙ last_firm (before_at m c) _ _ o (rw (drop-cons m c 0 (break_within m c b)) at (places_clear m p.rows _ c refl)))
+  part_some (suc c) b o =
+      true≢false (sym b ∙ last_firm (before_at m c) _ _ o (rw (drop-cons m c 0 (break_within m c b)) at (places_clear m p.rows _ c refl)))
 
   -- nothing of the table fits a part
   part_passes : (a e : ℕ) → Begins m a → a ≤ e → e ≤ length m → (is_break (get_or m e 0) ≡ true) ⊎ (e ≡ length m) → Passes (part m a e)
@@ -148,9 +151,9 @@ module _ (m : List ℕ) (p : Passes m) where
       }
 
 -- the bytes from a up to e, where a is the start or follows a break, and e is the end or the place of a break
-pub part_accepted : (m : List ℕ) (counts : Counts) (a e : ℕ) → check_of m ≡ Accepted counts
+pub part_accepted : (m : List ℕ) (counts : Counts) (a e : ℕ) → check_of m ≡ Ok counts
     → Begins m a → a ≤ e → e ≤ length m → (is_break (get_or m e 0) ≡ true) ⊎ (e ≡ length m)
-    → check_of (take (e - a) (drop a m)) ≡ Accepted (counts_of (take (e - a) (drop a m)))
+    → check_of (take (e - a) (drop a m)) ≡ Ok (counts_of (take (e - a) (drop a m)))
 part_accepted m counts a e c b h l s = passes_accepted (part m a e) (part_passes m (accepted_passes m counts c) a e b h l s)
 
 -- Each part of an accepted message, cut at breaks, is accepted.

@@ -94,9 +94,11 @@ unfolding names
 names_break a b x e = rw (read_join a b x e) (names_meet (read a) x (read b))
 
 -- no row fits at a break between two bytes of which neither is a break
-break_clear : (before : List ℕ) (x : ℕ) (after : List ℕ) → is_break x ≡ true → none before ≡ false → first is_break before ≡ false → none after ≡ false → Clear before x after
+break_clear : (before : List ℕ) (x : ℕ) (after : List ℕ) → is_break x ≡ true → none before ≡ false → first is_break before ≡ false
+    → none after ≡ false → Clear before x after
 unfolding fits_in rows row3 row4 row5 row6 row7 row8 row9 row10 letter_byte
-break_clear before x after d n f a k = rw (d, break_mark x d, break_vowel x d, break_sign x d, break_consonant x d, n, f, a) (simp cond_same)
+break_clear before x after d n f a k =
+    rw (d, break_mark x d, break_vowel x d, break_sign x d, break_consonant x d, n, f, a) (simp cond_same)
 
 -- clear bytes are clear behind a break, whatever stands before it
 clear_over : (x t m : List ℕ) → Opens t → ClearFrom x m → ClearFrom (x ++ t) m
@@ -114,7 +116,10 @@ module _ (x : ℕ) (b : List ℕ) (q : Passes b) (d : is_break x ≡ true) where
   unfolding none first before_at
   clear_join before c [] p = (
     λ k. rows_after k before c [] (x ∷ b) d (λ e. sym (clear_followed before c [] p.0 e)) ∙ p.0 k,
-    (break_clear (c ∷ before) x b d refl (last_firm before c [] tt p) (none_some b q.some), clear_over [] (x ∷ c ∷ before) b d (places_clear b q.rows b 0 refl)),
+    (
+      break_clear (c ∷ before) x b d refl (last_firm before c [] tt p) (none_some b q.some),
+      clear_over [] (x ∷ c ∷ before) b d (places_clear b q.rows b 0 refl),
+    ),
   )
   clear_join before c (e ∷ a) p = (λ k. rows_after k before c (e ∷ a) (x ∷ b) d (λ _. refl) ∙ p.0 k, clear_join (c ∷ before) e a p.1)
 
@@ -124,10 +129,12 @@ module _ (x : ℕ) (b : List ℕ) (q : Passes b) (d : is_break x ≡ true) where
   passes_join (c ∷ a) p s = record {
     some = omega arith;
     short = s;
-    rows = λ i h. each_place ((c ∷ a) ++ (x ∷ b)) Clear _ 0 refl (clear_join [] c a (places_clear (c ∷ a) p.rows _ 0 refl)) i (omega arith) h;
+    rows =
+        λ i h. each_place ((c ∷ a) ++ (x ∷ b)) Clear _ 0 refl (clear_join [] c a (places_clear (c ∷ a) p.rows _ 0 refl)) i (omega arith) h;
   }
 
 -- Accepted messages with a break between them, short enough, are an accepted message.
-pub join_accepted : (a : List ℕ) (x : ℕ) (b : List ℕ) → NoneFits a → is_break x ≡ true → NoneFits b → length (a ++ (x ∷ b)) ≤ 4096 → NoneFits (a ++ (x ∷ b))
+pub join_accepted : (a : List ℕ) (x : ℕ) (b : List ℕ) → NoneFits a → is_break x ≡ true → NoneFits b → length (a ++ (x ∷ b)) ≤ 4096
+    → NoneFits (a ++ (x ∷ b))
 join_accepted a x b f d g s =
     passes_none (a ++ (x ∷ b)) (passes_join x b (none_passes b g) d a (none_passes a f) s)

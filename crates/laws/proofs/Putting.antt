@@ -1,10 +1,11 @@
 -- Bytes put into a lent output, right before a place or from a place on: what was put beside other bytes was put together with them.
 use Rattle.laws.proofs.Kit.{ℕ, ◌+◌, ◌-◌, ◌<◌, ◌≤◌, arith, add-one, ◌≡◌, refl, sym, ap, ◌∙◌, List, [], ◌∷◌, ◌++◌, append_assoc, append-nil}
-use Rattle.laws.proofs.Kit.{length, take, drop, set, take-append-drop, length-append, length-take, length-drop, length-take-le}
-use Rattle.laws.proofs.Kit.{take-append-le, take-take, take_at, drop_at, drop-drop, drop_of_length-le, take_all, set_split}
+use Rattle.laws.proofs.Kit.{length, take, drop, set, take-append-drop, length-append, length-drop}
+use Rattle.laws.proofs.Kit.{drop_at, drop-drop, drop_of_length-le, take_all, set_split}
 use Rattle.spec.specs.{Tape.sounds, Tape.tape, Layers.TapePromise, declared.Edition.Edition}
 use Rattle.laws.proofs.Editions.{tape_length}
 use Rattle.laws.specs.Putting.{Put}
+use Rattle.std.proofs.lemmas.Grind.{common_steps}
 
 -- nothing put leaves the output as it is
 pub put_none : (out : List ℕ) (at : ℕ) → Put [] out out at at
@@ -14,40 +15,32 @@ put_none out at = record { place = omega arith; bytes = sym (take-append-drop at
 pub put_at : (out : List ℕ) (at code : ℕ) → at < length out → Put (code ∷ []) out (set out at code) (at + 1) at
 put_at out at code h = record { place = refl; bytes = rw (set_split out at code h, add-one at) }
 
--- and so is one stored right before a place
-pub put_one : (out : List ℕ) (at code : ℕ) → 0 < at → at ≤ length out → Put (code ∷ []) out (set out (at - 1) code) at (at - 1)
-put_one out at code z h = let e : at - 1 + 1 ≡ at = omega arith in rw e at (put_at out (at - 1) code (omega arith))
-
 -- codes put before others that were put
-pub put_over : (codes more out out₁ out₂ : List ℕ) (at a b : ℕ) → at ≤ length out → Put codes out out₁ at a → Put more out₁ out₂ a b → Put (more ++ codes) out out₂ at b
+pub put_over : (codes more out out₁ out₂ : List ℕ) (at a b : ℕ) → at ≤ length out → Put codes out out₁ at a → Put more out₁ out₂ a b
+    → Put (more ++ codes) out out₂ at b
 put_over codes more out out₁ out₂ at a b h p q =
-    let l = length-take-le a out (omega (arith, p.place)) in
-    let t = take-append-le b (take a out) (codes ++ drop at out) (omega (arith, q.place)) in
-    let u = take-take b a out (omega (arith, q.place)) in
-    let d = drop_at (take a out) (codes ++ drop at out) a l in
+    let t : take b out₁ ≡ take b out = grind (arith, common_steps, p.bytes, p.place, q.place) in
+    let d : drop a out₁ ≡ codes ++ drop at out = grind (arith, common_steps, p.bytes, p.place) in
     record {
       place = omega (arith, length-append more codes, p.place, q.place);
-      bytes = q.bytes ∙ rw (p.bytes, t, u, d, append_assoc more codes (drop at out));
+      bytes = q.bytes ∙ rw (t, d, append_assoc more codes (drop at out));
     }
 
 module _ (codes out out' : List ℕ) (at r : ℕ) (h : at ≤ length out) (p : Put codes out out' at r) where
   -- the output is as long as it was
   pub put_length : length out' ≡ length out
-  put_length =
-      let e = simp (length-append, length-take, length-drop) at (ap length p.bytes) in
-      omega (arith, e, p.place)
+  put_length = grind (arith, common_steps, p.bytes, p.place)
 
   -- what stands after the codes is as it was
   pub put_rest : drop at out' ≡ drop at out
   put_rest =
-      let l = length-take-le r out (omega (arith, p.place)) in
-      let e : length (take r out ++ codes) ≡ at = simp (length-append, l) p.place in
-      rw (p.bytes, ← append_assoc (take r out) codes (drop at out)) (drop_at (take r out ++ codes) (drop at out) at e)
+      rw (p.bytes, ← append_assoc (take r out) codes (drop at out)) (drop_at (take r out ++ codes) (drop at out) at
+      (grind (arith, common_steps, p.place)))
 
   -- and so is what stands before them, so putting them again changes nothing
   pub put_again : Put codes out' out' at r
   put_again =
-      let f : take r out' ≡ take r out = rw p.bytes (take_at (take r out) (codes ++ drop at out) r (length-take-le r out (omega (arith, p.place)))) in
+      let f : take r out' ≡ take r out = grind (arith, common_steps, p.bytes, p.place) in
       record { place = p.place; bytes = p.bytes ∙ rw (f, put_rest) }
 
 -- the tape that the transcriber promises was put
@@ -60,11 +53,12 @@ pub put_first_lem : (codes out out' : List ℕ) (at r : ℕ) → at ≡ length c
 put_first_lem codes out out' at r e p = let z : r ≡ 0 = omega (arith, p.place) in rw z at p.bytes
 
 -- bytes put behind others
-pub put_behind : {codes more out out₁ out₂ : List ℕ} {at a b : ℕ} → b ≤ length out → Put codes out out₁ a at → Put more out₁ out₂ b a → Put (codes ++ more) out out₂ b at
+pub put_behind : {codes more out out₁ out₂ : List ℕ} {at a b : ℕ} → b ≤ length out → Put codes out out₁ a at → Put more out₁ out₂ b a
+    → Put (codes ++ more) out out₂ b at
 put_behind {codes} {more} {out} {out₁} {out₂} {at} {a} {b} h p q =
-    let l : length (take at out ++ codes) ≡ a = simp (length-append, length-take-le at out (omega (arith, p.place, q.place))) p.place in
-    let t : take a out₁ ≡ take at out ++ codes = rw (p.bytes, ← append_assoc (take at out) codes (drop a out)) (take_at (take at out ++ codes) (drop a out) a l) in
-    let d : drop b out₁ ≡ drop b out = rw (← q.place, ← drop-drop (length more) a out₁, ← drop-drop (length more) a out, put_rest codes out out₁ a at (omega (arith, q.place)) p) refl in
+    let t : take a out₁ ≡ take at out ++ codes = grind (arith, common_steps, p.bytes, p.place, q.place, h) in
+    let d : drop b out₁ ≡ drop b out = rw (← q.place, ← drop-drop (length more) a out₁, ← drop-drop (length more) a out)
+    (ap (drop (length more)) (put_rest codes out out₁ a at (omega (arith, q.place)) p)) in
     record {
       place = omega (arith, length-append codes more, p.place, q.place);
       bytes = q.bytes ∙ rw (t, d, append_assoc (take at out) codes (more ++ drop b out), append_assoc codes more (drop b out)) refl;

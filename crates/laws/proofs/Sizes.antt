@@ -1,4 +1,5 @@
--- How long a tape and a naming can be: a letter makes at most two codes and one name, a break one code, and a message has no more letters and breaks than bytes.
+-- How long a tape and a naming can be: a letter makes at most two codes and one name, a break one code, and a message has no more letters
+-- and breaks than bytes.
 use Rattle.laws.proofs.Kit.{ℕ, suc, ◌+◌, ◌*◌, ◌≤◌, ◌≡◌, refl, ap, Bool, true, false, ◌&&◌, ◌||◌, List, [], ◌∷◌, ◌++◌, arith, length}
 use Rattle.laws.proofs.Kit.{length-append}
 use Rattle.spec.specs.Letters.{Letter, Message, last, more, read, put_letter, is_gap, is_break, is_mark, is_sign, is_vowel, is_consonant}
@@ -26,7 +27,8 @@ unfolding read
 read_size [] = omega arith
 read_size (b ∷ m) =
     let h = read_size m in
-    either (is_break b) (λ q. rw q (omega arith)) (λ q. rw q (either (is_mark b) (λ t. rw t (omega arith)) (λ t. rw (t, put_size) (omega arith))))
+    either (is_break b) (λ q. rw q (omega arith)) (λ q. rw q
+    (either (is_mark b) (λ t. rw t (omega arith)) (λ t. rw (t, put_size) (omega arith))))
 
 -- pass 1 only takes letters away
 elide_size : (p : ℕ) (w : List Letter) → length (elide_from p w) ≤ length w
@@ -34,7 +36,8 @@ unfolding elide_from
 elide_size p [] = omega arith
 elide_size p (l ∷ w) =
     let r = elide_size l.byte w in
-    cond_both (λ v. length v ≤ suc (length w)) (elides p l.byte w) {x = elide_from l.byte w} {y = l ∷ elide_from l.byte w} (omega arith) (omega arith)
+    cond_both (λ v. length v ≤ suc (length w)) (elides p l.byte w) {x = elide_from l.byte w} {y = l ∷ elide_from l.byte w} (omega arith)
+    (omega arith)
 
 -- a letter makes at most two sounds
 phones_size : (hard : Bool) (facts : Facts) (p : ℕ) (w : List Letter) → length (phones_from hard facts p w) ≤ 2 * length w
@@ -42,12 +45,18 @@ unfolding phones_from
 phones_size hard facts p [] = omega arith
 phones_size hard facts p (l ∷ w) =
     let h = phones_size false facts l.byte w in
-    phones_cases (λ xs. length (xs ++ phones_from false facts l.byte w) ≤ 2 * suc (length w)) hard facts p l w (λ _. omega arith) (λ _ _. (omega arith, omega arith)) (λ _ _. omega arith)
+    phones_cases (λ xs. length (xs ++ phones_from false facts l.byte w) ≤ 2 * suc (length w)) hard facts p l w (λ _. omega arith)
+    (λ _ _. (omega arith, omega arith)) (λ _ _. omega arith)
 
 word_size : (hard next : Bool) (w : List Letter) → length (word_tape hard next w) ≤ 2 * length w
 unfolding word_tape elide
 word_size hard next w =
-    omega (arith, sounds_length next (phones_from hard (facts_of w) 0 (elide_from 0 w)), phones_size hard (facts_of w) 0 (elide_from 0 w), elide_size 0 w)
+    omega (
+      arith,
+      sounds_length next (phones_from hard (facts_of w) 0 (elide_from 0 w)),
+      phones_size hard (facts_of w) 0 (elide_from 0 w),
+      elide_size 0 w,
+    )
 
 segment_size : (hard next : Bool) (r : Message) → length (segment hard next r) ≤ 2 * size_of r
 unfolding segment
@@ -77,7 +86,8 @@ unfolding names_from
 names_from_size facts p [] = omega arith
 names_from_size facts p (l ∷ w) =
     let h = names_from_size facts l.byte w in
-    either (is_vowel l.byte) (λ v. rw v (omega (arith, ap length (vowel_complete l.byte v)))) (λ v. rw v (omega (arith, incomplete_one l.byte)))
+    either (is_vowel l.byte) (λ v. rw v (omega (arith, ap length (vowel_complete l.byte v))))
+    (λ v. rw v (omega (arith, incomplete_one l.byte)))
 
 word_names_size : (w : List Letter) → length (word_names w) ≤ length w
 unfolding everything

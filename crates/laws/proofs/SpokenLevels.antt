@@ -1,6 +1,7 @@
--- Spoken levels: all words are of one table, so what holds of each of its rows holds of every word that is spoken; and of the three parts of a number, thousands, hundreds and what is left, each is one computation over the few that there are.
+-- Spoken levels: all words are of one table, so what holds of each of its rows holds of every word that is spoken; and of the three parts
+-- of a number, thousands, hundreds and what is left, each is one computation over the few that there are.
 use Rattle.laws.proofs.Kit.{ℕ, zero, suc, ◌+◌, ◌*◌, ◌/◌, ◌%◌, ◌<◌, ◌≤◌, ◌≡◌, refl, sym, ap, ◌∙◌, ◌↔◌, Bool, true, false, cond, ◌&&◌, ◌||◌}
-use Rattle.laws.proofs.Kit.{not, and-eq-true_iff, not-true, List, [], ◌∷◌, ◌++◌, append_assoc, append-nil, ⊎_elim, ◌-◌, arith, eqb, leb}
+use Rattle.laws.proofs.Kit.{not, and_parts, not-true, List, [], ◌∷◌, ◌++◌, append_assoc, append-nil, ⊎_elim, ◌-◌, arith, eqb, leb}
 use Rattle.laws.proofs.Kit.{length, length-append, eqb-true, leb-true}
 use lib.IntN.{ℤ, pos, negsuc, neg_ℤ}
 use Rattle.spec.specs.SpokenLevels.{Row, ◌says◌, bytes, units, teens, tens, hundreds, feminine, word_in, thousand, thousands, below_hundred}
@@ -8,17 +9,13 @@ use Rattle.spec.specs.SpokenLevels.{number_words, level_words, after_gaps, space
 use Rattle.spec.specs.{Alphabet.gap, Letters.is_gap, Letters.is_break, Refusals.check_of, Refusals.NoneFits, Answers.checked_number}
 use Rattle.spec.specs.Tables.{same}
 use Rattle.spec.proofs.Computed.{everything}
-use Rattle.laws.proofs.Classes.{cond_both, or-false, below_same}
+use Rattle.laws.proofs.Classes.{cond_both, or-false, each_append, below_same}
 use Rattle.laws.proofs.Accepted.{Passes, check_finds, given_range, passes_none}
 use Rattle.laws.proofs.Phrases.{passes_join}
 
--- what is claimed of two lists of words is claimed of both
-each_append : (Claim : List ℕ → Type 0) (a b : List (List ℕ)) → Each Claim a → Each Claim b → Each Claim (a ++ b)
-each_append Claim [] b p q = q
-each_append Claim (w ∷ a) b p q = (p.0, each_append Claim a b p.1 q)
-
--- and what follows from it follows for each
-each_map : (Claim Other : List ℕ → Type 0) → ((w : List ℕ) → Claim w → Other w) → (words : List (List ℕ)) → Each Claim words → Each Other words
+-- what follows from a claim follows for each
+each_map : (Claim Other : List ℕ → Type 0) → ((w : List ℕ) → Claim w → Other w) → (words : List (List ℕ)) → Each Claim words
+    → Each Other words
 each_map Claim Other f [] p = tt
 each_map Claim Other f (w ∷ words) p = (f w p.0, each_map Claim Other f words p.1)
 
@@ -51,14 +48,17 @@ word_sound : (rows : List Row) (n : ℕ) → sound_rows rows ≡ true → Each S
 unfolding sound_rows word_in
 word_sound [] n e = tt
 word_sound (k says w ∷ rows) n e =
-    let b = (and-eq-true_iff (sound_number (bytes w)) (sound_rows rows)).0 e in
+    let b = and_parts (sound_number (bytes w)) (sound_rows rows) e in
     cond_both (Each SoundNumber) (eqb n k) (b.0, tt) (word_sound rows n b.1)
 
 thousands_sound : (n : ℕ) → Each SoundNumber (thousands n)
 unfolding everything checked_number sound sound_number sound_rows has_gap
 thousands_sound n =
-    let form : SoundNumber (thousand n) = cond_both SoundNumber (eqb n 1) {x = thousand 1} {y = cond (leb n 4) (thousand 2) (thousand 5)} refl (cond_both SoundNumber (leb n 4) {x = thousand 2} {y = thousand 5} refl refl) in
-    cond_both (Each SoundNumber) (eqb n 0) tt (each_append SoundNumber (word_in feminine n) (thousand n ∷ []) (word_sound feminine n refl) (form, tt))
+    let form : SoundNumber (thousand n) =
+    cond_both SoundNumber (eqb n 1) {x = thousand 1} {y = cond (leb n 4) (thousand 2) (thousand 5)} refl
+    (cond_both SoundNumber (leb n 4) {x = thousand 2} {y = thousand 5} refl refl) in
+    cond_both (Each SoundNumber) (eqb n 0) tt (each_append SoundNumber (word_in feminine n) (thousand n ∷ []) (word_sound feminine n refl)
+    (form, tt))
 
 below_sound : (n : ℕ) → Each SoundNumber (below_hundred n)
 unfolding everything checked_number sound sound_number sound_rows has_gap
@@ -71,7 +71,8 @@ number_sound : (n : ℕ) → Each SoundNumber (number_words n)
 unfolding everything checked_number sound sound_number sound_rows has_gap
 number_sound n =
     each_append SoundNumber (thousands (n / 1000)) _ (thousands_sound (n / 1000))
-    (each_append SoundNumber (word_in hundreds (n % 1000 / 100 * 100)) _ (word_sound hundreds (n % 1000 / 100 * 100) refl) (below_sound (n % 100)))
+    (each_append SoundNumber (word_in hundreds (n % 1000 / 100 * 100)) _ (word_sound hundreds (n % 1000 / 100 * 100) refl)
+    (below_sound (n % 100)))
 
 -- What a word that is sound has.
 record Sound (w : List ℕ) : Type 0 where
@@ -82,17 +83,22 @@ record Sound (w : List ℕ) : Type 0 where
 sound_has : (w : List ℕ) → sound w ≡ true → Sound w
 unfolding sound checked_number
 sound_has w e =
-    let a = (and-eq-true_iff (eqb (checked_number (check_of w)) 0) (eqb (marks_in w) 1 && not (has_gap w))).0 e in
-    let b = (and-eq-true_iff (eqb (marks_in w) 1) (not (has_gap w))).0 a.1 in
+    let a = and_parts (eqb (checked_number (check_of w)) 0) (eqb (marks_in w) 1 && not (has_gap w)) e in
+    let b = and_parts (eqb (marks_in w) 1) (not (has_gap w)) a.1 in
     record {
-      passes = ⊎_elim (λ f. f.1) (λ f. absurd (omega (arith, (given_range f.given).0, eqb-true (checked_number (check_of w)) 0 a.0, ap checked_number f.refused))) (check_finds w);
+      passes = ⊎_elim (λ f. f.1) (λ f. absurd (omega (
+        arith,
+        (given_range f.given).0,
+        eqb-true (checked_number (check_of w)) 0 a.0,
+        ap checked_number f.refused,
+      ))) (check_finds w);
       marked = eqb-true _ _ b.0;
       gapless = not-true (has_gap w) b.1;
     }
 
 number_has : (w : List ℕ) → SoundNumber w → Sound w
 unfolding sound_number
-number_has w e = sound_has w ((and-eq-true_iff (sound w) (not (same w minus))).0 e).0
+number_has w e = sound_has w (and_parts (sound w) (not (same w minus)) e).0
 
 level_sound : (level : ℤ) → Each Sound (level_words level)
 unfolding everything checked_number sound has_gap
@@ -109,11 +115,13 @@ gap_break : is_break gap ≡ true
 unfolding everything
 gap_break = refl
 
-spaced_passes : (w : List ℕ) (words : List (List ℕ)) → Each Sound (w ∷ words) → length (spaced (w ∷ words)) ≤ 4096 → Passes (spaced (w ∷ words))
+spaced_passes : (w : List ℕ) (words : List (List ℕ)) → Each Sound (w ∷ words) → length (spaced (w ∷ words)) ≤ 4096
+    → Passes (spaced (w ∷ words))
 unfolding spaced after_gaps
 spaced_passes w [] e h = rw append-nil e.0.passes
 spaced_passes w (v ∷ words) e h =
-    passes_join gap (spaced (v ∷ words)) (spaced_passes v words e.1 (omega (arith, length-append w (gap ∷ spaced (v ∷ words))))) gap_break w e.0.passes h
+    passes_join gap (spaced (v ∷ words)) (spaced_passes v words e.1
+    (omega (arith, length-append w (gap ∷ spaced (v ∷ words))))) gap_break w e.0.passes h
 
 -- Words behind a gap each, one list of them after another.
 pub gaps_append : (a b : List (List ℕ)) → after_gaps (a ++ b) ≡ after_gaps a ++ after_gaps b
@@ -193,8 +201,8 @@ heard_sums : (k : ℕ) (words : List (List ℕ)) (n : ℕ) → sums words n ≡ 
 unfolding heard_from sums
 heard_sums k [] n e = omega (arith, eqb-true n 0 e)
 heard_sums k (w ∷ words) n e =
-    let a = (and-eq-true_iff (not (is_thousand w)) (leb (value w) n && sums words (n - value w))).0 e in
-    let b = (and-eq-true_iff (leb (value w) n) (sums words (n - value w))).0 a.1 in
+    let a = and_parts (not (is_thousand w)) (leb (value w) n && sums words (n - value w)) e in
+    let b = and_parts (leb (value w) n) (sums words (n - value w)) a.1 in
     rw (not-true (is_thousand w) a.0) (heard_sums (k + value w) words (n - value w) b.1 ∙ omega (arith, leb-true (value w) n b.0))
 
 -- The three parts of a number say it.
@@ -227,7 +235,7 @@ heard (w ∷ words) = cond (same w minus) (neg_ℤ (pos (heard_from 0 words))) (
 heard_number : (words : List (List ℕ)) → Each SoundNumber words → heard words ≡ pos (heard_from 0 words)
 unfolding heard heard_from sound_number
 heard_number [] e = refl
-heard_number (w ∷ words) e = rw (not-true (same w minus) ((and-eq-true_iff (sound w) (not (same w minus))).0 e.0).1)
+heard_number (w ∷ words) e = rw (not-true (same w minus) (and_parts (sound w) (not (same w minus)) e.0).1)
 
 level_heard : (level : ℤ) → InRange level → heard (level_words level) ≡ level
 unfolding everything heard heard_from is_thousand value_in
@@ -273,4 +281,5 @@ level_accepted (pos (suc n)) h = by (number_words (suc n)) (level_sound (pos (su
     by : (words : List (List ℕ)) → Each Sound words → heard_from 0 words ≡ suc n → length (spaced words) ≤ 54 → NoneFits (spaced words)
     by [] s e l = absurd (omega (arith, e))
     by (w ∷ words) s e l = passes_none _ (spaced_passes w words s (omega arith))
-level_accepted (negsuc n) h = passes_none _ (spaced_passes minus (number_words (suc n)) (level_sound (negsuc n)) (omega (arith, level_size (negsuc n) h)))
+level_accepted (negsuc n) h =
+    passes_none _ (spaced_passes minus (number_words (suc n)) (level_sound (negsuc n)) (omega (arith, level_size (negsuc n) h)))

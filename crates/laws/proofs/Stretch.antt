@@ -1,4 +1,5 @@
--- The tape of a stretch of a message: a break splits it in two, since nothing but the two bits crosses a break; and what the bits change, by its first and last word.
+-- The tape of a stretch of a message: a break splits it in two, since nothing but the two bits crosses a break; and what the bits change,
+-- by its first and last word.
 use Rattle.laws.proofs.Kit.{ℕ, ◌≡◌, refl, ap, Bool, true, false, ◌&&◌, List, [], ◌∷◌, ◌++◌, append_assoc, arith, length, length-append}
 use Rattle.spec.specs.Letters.{Letter, Message, last, more, read, put_letter, begins_with_mark, first_word, last_word, is_gap, is_break}
 use Rattle.spec.specs.{Tables.among, Codes.mark_of, Codes.is_voicing, Vowels.ends_hard, Voicing.voices, Tape.segment}
@@ -41,7 +42,8 @@ unfolding read meet
 read_join [] s x e = rw e
 read_join (b ∷ p) s x e = rw (read_join p s x e, mark_before_break p s x e, put_meet) (simp (cond_app (λ (z : Message). meet z x (read s))))
 
--- a break's mark is no voicing sound, and neither is nothing, so a word is followed by the same voice with or without what stands behind the break
+-- a break's mark is no voicing sound, and neither is nothing, so a word is followed by the same voice with or without what stands behind
+-- the break
 pub voices_over_lem : (t u : List ℕ) (x : ℕ) → voices (t ++ (mark_of x ∷ u)) ≡ voices t
 unfolding voices is_voicing among
 voices_over_lem [] u x = mark_both (λ c. is_voicing c ≡ false) x refl refl
@@ -86,4 +88,5 @@ pub segment_firm : (h n : Bool) (a : Message) → (h && begins_with_i_or_e (firs
 unfolding segment first_word
 segment_firm false n a e = refl
 segment_firm true n (last w) e = word_firm false true n w e
-segment_firm true n (more w x r) e = ap (λ (t : List ℕ). t ++ (mark_of x ∷ segment (is_gap x && ends_hard w) n r)) (word_firm false true _ w e)
+segment_firm true n (more w x r) e =
+    ap (λ (t : List ℕ). t ++ (mark_of x ∷ segment (is_gap x && ends_hard w) n r)) (word_firm false true _ w e)

@@ -1,8 +1,8 @@
 -- Reading and writing undo each other: a row's octets are read as its byte whatever follows them, and what is read has its row's octets. So
 -- a text can be cut in one way only.
 use Rattle.laws.proofs.Kit.{ℕ, ◌+◌, ◌*◌, ◌<◌, ◌≤◌, ◌≡◌, ◌≢◌, refl, sym, ap, ◌∙◌, true, false, cond, true≢false, false≢true, List, []}
-use Rattle.laws.proofs.Kit.{◌∷◌, ◌++◌, append_assoc, append-nil, map, arith, eqb, leb, length, take, drop, length-append, take_at}
-use Rattle.laws.proofs.Kit.{drop_at, take-append-drop, length-take-le, eq-eqb, eqb-true, ne_eqb, leb-true, leb-false, lt-leb}
+use Rattle.laws.proofs.Kit.{◌∷◌, ◌++◌, append_assoc, append-nil, map, arith, eqb, leb, length, drop, length-append}
+use Rattle.laws.proofs.Kit.{take-append-drop, length-take-le, eq-eqb, eqb-true, ne_eqb, leb-true, leb-false, lt-leb}
 use Rattle.laws.proofs.Kit.{not-true, or-true, and-false}
 use Rattle.spec.specs.Letters.{small, hard_only, paired, soft_only, signs, plain_vowels, softening_vowels, is_consonant, is_sign, is_vowel}
 use Rattle.spec.specs.Letters.{is_break, is_mark}
@@ -14,6 +14,8 @@ use Rattle.spec.specs.Utf8.{sequence_in, byte_in, sequence, byte_of, is_taken, e
 use Rattle.spec.proofs.Computed.{everything}
 use Rattle.laws.proofs.Classes.{either, refuted, cond_both, among_same, below_same}
 use Rattle.laws.proofs.Accepted.{ClearFrom, places_clear, none_passes}
+use Rattle.std.proofs.lemmas.List.{nil_from_length}
+use Rattle.std.proofs.lemmas.Grind.{common_steps}
 
 -- a row's octets are read as its byte, whatever follows them
 pub row_read : (b : ℕ) (t : List ℕ) → has_row b ≡ true → decoded (sequence b ++ t) ≡ b ∷ decoded t
@@ -27,7 +29,8 @@ unfolding same
 same_equal [] [] e = refl
 same_equal [] (b ∷ t) e = absurd (false≢true e)
 same_equal (a ∷ s) [] e = absurd (false≢true e)
-same_equal (a ∷ s) (b ∷ t) e = either (eqb a b) (λ q. rw (eqb-true a b q, same_equal s t (rw q at e)) refl) (λ q. absurd (false≢true (rw q at e)))
+same_equal (a ∷ s) (b ∷ t) e =
+    either (eqb a b) (λ q. rw (eqb-true a b q, same_equal s t (rw q at e)) refl) (λ q. absurd (false≢true (rw q at e)))
 
 -- the byte and the number of a row
 abbrev byte : Character → ℕ
@@ -40,10 +43,12 @@ number (x is c) = c
 found_row : (rows : List Character) (s : List ℕ) → eqb (byte_in rows s) 0 ≡ false → among (row_bytes rows) (byte_in rows s) ≡ true
 unfolding byte_in row_bytes among
 found_row [] s e = absurd (true≢false e)
-found_row (x is c ∷ rows) s e = either (same s (octets c)) (λ q. rw (q, eq-eqb x x refl)) (λ q. rw (q, found_row rows s (rw q at e), or-true (eqb (byte_in rows s) x)))
+found_row (x is c ∷ rows) s e =
+    either (same s (octets c)) (λ q. rw (q, eq-eqb x x refl)) (λ q. rw (q, found_row rows s (rw q at e), or-true (eqb (byte_in rows s) x)))
 
 -- and the octets are that row's
-found_octets : (rows : List Character) (s : List ℕ) → map (λ r. sequence (byte r)) rows ≡ map (λ r. octets (number r)) rows → eqb (byte_in rows s) 0 ≡ false
+found_octets : (rows : List Character) (s : List ℕ) → map (λ r. sequence (byte r)) rows ≡ map (λ r. octets (number r)) rows
+    → eqb (byte_in rows s) 0 ≡ false
     → sequence (byte_in rows s) ≡ s
 unfolding byte_in
 found_octets [] s m e = absurd (true≢false e)
@@ -61,7 +66,8 @@ unfolding is_taken byte_of has_row
 taken_row s e = found_row characters s (not-true (eqb (byte_of s) 0) e)
 
 -- What holds of texts where nothing is read, and of a row's octets before a text of which it holds, holds of every text.
-by_cuts : (P : List ℕ → Type 0) → ((t : List ℕ) → decoded t ≡ [] → P t) → ((b : ℕ) (t : List ℕ) → has_row b ≡ true → P t → P (sequence b ++ t)) → (t : List ℕ) → P t
+by_cuts : (P : List ℕ → Type 0) → ((t : List ℕ) → decoded t ≡ [] → P t)
+    → ((b : ℕ) (t : List ℕ) → has_row b ≡ true → P t → P (sequence b ++ t)) → (t : List ℕ) → P t
 unfolding decoded
 by_cuts P none more [] = none [] refl
 by_cuts P none more (a ∷ []) = either (is_taken (a ∷ []))
@@ -85,7 +91,12 @@ unfolding encoded
 cut = by_cuts Cut
     (λ t e. record { rest = t; text = rw e; rows = rw e tt; stops = e })
     (λ b t h c. let e = row_read b t h in
-    record { rest = c.rest; text = rw (e, append_assoc (sequence b) (encoded (decoded t)) c.rest, ← c.text); rows = rw e (h, c.rows); stops = c.stops })
+    record {
+      rest = c.rest;
+      text = rw (e, append_assoc (sequence b) (encoded (decoded t)) c.rest, ← c.text);
+      rows = rw e (h, c.rows);
+      stops = c.stops;
+    })
 
 -- messages are written one behind the other
 pub encoded_append : (m n : List ℕ) → encoded (m ++ n) ≡ encoded m ++ encoded n
@@ -117,12 +128,8 @@ module _ (t : List ℕ) where
   -- read to its end, it is a run
   pub whole_run : read_to t ≡ length t → RunOf t (decoded t)
   whole_run e =
-      let z : (cut t).rest ≡ [] = empty (cut t).rest (omega (arith, cut_length)) in
+      let z = nil_from_length (cut t).rest (omega (arith, cut_length)) in
       record { rows = (cut t).rows; text = simp append-nil at (rw z at (cut t).text) }
-    where
-      empty : (l : List ℕ) → length l ≡ 0 → l ≡ []
-      empty [] h = refl
-      empty (x ∷ l) h = absurd (omega arith)
 
   -- a run is cut in one way only, and read to its end
   pub run_once : (m : List ℕ) → RunOf t m → m ≡ decoded t
@@ -137,15 +144,12 @@ module _ (t : List ℕ) where
   unfolding read_to
   stops_at h =
       let c = cut t in
-      let d : drop (read_to t) t ≡ c.rest = ap (drop (read_to t)) c.text ∙ drop_at (encoded (decoded t)) c.rest (read_to t) refl in
+      let d : drop (read_to t) t ≡ c.rest = grind (arith, common_steps, c.text) in
       record {
         within = h;
-        before = (decoded t, record { rows = c.rows; text = ap (take (read_to t)) c.text ∙ take_at (encoded (decoded t)) c.rest (read_to t) refl });
-        after = λ b rest r e. nil_cons (sym c.stops ∙ ap decoded (sym d ∙ e) ∙ row_read b rest r);
+        before = (decoded t, record { rows = c.rows; text = grind (arith, common_steps, c.text) });
+        after = λ b rest r e. let z : [] ≡ b ∷ decoded rest = sym c.stops ∙ ap decoded (sym d ∙ e) ∙ row_read b rest r in cc z;
       }
-    where
-      nil_cons : {b : ℕ} {l : List ℕ} → [] ≡ (b ∷ l) → ⊥
-      nil_cons e = absurd (omega (arith, ap length e))
 
   -- and nowhere else
   pub stops_once : (p : ℕ) → StopsAt t p → p ≡ read_to t
@@ -159,10 +163,12 @@ module _ (t : List ℕ) where
       rw q (sym (length-take-le p t (omega (arith, s.within))) ∙ ap length r.text)
     where
       nothing : (u : List ℕ) → ((b : ℕ) (rest : List ℕ) → has_row b ≡ true → u ≢ (sequence b ++ rest)) → decoded u ≡ []
-      nothing = by_cuts (λ u. ((b : ℕ) (rest : List ℕ) → has_row b ≡ true → u ≢ (sequence b ++ rest)) → decoded u ≡ []) (λ u e f. e) (λ b u h k f. absurd (f b u h refl))
+      nothing = by_cuts (λ u. ((b : ℕ) (rest : List ℕ) → has_row b ≡ true → u ≢ (sequence b ++ rest)) → decoded u ≡ []) (λ u e f. e)
+          (λ b u h k f. absurd (f b u h refl))
 
 -- A row's octets are those of a character, before a text of characters.
-row_formed : (rows : List Character) (b : ℕ) {t : List ℕ} → map (λ r. is_character (number r)) rows ≡ map (λ _. true) rows → among (row_bytes rows) b ≡ true
+row_formed : (rows : List Character) (b : ℕ) {t : List ℕ} → map (λ r. is_character (number r)) rows ≡ map (λ _. true) rows
+    → among (row_bytes rows) b ≡ true
     → WellFormed t → WellFormed (sequence_in rows b ++ t)
 unfolding row_bytes among sequence_in
 row_formed [] b m h w = absurd (false≢true h)
@@ -175,10 +181,12 @@ run_formed [] r = ended
 run_formed (b ∷ m) r = row_formed characters b refl r.0 (run_formed m r.1)
 
 -- no row has more than two octets
-octets_most : (rows : List Character) (b : ℕ) → map (λ r. leb (length (octets (number r))) 2) rows ≡ map (λ _. true) rows → length (sequence_in rows b) ≤ 2
+octets_most : (rows : List Character) (b : ℕ) → map (λ r. leb (length (octets (number r))) 2) rows ≡ map (λ _. true) rows
+    → length (sequence_in rows b) ≤ 2
 unfolding sequence_in
 octets_most [] b m = omega arith
-octets_most (x is c ∷ rows) b m = cond_both {A = List ℕ} (λ s. length s ≤ 2) (eqb b x) (leb-true (length (octets c)) 2 (cc)) (octets_most rows b (cc))
+octets_most (x is c ∷ rows) b m =
+    cond_both {A = List ℕ} (λ s. length s ≤ 2) (eqb b x) (leb-true (length (octets c)) 2 (cc)) (octets_most rows b (cc))
 
 -- so what is written is at most twice as long
 pub encoded_size : (m : List ℕ) → length (encoded m) ≤ 2 * length m
@@ -191,7 +199,8 @@ run_least : (m : List ℕ) → AllRows m → length m ≤ length (encoded m)
 unfolding everything
 run_least [] r = omega arith
 run_least (b ∷ m) r =
-    let h : 1 ≤ length (sequence b) = leb-true _ _ (among_same (λ x. leb 1 (length (sequence x))) (λ _. true) (row_bytes characters) b refl r.0) in
+    let h : 1 ≤ length (sequence b) = leb-true _ _
+    (among_same (λ x. leb 1 (length (sequence x))) (λ _. true) (row_bytes characters) b refl r.0) in
     omega (arith, length-append (sequence b) (encoded m), run_least m r.1)
 
 pub decoded_size : (t : List ℕ) → length (decoded t) ≤ read_to t
@@ -209,7 +218,15 @@ module _ (b : ℕ) (l : 255 < b) where
 
   large_refused : row3 [] b [] ≡ true
   unfolding row3 letter_byte consonant_byte sign_byte vowel_byte is_consonant is_sign is_vowel is_mark is_break
-  large_refused = rw (large_small, none (hard_only ++ paired ++ soft_only) refl, none signs refl, none (plain_vowels ++ softening_vowels) refl, ne_eqb b mark (omega arith), ne_eqb b gap (omega arith), ne_eqb b pause (omega arith))
+  large_refused = rw (
+    large_small,
+    none (hard_only ++ paired ++ soft_only) refl,
+    none signs refl,
+    none (plain_vowels ++ softening_vowels) refl,
+    ne_eqb b mark (omega arith),
+    ne_eqb b gap (omega arith),
+    ne_eqb b pause (omega arith),
+  )
 
 -- a letter, a mark and a break have a row
 spoken_row : (b : ℕ) → row3 [] b [] ≡ false → has_row b ≡ true

@@ -1,5 +1,6 @@
 -- The tape of a word and the two bits that come from its neighbours: what each bit changes, for a word and a letter in general.
--- Why: pass 4 reads the bit of what follows only at the last sound, and pass 3 reads the bit of what stands before only at the first letter, in the rows of э and и.
+-- Why: pass 4 reads the bit of what follows only at the last sound, and pass 3 reads the bit of what stands before only at the first
+-- letter, in the rows of э and и.
 use Rattle.laws.proofs.Kit.{ℕ, suc, ◌≡◌, refl, sym, ap, subst, ◌∙◌, Bool, true, false, cond, not, ◌&&◌, ◌||◌, true≢false, and-true}
 use Rattle.laws.proofs.Kit.{and-false, List, [], ◌∷◌, ◌++◌, append-nil, map, length, length-append, eqb, eqb-true}
 use Rattle.spec.specs.Alphabet.{«и», «н», «с», «ц», «ч», «ш», «э»}
@@ -31,19 +32,23 @@ pub phones_cases : (P : List Phone → Type 0) (hard : Bool) (facts : Facts) (p 
     → (is_vowel l.byte ≡ true → is_sign l.byte ≡ false
     → let v : Phone = record { letter = l.byte; softened = false; code = vowel_sound hard p (syllable_of facts p l w) l.byte } in
     P (record { letter = l.byte; softened = false; code = J } ∷ v ∷ []) × P (v ∷ []))
-    → (is_vowel l.byte ≡ false → is_sign l.byte ≡ false → P (record { letter = l.byte; softened = softens (first_byte w); code = written_code l.byte } ∷ []))
+    → (is_vowel l.byte ≡ false → is_sign l.byte ≡ false
+    → P (record { letter = l.byte; softened = softens (first_byte w); code = written_code l.byte } ∷ []))
     → P (phones_of hard facts p l w)
 unfolding phones_of vowel_phones
 phones_cases P hard facts p l w sign vowel consonant = either (is_sign l.byte) (λ s. rw s (sign s)) (λ s.
-    rw s (either (is_vowel l.byte) (λ v. rw v (cond_both P (glides p (syllable_of facts p l w).cover l.byte) (vowel v s).0 (vowel v s).1)) (λ v. rw v (consonant v s))))
+    rw s (either (is_vowel l.byte) (λ v. rw v (cond_both P (glides p (syllable_of facts p l w).cover l.byte) (vowel v s).0 (vowel v s).1))
+    (λ v. rw v (consonant v s))))
 
 -- pass 3: the last sound is of the last letter, signs passed over
-pub phones_toned : (h : Bool) (m : Facts) (d : Bool) (p : ℕ) (w : List Letter) → ends_toned d (phones_from h m p w) ≡ ends_in_obstruent_from d w
+pub phones_toned : (h : Bool) (m : Facts) (d : Bool) (p : ℕ) (w : List Letter)
+    → ends_toned d (phones_from h m p w) ≡ ends_in_obstruent_from d w
 unfolding phones_from ends_toned ends_in_obstruent_from
 phones_toned h m d p [] = refl
 phones_toned h m d p (l ∷ w) =
     let r = phones_from false m l.byte w in
-    phones_cases (λ xs. ends_toned d (xs ++ r) ≡ ends_toned (cond (is_sign l.byte) d (is_obstruent l.byte)) r) h m p l w (λ s. rw s) (λ v s. (rw s, rw s)) (λ v s. rw s)
+    phones_cases (λ xs. ends_toned d (xs ++ r) ≡ ends_toned (cond (is_sign l.byte) d (is_obstruent l.byte)) r) h m p l w (λ s. rw s)
+    (λ v s. (rw s, rw s)) (λ v s. rw s)
     ∙ phones_toned false m _ l.byte w
 
 -- pass 3: a hard boundary changes no number of sounds
@@ -78,14 +83,16 @@ elided_ends : (p b : ℕ) (d d' : Bool) (w : List Letter) → elides p b w ≡ t
 unfolding ends_in_obstruent_from first_byte among is_sign
 elided_ends p b d d' [] e = absurd (true≢false (sym e ∙ kept_before p b [] refl))
 elided_ends p b d d' (l ∷ w) e =
-    either (is_sign l.byte) (λ q. absurd (true≢false (sym e ∙ kept_before p b (l ∷ w) (among_same (among (0 ∷ signs)) (λ _. true) signs l.byte refl q)))) (λ q. rw q)
+    either (is_sign l.byte) (λ q. absurd (true≢false
+    (sym e ∙ kept_before p b (l ∷ w) (among_same (among (0 ∷ signs)) (λ _. true) signs l.byte refl q)))) (λ q. rw q)
 
 -- pass 1 leaves the last letter, signs passed over
 pub elide_ends : (d : Bool) (p : ℕ) (w : List Letter) → ends_in_obstruent_from d (elide_from p w) ≡ ends_in_obstruent_from d w
 unfolding elide_from ends_in_obstruent_from
 elide_ends d p [] = refl
 elide_ends d p (l ∷ w) =
-    either (elides p l.byte w) (λ q. rw q (elide_ends d l.byte w ∙ elided_ends p l.byte d _ w q)) (λ q. rw q (elide_ends (cond (is_sign l.byte) d (is_obstruent l.byte)) l.byte w))
+    either (elides p l.byte w) (λ q. rw q (elide_ends d l.byte w ∙ elided_ends p l.byte d _ w q))
+    (λ q. rw q (elide_ends (cond (is_sign l.byte) d (is_obstruent l.byte)) l.byte w))
 
 -- the last sound of a word is of its last letter, signs passed over
 pub word_toned : (h : Bool) (w : List Letter) → ends_toned false (phones_from h (facts_of w) 0 (elide w)) ≡ ends_in_obstruent w
@@ -119,12 +126,14 @@ high_told false facts l w =
     (λ s. either (next_stressed w || not facts.marked) (λ t. rw (s, t) (refl, refl)) (λ t. rw (s, t) (refl, refl)))
 
 -- At the start of a word that begins with one of them Ы tells the hard boundary.
-pub word_starts : (h n : Bool) (w : List Letter) (u : List ℕ) → (is_high (first_code (word_tape h n w ++ u)) && is_i_or_e (first_byte w)) ≡ (h && begins_with_i_or_e w)
+pub word_starts : (h n : Bool) (w : List Letter) (u : List ℕ)
+    → (is_high (first_code (word_tape h n w ++ u)) && is_i_or_e (first_byte w)) ≡ (h && begins_with_i_or_e w)
 unfolding everything
 word_starts h n [] u = simp and-false
 word_starts h n (l ∷ w) u =
     let v : ℕ → Letter = λ b. record { byte = b; stressed = l.stressed } in
-    let told : ℕ → Type 0 = λ b. (is_high (first_code (word_tape h n (v b ∷ w) ++ u)) && is_i_or_e b) ≡ (h && begins_with_i_or_e (v b ∷ w)) in
+    let told : ℕ → Type 0 = λ b. (is_high (first_code (word_tape h n (v b ∷ w) ++ u)) && is_i_or_e b)
+    ≡ (h && begins_with_i_or_e (v b ∷ w)) in
     either (eqb l.byte «и»)
     (λ q. subst told (sym (eqb-true l.byte «и» q)) (high_told h (facts_of (v «и» ∷ w)) (v «и») (elide_from «и» w)).0)
     (λ q. either (eqb l.byte «э»)
@@ -149,7 +158,8 @@ word_firm h h' n (l ∷ w) e =
     rw (first_kept l.byte w, vowel_firm h h' (facts_of (l ∷ w)) l (elide_from l.byte w) e)
 
 -- and else the first code differs, whatever follows
-pub word_starts_differ : (n n' : Bool) (w : List Letter) → begins_with_i_or_e w ≡ true → first_code (word_tape true n w) ≡ first_code (word_tape false n' w) → ⊥
+pub word_starts_differ : (n n' : Bool) (w : List Letter) → begins_with_i_or_e w ≡ true
+    → first_code (word_tape true n w) ≡ first_code (word_tape false n' w) → ⊥
 word_starts_differ n n' w e q = true≢false (sym (told true n) ∙ rw q (told false n'))
   where
     told : (h k : Bool) → (is_high (first_code (word_tape h k w)) && is_i_or_e (first_byte w)) ≡ h

@@ -4,7 +4,7 @@ use Rattle.std.specs.Prelude.{◌≤◌}
 use Rattle.spec.specs.Numbers.{message_max}
 use Rattle.spec.specs.Answers.{number_of, place_of, length_of, live_of}
 use Rattle.spec.specs.Answers.{checked_number, checked_place, checked_codes, checked_names}
-use Rattle.spec.specs.{declared.Checked.Checked, declared.Answer.Answer}
+use Rattle.spec.specs.{Results.Checked, Results.Answer}
 
 -- the check's answer in numbers that are small
 pub record SmallCheck (d : Checked) : Type 0 where

@@ -12,11 +12,15 @@ use Rattle.letters.specs.Places.{last_at, Steady, consonants_and_signs, Alike, B
 use Rattle.letters.proofs.Bytes.{not_both, vowel_break, vowel_mark, letter_class_lem}
 use Rattle.letters.proofs.{Left.last_letter, Left.last_mark, Left.last_break, Computed.everything}
 use Rattle.laws.proofs.Classes.{either, among_same, among_none, break_both}
+use Rattle.std.proofs.lemmas.List.{get_or_past}
 
 -- past the start, the byte before place i is the one at i - 1
 pub before_at_lem : (m : List ℕ) (i : ℕ) → (i ≡ 0 → ⊥) → get_or m (i - 1) 0 ≡ byte_before m i
 unfolding byte_before
 before_at_lem m i h = let e : suc (i - 1) ≡ i = omega arith in ap (byte_before m) e
+
+-- what the bytes beside a place are: that one, and 0 past the end
+pub ruleset sides = (before_at_lem, get_or_past)
 
 -- a letter is alike with itself
 pub alike_same : (p : ℕ) → Alike p p

@@ -1,10 +1,11 @@
 -- An accepted message is steady: it is short, each of its bytes has a class, and a mark stands right after a vowel.
 use Rattle.laws.proofs.Kit.{ℕ, suc, ◌<◌, ◌≡◌, sym, ◌∙◌, true, true≢false, false≢true, List, [], get_or, drop}
 use Rattle.spec.specs.Refusals.{vowel_byte, first, row3, row5, rows, fits_in, before_at, check_of}
-use Rattle.spec.specs.{Letters.is_mark, declared.Counts.Counts, declared.Checked.TheVariants.Accepted}
+use Rattle.spec.specs.{Letters.is_mark, declared.Counts.Counts}
 use Rattle.laws.proofs.{Accepted.Clear, Accepted.accepted_passes, Classes.either, Classes.refuted}
 use Rattle.letters.specs.{Classes.class_of, Places.Steady}
 use Rattle.letters.proofs.Bytes.{ByClass, by_class}
+use Rattle.std.proofs.Common.{Ok}
 
 -- a clear byte is of some class
 clear_named : (before : List ℕ) (b : ℕ) (after : List ℕ) → ByClass b → Clear before b after → class_of b ≡ 0 → ⊥
@@ -17,7 +18,7 @@ unfolding fits_in rows row5
 clear_mark before b after c e = either (first vowel_byte before) (λ v. v) (λ v. absurd (true≢false (rw (e, v) at (c 5))))
 
 -- an accepted message is steady
-pub accepted_steady : (m : List ℕ) (counts : Counts) → check_of m ≡ Accepted counts → ((i : ℕ) → get_or m i 0 < 256) → Steady m
+pub accepted_steady : (m : List ℕ) (counts : Counts) → check_of m ≡ Ok counts → ((i : ℕ) → get_or m i 0 < 256) → Steady m
 unfolding before_at first
 accepted_steady m counts e bytes =
     let p = accepted_passes m counts e in

@@ -2,7 +2,7 @@
 
 // The class of each byte (specs/Classes.antt, class_of), 0 for one that no message may have. Signs,
 // consonants and vowels are ranges, so a test of them is two comparisons; the vowels that
-// palatalize come last.
+// palatalize come last. Numbers and no enum: they are the columns of the check's table of pairs.
 pub const MARK: usize = 1;
 
 pub const GAP: usize = 2;
@@ -33,9 +33,3 @@ pub const VOWEL_I: usize = 13;
 pub const FIRST_LETTER: usize = HARD_SIGN;
 
 pub const FIRST_PALATALIZING: usize = IOTATED;
-
-// How many bytes there are, and so entries of a table by byte.
-pub const BYTES: usize = 256;
-
-// The table that has the class of each byte.
-pub type ClassTable = [u8; BYTES];

@@ -1,12 +1,10 @@
 // The class of a byte, by a table. specs/Classes.antt has its rule, and that these numbers keep it
-// is shown here once; whoever walks a message makes a copy and lends it.
+// is shown here once.
 ghost use Rattle.std.specs.Prelude.{◌≡◌};
-ghost use Rattle.letters.specs.Classes.{classes, class_of};
-
-use crate::classes::ClassTable;
+ghost use Rattle.letters.specs.Classes.{class_of};
 
 // The class of each byte.
-const CLASSES: ClassTable = [
+static CLASSES: [u8; 256] = [
     0, // byte 00
     0, // byte 01
     0, // byte 02
@@ -265,17 +263,9 @@ const CLASSES: ClassTable = [
     12, // byte FF я
 ];
 
-// A copy of the table.
-pub fn class_table() -> ClassTable
-    ensures { result ≡ classes }
-{
-    CLASSES
-}
-
 // The class of a byte.
-pub fn class_of(b: u8, t: &ClassTable) -> usize
-    requires { t.now ≡ classes }
+pub fn class_of(b: u8) -> usize
     ensures { result ≡ class_of b }
 {
-    t[b as usize] as usize
+    CLASSES[b as usize] as usize
 }

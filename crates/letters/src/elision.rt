@@ -1,4 +1,6 @@
 // Letters of a message by their bytes, and which of them are elided.
+#![tactic(auto, unfolding(crate::proofs::Computed::everything))]
+
 ghost use Rattle.std.specs.Prelude.{◌≡◌, ◌<◌, length};
 ghost use Rattle.spec.specs.Letters.{small};
 ghost use Rattle.spec.specs.Elision.{elides_among};
@@ -20,15 +22,19 @@ fn small_letter(b: u8) -> u8
     }
 }
 
-// The small letter at place i, or 0 past the end.
+// The small letter at place i, or 0 past the end: as its definition has it, and so no option.
 pub fn letter_at(m: &[u8], i: usize) -> u8
     ensures { result ≡ letter_at m.now i }
 {
-    if i < m.len() { small_letter(m[i]) } else { 0 }
+    match m.get(i) {
+        Some(&b) => small_letter(b),
+        None => 0,
+    }
 }
 
-// Is the letter b silent between these letters, 0 for none? т after с before ск or н, and after н
-// before ск; д after р before ч or ц, after з before н or ц, and after н before ц, с or шт.
+// Is the letter b silent between these letters? 0 stands for no letter, as in its definition.
+// т after с before ск or н, and after н before ск; д after р before ч or ц, after з before н or
+// ц, and after н before ц, с or шт.
 fn elides(p: u8, b: u8, c: u8, d: u8) -> bool
     ensures { result ≡ elides_among p b c d }
 {
@@ -83,6 +89,7 @@ pub fn is_t_or_d(b: u8) -> bool
 // Is the letter at place i silent? A silent letter stands between two others. It asks of four bytes
 // and lends no slice, so that a caller's loop keeps the message in registers; and it asks at two
 // places, so that the compiler does not copy the whole question into that loop.
+#[tactic(auto, using(crate::proofs::Before::sides), unfolding(crate::proofs::Computed::everything))]
 pub fn is_elided(m: &[u8], i: usize) -> bool
     requires { i < length m.now }
     ensures { result ≡ elided_at m.now i }

@@ -8,21 +8,23 @@ use Rattle.spec.specs.SpokenLevels.{bytes, below_hundred, number_words, level_wo
 use Rattle.spec.proofs.Computed.{everything}
 use Rattle.laws.proofs.Classes.{below_same}
 use Rattle.laws.specs.Putting.{Put}
-use Rattle.numerals.specs.Placing.{placed, Room, Adds, low_words}
+use Rattle.std.specs.Borrow.{MutBor}
+use Rattle.numerals.specs.declared.Words.{Words}
+use Rattle.numerals.specs.Placing.{placed, Begins, RoomIn, AddsIn, low_words}
 use Rattle.levels.specs.LevelParts.{sign_words, Splits, part_words}
 use Rattle.levels.specs.declared.Parts.{Parts}
 
--- What is spoken of a level with these words: there is room for them from the start on,
-pub level_room : (level : ℤ) (words : List (List ℕ)) {out : List ℕ} → level_words level ≡ words → length (spoken level) ≤ length out
-    → Room words out 0
+-- What is spoken of a level: an output that has room for it has room for the level's words where nothing is filled yet,
+pub level_room : (level : ℤ) {out : MutBor (List ℕ)} {w : Words} → Begins out w → length (spoken level) ≤ length out.now
+    → RoomIn (level_words level) w
 unfolding placed spoken
-level_room level words e h = rw (← e) (record { enough = omega arith })
+level_room level b h = record { room = record { enough = rw (b.none, b.output) (omega arith) } }
 
 -- and when they are put it is.
-pub level_put : (level : ℤ) (words : List (List ℕ)) {out out' : List ℕ} {r : ℕ} → level_words level ≡ words → Adds words out out' 0 r
-    → Put (spoken level) out out' r 0
+pub level_put : (level : ℤ) {out : MutBor (List ℕ)} {w v : Words} {out' : List ℕ} {r : ℕ} → Begins out w → AddsIn (level_words level) w v
+    → v.out.now ≡ out' → r ≡ v.length → Put (spoken level) out.now out' r 0
 unfolding placed spoken
-level_put level words e p = rw e p.put
+level_put level b p e f = rw (← e, f) (rw (b.none, b.output) at p.adds.put)
 
 -- the word before a number, by the level's sign
 pub sign_below : (level : ℤ) → lt_z level (pos 0) ≡ true → sign_words level ≡ bytes "ми*нус" ∷ []

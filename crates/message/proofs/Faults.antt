@@ -7,7 +7,7 @@ use Rattle.laws.proofs.Kit.{ne_eqb}
 use Rattle.spec.specs.Refusals.{vowel_byte, sign_byte, hard_sign_byte, first, none, adjacent, vowel_sign, letters_before, row3, row4, row5}
 use Rattle.spec.specs.Refusals.{row6}
 use Rattle.spec.specs.Refusals.{row7, row8, row9, row10, rows, first_fit, fault_at, before_at, refusal, check_of}
-use Rattle.spec.specs.{Letters.is_mark, Letters.is_break, declared.Checked.TheVariants.Accepted, declared.Checked.TheVariants.Refused}
+use Rattle.spec.specs.{Letters.is_mark, Letters.is_break, declared.Refusal.Refusal}
 use Rattle.spec.specs.Numbers.{unknown_byte, misplaced_break, misplaced_mark, sign_first, sign_after_sign, consonant_after_hard_sign}
 use Rattle.spec.specs.Numbers.{vowel_sign_vowel}
 use Rattle.spec.specs.Numbers.{long_word, message_max, word_max}
@@ -21,6 +21,7 @@ use Rattle.laws.proofs.Accepted.{counts_of, ClearAt, fault_clear, first_refused,
 use Rattle.laws.proofs.Classes.{refuted, below_or, pairs_same}
 use Rattle.letters.proofs.Bytes.{ByClass, by_class}
 use Rattle.message.proofs.{StepTable.Entry, StepTable.entry_holds, StepTable.silent_asks, Computed.everything}
+use Rattle.std.proofs.Common.{Ok, Err}
 
 -- what the rows ask of the bytes before
 abbrev asked : List ℕ → List Bool
@@ -161,14 +162,14 @@ module _ (m : List ℕ) (bytes : (j : ℕ) → get_or m j 0 < 256) where
   passed_over i h c = passed i c (rw (drop-cons m (suc i) 0 h, and-false (is_break_class (class_at m i))))
 
   -- a fault is the check's answer, where no byte before has one
-  pub seen_fault : (i n : ℕ) → i < length m → length m ≤ message_max → ((j : ℕ) → j < i → fault_here m j ≡ 0) → fault_here m i ≡ n
-      → (n ≡ 0 → ⊥) → Refused (refusal n i) ≡ check_of m
-  seen_fault i n h l c e z = sym (first_refused m l i h (λ j q. passed_over j (omega arith) (λ k r. c k (omega arith))) n (fault_paper i c ∙ rw (e, ne_eqb n 0 z)) z)
+  pub seen_fault : (i : ℕ) (r : Refusal) → i < length m → length m ≤ message_max → ((j : ℕ) → j < i → fault_here m j ≡ 0)
+      → (fault_here m i ≡ r.number) × (r.number ≡ 0 → ⊥) × (r.place ≡ i) → Err r ≡ check_of m
+  seen_fault i r h l c f = rw f.2 (sym (first_refused m l i h (λ j q. passed_over j (omega arith) (λ k r. c k (omega arith))) r.number (fault_paper i c ∙ rw (f.0, ne_eqb r.number 0 f.1)) f.1))
 
   -- The whole message, of suc i bytes, is passed.
   module _ (i : ℕ) (size : length m ≡ suc i) (short : length m ≤ message_max) (clear : (j : ℕ) → j < length m → fault_here m j ≡ 0) where
     -- a break last is refused
-    pub last_refused : is_break_class (kind_at m (length m)) ≡ true → check_of m ≡ Refused (refusal misplaced_break i)
+    pub last_refused : is_break_class (kind_at m (length m)) ≡ true → check_of m ≡ Err (refusal misplaced_break i)
     unfolding none kind_at
     last_refused b =
         let d : drop (suc i) m ≡ [] = rw (← size) (drop-length m) in
@@ -177,7 +178,7 @@ module _ (m : List ℕ) (bytes : (j : ℕ) → get_or m j 0 < 256) where
         (fault_paper i (λ k r. clear k (omega arith)) ∙ rw (clear i (omega arith), k, d)) (omega arith)
 
     -- any other message is accepted
-    pub all_accepted : is_break_class (kind_at m (length m)) ≡ false → check_of m ≡ Accepted (counts_of m)
+    pub all_accepted : is_break_class (kind_at m (length m)) ≡ false → check_of m ≡ Ok (counts_of m)
     unfolding kind_at
     all_accepted b = passes_accepted m (record {
       some = omega arith;

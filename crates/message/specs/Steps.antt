@@ -2,20 +2,18 @@
 -- and a class come to. These are not the paper's words: `proofs/` shows that they agree with them.
 -- Assumes nothing: these are definitions.
 use Rattle.std.specs.Prelude.{ℕ, zero, suc, ◌+◌, ◌-◌, ◌*◌, ◌/◌, ◌%◌, ◌≤◌, ◌<◌, ◌≡◌, Bool, cond}
-use Rattle.std.specs.Prelude.{◌&&◌, ◌||◌, List, eqb, length, get_or}
+use Rattle.std.specs.Prelude.{◌&&◌, ◌||◌, List, eqb, length, get_or, Result, Ok, Err}
 use Rattle.spec.specs.Numbers.{unknown_byte, misplaced_break, misplaced_mark, sign_first}
 use Rattle.spec.specs.Numbers.{sign_after_sign}
 use Rattle.spec.specs.Numbers.{consonant_after_hard_sign, vowel_sign_vowel, long_word, message_max}
 use Rattle.spec.specs.Numbers.{word_max}
 use Rattle.spec.specs.Letters.{between}
 use Rattle.spec.specs.Refusals.{refusal}
-use Rattle.spec.specs.declared.Checked.{Checked}
-use Rattle.spec.specs.declared.Checked.TheVariants.{Accepted, Refused}
+use Rattle.spec.specs.Results.{Checked}
+use Rattle.spec.specs.declared.Refusal.{Refusal}
 use Rattle.message.specs.declared.Seen.{Seen}
-use Rattle.message.specs.declared.Step.{Step}
-use Rattle.message.specs.declared.Step.TheVariants.{Fault, Next}
 use Rattle.letters.specs.Classes.{class_of, is_break_class, is_sign_class, is_consonant_class}
-use Rattle.letters.specs.Classes.{is_vowel_class, is_letter_class, class_at, tabulate, classes}
+use Rattle.letters.specs.Classes.{is_vowel_class, is_letter_class, class_at, tabulate}
 use Rattle.letters.specs.Classes.{elided_at}
 use Rattle.letters.specs.Classes.{silent_at}
 use Rattle.letters.specs.Classes.{mark_class, gap_class, hard_sign_class, soft_sign_class}
@@ -149,14 +147,8 @@ pub record Sees (m : List ℕ) (s : Seen) : Type 0 where
   pub from : s.from ≤ s.at
   pub limit : letters_at m s.from + s.limit ≡ s.from + word_max
 
--- The two tables are lent.
-pub record Tables (t s : List ℕ) : Type 0 where
-  pub classes : t ≡ classes
-  pub pairs : s ≡ pairs
-
--- The tables are lent, and bytes up to place e may be read after a kind.
-pub record Reads (m t s : List ℕ) (k e : ℕ) : Type 0 where
-  pub tables : Tables t s
+-- Bytes up to place e may be read after a kind.
+pub record Reads (m : List ℕ) (k e : ℕ) : Type 0 where
   pub kind : k < 16
   pub within : e ≤ length m
 
@@ -173,8 +165,7 @@ abbrev pub FoursTo : ℕ → ℕ → Type 0
 FoursTo r n = r ≤ n - 3
 
 -- The check may go on from what it has seen, by fours that begin before place `to`.
-pub record Goes (m t s : List ℕ) (seen : Seen) (to : ℕ) : Type 0 where
-  pub tables : Tables t s
+pub record Goes (m : List ℕ) (seen : Seen) (to : ℕ) : Type 0 where
   pub sees : Sees m seen
   pub bytes : FoursTo to (length m)
   pub room : FoursTo to seen.limit
@@ -187,25 +178,23 @@ pub record Counted (m : List ℕ) (i : ℕ) (s : Seen) : Type 0 where
   pub full : s.limit ≤ s.at → letters_at m s.at ≡ word_max
 
 -- The check begins: there is a byte, and not too many.
-pub record Begins (m t s : List ℕ) : Type 0 where
-  pub tables : Tables t s
+pub record Begins (m : List ℕ) : Type 0 where
   pub some : 0 < length m
   pub short : length m ≤ message_max
 
 -- The check stands at a byte.
-pub record Stands (m t s : List ℕ) (seen : Seen) : Type 0 where
-  pub tables : Tables t s
+pub record Stands (m : List ℕ) (seen : Seen) : Type 0 where
   pub sees : Sees m seen
   pub byte : seen.at < length m
 
--- What a step gives is true: its byte's fault, or what is seen further on.
-abbrev pub Judged : List ℕ → Seen → Step → Type 0
-Judged m s (Fault n) = (fault_here m s.at ≡ n) × (n ≡ 0 → ⊥)
-Judged m s (Next r) = Sees m r × (s.at < r.at)
+-- What a step gives is true: its byte's fault with its place, or what is seen further on.
+abbrev pub Judged : List ℕ → Seen → Result Seen Refusal → Type 0
+Judged m s (Ok r) = Sees m r × (s.at < r.at)
+Judged m s (Err f) = (fault_here m s.at ≡ f.number) × (f.number ≡ 0 → ⊥) × (f.place ≡ s.at)
 
 -- the end of a message of n bytes: a break last is a fault, and a word's last syllable may be
 -- incomplete
 abbrev pub finish_of : ℕ → Seen → Checked
 finish_of n s =
-    cond (is_break_class s.kind) (Refused (refusal misplaced_break (n - 1)))
-    (Accepted (record { codes = s.sum % name_unit; names = s.sum / name_unit + tail_names s.kind }))
+    cond (is_break_class s.kind) (Err (refusal misplaced_break (n - 1)))
+    (Ok (record { codes = s.sum % name_unit; names = s.sum / name_unit + tail_names s.kind }))

@@ -9,17 +9,10 @@ mod pairs;
 // it, a place from which the letters of the word are still to be counted, another before which none
 // of them is a 65th, and the codes and names so far.
 #[derive(Clone, Copy)]
-pub struct Seen {
-    pub at: usize,
-    pub kind: usize,
-    pub from: usize,
-    pub limit: usize,
-    pub sum: usize,
-}
-
-// What one byte more comes to: a fault's number, or what is seen after it.
-#[derive(Clone, Copy)]
-pub enum Step {
-    Fault(u8),
-    Next(Seen),
+struct Seen {
+    at: usize,
+    kind: usize,
+    from: usize,
+    limit: usize,
+    sum: usize,
 }

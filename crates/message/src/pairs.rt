@@ -1,15 +1,11 @@
 // The table of pairs: what a byte comes to, by its class and the kind of what stands before it.
-// specs/Steps.antt has its rule, and that these numbers keep it is shown here once; the check makes
-// a copy and lends it.
-ghost use Rattle.std.specs.Prelude.{◌≡◌};
-ghost use Rattle.message.specs.Steps.{pairs};
-
-use crate::kinds::PairTable;
+// specs/Steps.antt has its rule, and that these numbers keep it is shown once, for check::entry_at.
+use crate::kinds::PAIRS_SIZE;
 
 // A row for each kind and a column for each class, in hexadecimal: the first two digits are 0, or
 // one more than the fault's number; the next is 2 for a letter that may be elided; 4000 is a name,
 // and the last digit the codes.
-const PAIRS: PairTable = [
+pub static PAIRS: [u32; PAIRS_SIZE] = [
     0x0400000, // unnamed after unnamed
     0x0600000, // mark after unnamed
     0x0000001, // gap after unnamed
@@ -267,9 +263,3 @@ const PAIRS: PairTable = [
     0x0400000, // unused 15 14
     0x0400000, // unused 15 15
 ];
-
-pub fn pair_table() -> PairTable
-    ensures { result ≡ pairs }
-{
-    PAIRS
-}

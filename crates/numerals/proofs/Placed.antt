@@ -1,24 +1,20 @@
 -- Words that were put one after the other were put together: after the first the place is no longer the start, so each further one stands
 -- behind a gap.
 use Rattle.laws.proofs.Kit.{ℕ, ◌+◌, ◌<◌, ◌≤◌, ◌≡◌, refl, sym, ap, ◌∙◌, Bool, true, false, cond, List, [], ◌∷◌, ◌++◌, append_assoc}
-use Rattle.laws.proofs.Kit.{append-nil, arith, eqb, length, drop, length-append, ne_eqb}
+use Rattle.laws.proofs.Kit.{append-nil, arith, eqb, length, take, drop, drop-drop, length-append, ne_eqb}
 use Rattle.spec.specs.Alphabet.{gap}
-use Rattle.spec.specs.SpokenLevels.{Row, ◌says◌, units, feminine, word_in, after_gaps, spaced}
+use Rattle.spec.specs.SpokenLevels.{after_gaps, spaced}
 use Rattle.laws.proofs.Classes.{cond_same}
 use Rattle.laws.proofs.SpokenLevels.{gaps_append}
 use Rattle.laws.proofs.Putting.{put_none, put_length, put_behind}
 use Rattle.laws.specs.Putting.{Put}
-use Rattle.numerals.specs.Placing.{placed, Room, Begun, Adds}
+use Rattle.numerals.specs.Placing.{placed, Room, Begun, Adds, RoomIn, AddsIn}
+use Rattle.numerals.specs.declared.Words.{Words}
 
 -- no words are no bytes
 placed_none : (at : ℕ) → placed at [] ≡ []
 unfolding placed spaced after_gaps
 placed_none at = cond_same (eqb at 0) []
-
--- past the start each stands behind a gap
-placed_past : (at : ℕ) (words : List (List ℕ)) → 0 < at → placed at words ≡ after_gaps words
-unfolding placed
-placed_past at words h = rw (ne_eqb at 0 (omega arith))
 
 -- words and then others
 placed_append : (a b : List (List ℕ)) (at r : ℕ) → at + length (placed at a) ≡ r → Begun a r
@@ -76,46 +72,78 @@ module _ (a b : List (List ℕ)) {out : List ℕ} {at : ℕ} (h : Room (a ++ b) 
       begun = begun_both a b r s (omega (arith, q.put.place)) p.begun q.begun;
     }
 
--- a word at the start has nothing before it
-pub word_first : (w out out' : List ℕ) (r : ℕ) → 0 < length w → Put w out out' r 0 → Adds (w ∷ []) out out' 0 r
-unfolding placed spaced after_gaps
-word_first w out out' r z p = record { put = rw append-nil p; begun = omega (arith, p.place) }
+-- The same of an output of which some is filled.
+pub none_in : (w : Words) → AddsIn [] w w
+none_in w = record { adds = adds_none w.out.now w.length; same = refl }
 
--- and past it a gap
-pub word_next : (w out out' : List ℕ) (at r : ℕ) → 0 < at → Put (gap ∷ w) out out' r at → Adds (w ∷ []) out out' at r
-unfolding after_gaps
-word_next w out out' at r z p = record { put = rw (placed_past at (w ∷ []) z, append-nil) p; begun = omega (arith, p.place) }
+module _ (a b : List (List ℕ)) {w : Words} (h : RoomIn (a ++ b) w) where
+  pub first_in : RoomIn a w
+  first_in = record { room = room_first a b h.room }
+
+  module _ {v : Words} (p : AddsIn a w v) where
+    pub next_in : RoomIn b v
+    next_in = record { room = room_next a b h.room p.adds }
+
+    pub both_in : {u : Words} → AddsIn b v u → AddsIn (a ++ b) w u
+    both_in q = record { adds = adds_both a b h.room p.adds q.adds; same = q.same ∙ p.same }
+
+-- the gap that stands before a word, but not at the start
+unfoldable pub gap_at : ℕ → List ℕ
+gap_at at = cond (eqb at 0) [] (gap ∷ [])
+
+placed_word : (at : ℕ) (word : List ℕ) → placed at (word ∷ []) ≡ gap_at at ++ word
+unfolding placed spaced after_gaps gap_at
+placed_word at word = rw append-nil (by (eqb at 0))
+  where
+    by : (t : Bool) → cond t word (gap ∷ word) ≡ cond t [] (gap ∷ []) ++ word
+    by true = refl
+    by false = refl
+
+-- only that gap was put
+pub record Gapped (w v : Words) : Type 0 where
+  pub put : Put (gap_at w.length) w.out.now v.out.now v.length w.length
+  pub same : v.out.ghost_name ≡ w.out.ghost_name
+
+-- at the start it is none
+pub gap_none : (w : Words) → w.length ≡ 0 → Gapped w w
+unfolding gap_at
+gap_none w e =
+    let g : gap_at w.length ≡ [] = rw e refl in
+    record { put = rw g (put_none w.out.now w.length); same = refl }
+
+-- past it there is room for one,
+pub room_gap : {word : List ℕ} {w : Words} → 0 < w.length → RoomIn (word ∷ []) w → w.length + 1 + length word ≤ length w.out.now
+unfolding gap_at
+room_gap {word} {w} z h =
+    let e : length (gap_at w.length) ≡ 1 = rw (ne_eqb w.length 0 (omega arith)) in
+    omega (arith, h.room.enough, ap length (placed_word w.length word), e, length-append (gap_at w.length) word)
+
+-- which is put,
+pub gap_put : {w v : Words} → 0 < w.length → Put (gap ∷ []) w.out.now v.out.now v.length w.length → v.out.ghost_name ≡ w.out.ghost_name
+    → Gapped w v
+unfolding gap_at
+gap_put {w} z p e = record { put = rw (ne_eqb w.length 0 (omega arith)) p; same = e }
+
+-- and then there is room for the word, which stands there with it.
+module _ {word : List ℕ} {w v : Words} (h : RoomIn (word ∷ []) w) (g : Gapped w v) where
+  behind : v.length + length word ≤ length w.out.now
+  behind = omega (arith, h.room.enough, ap length (placed_word w.length word), length-append (gap_at w.length) word, g.put.place)
+
+  pub room_word : v.length + length word ≤ length v.out.now
+  room_word = omega (arith, behind, put_length _ _ _ _ _ (omega (arith, behind)) g.put)
+
+  pub word_put : {u : Words} → 0 < length word → Put word v.out.now u.out.now u.length v.length → u.out.ghost_name ≡ v.out.ghost_name
+      → AddsIn (word ∷ []) w u
+  word_put {u} z p e = record {
+    adds = record { put = rw (placed_word w.length word) (put_behind (omega (arith, behind, p.place)) g.put p); begun = omega (arith, p.place) };
+    same = e ∙ g.same;
+  }
 
 -- a word that was copied to the start of an output
 pub copied : {w out out' : List ℕ} {r : ℕ} → r ≡ length w → out' ≡ w ++ drop (length w) out → Put w out out' r 0
 copied {w} {out} e f = record { place = omega (arith, e); bytes = f ∙ rw e refl }
 
--- there is room for it, and past the start for the gap before it
-pub room_word : (w out : List ℕ) → Room (w ∷ []) out 0 → length w ≤ length out
-unfolding placed spaced after_gaps
-room_word w out h = omega (arith, h.enough, length-append w [])
-
-pub room_gap : (w out : List ℕ) (at : ℕ) → 0 < at → Room (w ∷ []) out at → at + 1 + length w ≤ length out
-unfolding after_gaps
-room_gap w out at z h = omega (arith, h.enough, ap length (placed_past at (w ∷ []) z), length-append w [])
-
--- a number is none of these, as a match tells it where no arm was taken: each behind those before it
-abbrev NoneAfter : Type 0 → List Row → ℕ → Type 0
-NoneAfter Before [] n = Before
-NoneAfter Before (k says w ∷ rows) n = NoneAfter (Before × (n ≡ k → ⊥)) rows n
-
-none_before : (Before : Type 0) (rows : List Row) (n : ℕ) → NoneAfter Before rows n → Before
-none_before Before [] n r = r
-none_before Before (k says w ∷ rows) n r = (none_before (Before × (n ≡ k → ⊥)) rows n r).0
-
--- so it has no word
-pub none_of : (rows : List Row) (Before : Type 0) (n : ℕ) → NoneAfter Before rows n → word_in rows n ≡ []
-unfolding word_in
-none_of [] Before n r = refl
-none_of (k says w ∷ rows) Before n r =
-    rw (ne_eqb n k (none_before (Before × (n ≡ k → ⊥)) rows n r).1) (none_of rows (Before × (n ≡ k → ⊥)) n r)
-
--- a count of thousands that is neither one nor two has the number's word
-pub count_other : (n : ℕ) → (n ≡ 1 → ⊥) → (n ≡ 2 → ⊥) → word_in feminine n ≡ word_in units n
-unfolding feminine word_in
-count_other n f g = rw (ne_eqb n 1 f, ne_eqb n 2 g)
+-- and one that was copied over a part as long as it is was put there
+pub copied_at : {word part out : List ℕ} (at k : ℕ) → part ≡ word → k ≡ length word
+    → Put word out (take at out ++ (part ++ drop k (drop at out))) (at + length word) at
+copied_at {word} {part} {out} at k e f = record { place = refl; bytes = rw (e, f, drop-drop (length word) at out) refl }

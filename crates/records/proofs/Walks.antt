@@ -1,16 +1,16 @@
 -- The walk over a book, place by place: what is read at a place of the bytes is what stands at the start of the bytes from there on.
 use Rattle.laws.proofs.Kit.{ℕ, suc, ◌+◌, ◌*◌, ◌<◌, ◌≤◌, ◌≡◌, refl, sym, ap, ◌∙◌, true, false, ⊎_elim, ◌&&◌, and-true, List, [], ◌∷◌}
-use Rattle.laws.proofs.Kit.{add-one, arith, eqb, leb, length, drop, length-append, get_or, get_or-drop, length-drop, length-take-le}
+use Rattle.laws.proofs.Kit.{add-one, arith, eqb, leb, length, drop, get_or, get_or-drop, length-drop, length-take-le}
 use Rattle.laws.proofs.Kit.{take_all, drop_of_length-le, drop-drop, le-leb, lt-leb, eqb-true, eqb-false, ne_eqb, eq-eqb}
-use Rattle.spec.specs.Book.{Phrase, book_storage, record_of, records, head_size, record_mark, pair_at, number_in, length_in, span_in}
+use Rattle.spec.specs.Book.{Phrase, book_storage, record_of, head_size, record_mark, pair_at, number_in, length_in, span_in}
 use Rattle.spec.specs.Book.{has_record_mark, is_whole, is_record, row15, row16, Bytes, book_in, Reading, holds, unsound, ◌then◌}
 use Rattle.spec.specs.Book.{phrase_in, read_from, read_book, record_at, least_after, RisingFrom}
 use Rattle.spec.specs.{Tables.same, Refusals.refusal}
 use Rattle.laws.proofs.{Classes.either, Classes.refuted, Classes.below_or, Book.Stands, Book.record_stands, Book.stands_15, Book.read_15}
 use Rattle.laws.proofs.{Book.read_16, Book.read_record, Book.Judged, Book.is_sound, Book.is_refused, Book.judge, Book.record_size}
-use Rattle.records.specs.Walking.{EndOf, walked_of, noted}
-use Rattle.records.specs.{declared.Seen.Seen, declared.Walked.Walked}
-use Rattle.records.specs.declared.Walked.TheVariants.{Sound, Unsound}
+use Rattle.spec.specs.{Book.search, declared.Refusal.Refusal}
+use Rattle.records.specs.{Walking.EndOf, Walking.stands_at, Walking.walked_of, Walking.noted, declared.Seen.Seen}
+use Rattle.std.proofs.Common.{None, Some, Result, Ok, Err}
 
 -- the two bytes of the mark
 mark_bytes : (x : List ℕ) → has_record_mark book_storage x ≡ (eqb (get_or x 0 0) 82 && eqb (get_or x 1 0) 159)
@@ -67,12 +67,9 @@ abbrev noted_all : Seen → ℕ → ℕ → List Phrase → Seen
 noted_all s n i [] = s
 noted_all s n i (f ∷ fs) = noted_all (noted s n f.number i) n (i + length (record_of book_storage f)) fs
 
-abbrev pub sound_with : Seen → Walked
-sound_with s = Sound s.least s.place
-
-abbrev pub resumed : Seen → ℕ → ℕ → Reading → Walked
-resumed s n i (holds fs) = sound_with (noted_all s n i fs)
-resumed s n i (unsound r) = Unsound r
+abbrev pub resumed : Seen → ℕ → ℕ → Reading → Result Seen Refusal
+resumed s n i (holds fs) = Ok (noted_all s n i fs)
+resumed s n i (unsound r) = Err r
 
 resumed_then : (s : Seen) (n i : ℕ) (f : Phrase) (r : Reading)
     → resumed s n i (f then r) ≡ resumed (noted s n f.number i) n (i + length (record_of book_storage f)) r
@@ -91,22 +88,25 @@ noted_above n k i s (f ∷ fs) r h =
     rw (e, add-one f.number)
     (noted_above n (suc f.number) j (record { least = suc f.number; place = s.place }) fs r.2 (omega (arith, h, r.1)))
 
--- and the walk, which begins with the book's end for the place, finds where the record wanted begins.
-noted_found : (n k i : ℕ) (s : Seen) (fs : List Phrase) → RisingFrom book_storage k fs → s.place ≡ i + length (records book_storage fs)
-    → noted_all s n i fs ≡ record { least = least_after s.least fs; place = i + record_at book_storage fs n }
-unfolding least_after record_at records
+-- and the walk, which begins with no place, finds where the record wanted begins.
+noted_found : (n k i : ℕ) (s : Seen) (fs : List Phrase) → RisingFrom book_storage k fs → s.place ≡ None
+    → noted_all s n i fs ≡ record { least = least_after s.least fs; place = stands_at (search fs n) (i + record_at book_storage fs n) }
+unfolding least_after record_at search
 noted_found n k i s [] r h = rw (← h) refl
 noted_found n k i s (f ∷ fs) r h =
     let j = i + length (record_of book_storage f) in
     let z : i + 0 ≡ i = omega arith in
     let here : i + (length (record_of book_storage f) + record_at book_storage fs n) ≡ j + record_at book_storage fs n = omega arith in
-    let all = length-append (record_of book_storage f) (records book_storage fs) in
-    let end : s.place ≡ j + length (records book_storage fs) = omega (arith, h, all) in
     either (eqb f.number n)
     (λ q. rw (q, z, add-one f.number)
-    (noted_above n (suc f.number) j (record { least = suc f.number; place = i }) fs r.2 (omega (arith, eqb-true f.number n q))))
+    (noted_above n (suc f.number) j (record { least = suc f.number; place = Some i }) fs r.2 (omega (arith, eqb-true f.number n q))))
     (λ q. rw (q, here, add-one f.number)
-    (noted_found n (suc f.number) j (record { least = suc f.number; place = s.place }) fs r.2 end))
+    (noted_found n (suc f.number) j (record { least = suc f.number; place = s.place }) fs r.2 h))
+
+-- a record that stands at a place lies within the book
+pub record_inside : (book : List ℕ) (i : ℕ) → i ≤ length book → is_record book_storage (drop i book) ≡ true
+    → i + span_in book_storage (drop i book) ≤ length book
+record_inside book i h q = omega (arith, h, (record_stands book_storage (drop i book) q).whole, length-drop i book)
 
 -- Where the walk stands: at place i of the book, with s seen; what is left to read makes of it what is due.
 pub record Going (book : List ℕ) (n i : ℕ) (s : Seen) : Type 0 where
@@ -114,19 +114,19 @@ pub record Going (book : List ℕ) (n i : ℕ) (s : Seen) : Type 0 where
   pub bytes : Bytes book
   pub rest : walked_of (read_book book_storage book) n ≡ resumed s n i (read_from book_storage 0 i s.least (drop i book))
 
-pub going_start : (book : List ℕ) (n : ℕ) → Bytes book → Going book n 0 (record { least = 0; place = length book })
+pub going_start : (book : List ℕ) (n : ℕ) → Bytes book → Going book n 0 (record { least = 0; place = None })
 unfolding walked_of read_book
 going_start book n b = record { inside = omega arith; bytes = b; rest = of (judge book_storage book b) } where
   of : Judged book_storage book
-      → walked_of (read_book book_storage book) n ≡ resumed (record { least = 0; place = length book }) n 0 (read_book book_storage book)
+      → walked_of (read_book book_storage book) n ≡ resumed (record { least = 0; place = None }) n 0 (read_book book_storage book)
   of (is_sound fs s e) =
       let z : 0 + record_at book_storage fs n ≡ record_at book_storage fs n = omega arith in
-      let all = noted_found n 0 0 (record { least = 0; place = length book }) fs s.rising (omega (arith, ap length s.bytes)) in
-      rw e (ap sound_with (sym (rw z at all)))
+      let all = noted_found n 0 0 (record { least = 0; place = None }) fs s.rising refl in
+      rw e (ap Ok (sym (rw z at all)))
   of (is_refused k p range d e) = rw e refl
 
 pub going_all : {book : List ℕ} {n i : ℕ} {s : Seen} → Going book n i s → length book ≤ i
-    → sound_with s ≡ walked_of (read_book book_storage book) n
+    → Ok s ≡ walked_of (read_book book_storage book) n
 unfolding read_from
 going_all {book} {n} {i} {s} g h = sym (rw (drop_of_length-le book h) at g.rest)
 
@@ -141,14 +141,14 @@ module _ {book : List ℕ} {n i : ℕ} {s : Seen} (g : Going book n i s) where
   abbrev x : List ℕ
   x = drop i book
 
-  pub going_15 : i < length book → is_record book_storage x ≡ false → Unsound (refusal 15 i) ≡ walked_of (read_book book_storage book) n
+  pub going_15 : i < length book → is_record book_storage x ≡ false → Err (refusal 15 i) ≡ walked_of (read_book book_storage book) n
   going_15 more h = sym (rw (rest_15 book i s.least more h) at g.rest)
 
   module _ (there : Stands book_storage x) {number : ℕ} (e : number ≡ number_in x) where
     left : 0 < length x
     left = omega (arith, there.head)
 
-    pub going_16 : number < s.least → Unsound (refusal 16 i) ≡ walked_of (read_book book_storage book) n
+    pub going_16 : number < s.least → Err (refusal 16 i) ≡ walked_of (read_book book_storage book) n
     unfolding row16
     going_16 l =
         let k : row16 s.least x ≡ true = rw (← e, lt-leb s.least number l) refl in

@@ -2,27 +2,36 @@
 -- they agree with them.
 -- Assumes nothing: these are definitions.
 use Rattle.std.specs.Prelude.{ℕ, ◌+◌, ◌<◌, ◌≤◌, ◌≡◌, cond, List, eqb, length, take}
+use Rattle.std.specs.Prelude.{Option, None, Some, Result, Ok, Err}
 use Rattle.spec.specs.Book.{book_storage, head_size, Reading, holds, unsound, book_in}
-use Rattle.spec.specs.Book.{record_at, least_after}
+use Rattle.spec.specs.Book.{Search, none, entry, search, record_at, least_after}
+use Rattle.spec.specs.declared.Refusal.{Refusal}
 use Rattle.records.specs.declared.Seen.{Seen}
-use Rattle.records.specs.declared.Walked.{Walked}
-use Rattle.records.specs.declared.Walked.TheVariants.{Sound, Unsound}
 
 -- the book ends at place r of the buffer
 pub record EndOf (buffer : List ℕ) (used r : ℕ) : Type 0 where
   pub inside : r ≤ length buffer
   pub book : take r buffer ≡ book_in buffer used
 
+-- where the record under a number begins: at place i, where the search finds one
+abbrev pub stands_at : Search → ℕ → Option ℕ
+stands_at none i = None
+stands_at (entry f) i = Some i
+
 -- what the walk over a book comes to: the least number that may be added, and where the record of
--- number n begins, the book's end where there is none
-unfoldable pub walked_of : Reading → ℕ → Walked
-walked_of (holds fs) n = Sound (least_after 0 fs) (record_at book_storage fs n)
-walked_of (unsound r) n = Unsound r
+-- number n begins
+unfoldable pub walked_of : Reading → ℕ → Result Seen Refusal
+walked_of (holds fs) n =
+    Ok (record {
+      least = least_after 0 fs;
+      place = stands_at (search fs n) (record_at book_storage fs n);
+    })
+walked_of (unsound r) n = Err r
 
 -- what was seen before a record, and is seen with it: it has this number, and begins at this place
 abbrev pub noted : Seen → ℕ → ℕ → ℕ → Seen
 noted s wanted number place =
-    record { least = number + 1; place = cond (eqb number wanted) place s.place }
+    record { least = number + 1; place = cond (eqb number wanted) (Some place) s.place }
 
 -- a head may be written at place i, for number n and a tape of so many codes
 pub record HeadDue (out : List ℕ) (i n size : ℕ) : Type 0 where

@@ -14,22 +14,14 @@ use spec::numbers::RECORD_MARK;
 pub mod listeners;
 pub mod reading;
 
-// What the walk over a book has seen up to a place: the least number that may stand next, and where
-// the record with the number wanted begins. Until that is met it is the book's end, where none
-// begins.
+// What the walk over a book has seen up to a place: where the record with the number wanted begins,
+// once that is met, and the least number that may stand next. The place comes first: a field there
+// shares its first byte with a refusal's number in the walk's answer, and the least number would be
+// taken apart for that at each record.
 #[derive(Clone, Copy)]
 pub struct Seen {
+    pub place: Option<usize>,
     pub least: usize,
-    pub place: usize,
-}
-
-// What the walk over a whole book comes to: the same, or why the book is not sound. Plain numbers,
-// and not the struct: with that in it the compiler takes one of the loop's numbers apart at each
-// record.
-#[derive(Clone, Copy)]
-pub enum Walked {
-    Sound { least: usize, place: usize },
-    Unsound(Refusal),
 }
 
 pub const HEAD_SIZE: usize = 7;
@@ -46,10 +38,11 @@ pub fn pair_at(x: &[u8], i: usize) -> usize
     requires { i + 1 < length x.now }
     ensures { (result ≡ pair_at i x.now) × (result < 65536) }
 {
-    x[i] as usize + x[i + 1] as usize * 256
+    u16::from_le_bytes([x[i], x[i + 1]]) as usize
 }
 
 // Does the mark of a record stand at place i?
+#[tactic(auto, using(crate::proofs::Walks::mark_at))]
 fn is_marked(x: &[u8], i: usize) -> bool
     requires { i + 1 < length x.now }
     ensures { result ≡ has_record_mark book_storage (drop i x.now) }
@@ -58,6 +51,7 @@ fn is_marked(x: &[u8], i: usize) -> bool
 }
 
 // Where the record at place i ends by its head.
+#[tactic(auto, using(crate::proofs::Walks::pair_behind))]
 fn record_end(x: &[u8], i: usize) -> usize
     requires { i + head_size ≤ length x.now }
     ensures { result ≡ i + span_in book_storage (drop i x.now) }
@@ -70,16 +64,11 @@ fn is_record(x: &[u8], i: usize) -> bool
     requires { i ≤ length x.now }
     ensures { result ≡ is_record book_storage (drop i x.now) }
 {
-    if x.len() < i + HEAD_SIZE {
-        return false;
-    }
-    if is_marked(x, i) {
-        return record_end(x, i) <= x.len();
-    }
-    false
+    i + HEAD_SIZE <= x.len() && is_marked(x, i) && record_end(x, i) <= x.len()
 }
 
-// Puts a byte at place i.
+// Puts a byte at place i, and tells the place after it. A value that holds output and place would
+// be made and taken apart in put_head alone, so these three pass them on.
 fn put_byte(out: &mut [u8], i: usize, b: u8) -> usize
     requires { i < length out.old }
     ensures { Put (b ∷ []) out.old out.new result i }
@@ -93,12 +82,12 @@ fn put_pair(out: &mut [u8], i: usize, n: usize) -> usize
     requires { (n < 65536) × (i + 1 < length out.old) }
     ensures { Put (two_bytes n) out.old out.new result i }
 {
-    out[i] = (n % 256) as u8;
-    out[i + 1] = (n / 256) as u8;
+    out[i..i + 2].copy_from_slice(&(n as u16).to_le_bytes());
     i + 2
 }
 
 // Puts the head of a record from place i on: for a number, a set of listeners, a tape of n codes.
+#[tactic(auto, unfolding(spec::specs::Book::two_bytes))]
 pub fn put_head(out: &mut [u8], i: usize, number: usize, set: u8, n: usize) -> usize
     requires { HeadDue out.old i number n }
     ensures { Put (head_of book_storage number set n)

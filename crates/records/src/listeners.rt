@@ -4,7 +4,8 @@ ghost use Rattle.spec.specs.Listeners.{may_hear, withheld};
 
 use spec::{Listener, Refusal, numbers};
 
-// Is the listener in the set of a phrase? Each has a bit; the set's other bits are passed over.
+// Is the listener in the set of a phrase? Each has a bit; the set's other bits are passed over. It
+// stays the byte that the record and C have.
 pub fn may_hear(listener: Listener, set: u8) -> bool
     ensures { result ≡ may_hear listener set }
 {

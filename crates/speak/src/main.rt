@@ -8,9 +8,7 @@ ghost use Rattle.std.specs.Prelude.{◌≡◌, ◌≢◌, ◌↔◌, [], IfOk, I
 ghost use Rattle.std.specs.Io.KnownBytes.{Appends};
 ghost use Rattle.spec.specs.Printed.{printed_text};
 
-use console::standard::read_input;
-use console::text::TEXT;
-use console::{Failure, Input};
+use console::{Failure, standard};
 use std::io::{Read, Write};
 use text::{TEXT_MAX, print_text};
 
@@ -25,29 +23,13 @@ fn print_input<R: Read, W: Write>(input: &mut R, output: &mut W) -> Result<bool,
     ensures unread { IsErrOf result Failure.Unread
         → W.contents output.new ≡ W.contents output.old }
 {
-    let mut text = [0u8; TEXT_MAX + 1];
-    let Input::Bytes(n) = read_input(input, &mut text) else {
-        return Err(Failure::Unread);
-    };
-    let mut read = [0u8; TEXT_MAX];
-    let mut plain = [0u8; TEXT_MAX];
-    let mut print = [0u8; TEXT];
-    let end = print_text(&text[..n], &mut read, &mut plain, &mut print);
-    if end == 0 {
-        return Ok(false);
-    }
-    match output.write_all(&print[..end]) {
-        Ok(()) => Ok(true),
-        Err(_) => Err(Failure::Unwritten),
-    }
+    standard::print_input(input, output, &mut [0u8; TEXT_MAX + 1], print_text)
 }
 
 fn main(rt: HostRuntime) {
-    let complaint = match print_input(&mut rt.stdin(), &mut rt.stdout()) {
-        Ok(true) => return,
-        Ok(false) => "standard input is too long",
-        Err(Failure::Unread) => "standard input could not be read",
-        Err(Failure::Unwritten) => "standard output could not be written",
+    let _ = match print_input(&mut rt.stdin(), &mut rt.stdout()) {
+        Ok(true) => Ok(()),
+        Ok(false) => eprintln!(rt; "speak: standard input is too long"),
+        Err(failure) => eprintln!(rt; "speak: {failure}"),
     };
-    let _ = eprintln!(rt; "speak: {complaint}");
 }

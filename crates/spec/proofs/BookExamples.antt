@@ -14,15 +14,11 @@ use Rattle.spec.specs.Book.{Phrase, book_storage, records, Reading, holds, unsou
 use Rattle.spec.specs.Book.{NewPhrase, with_addition, add_answer, locate_answer}
 use Rattle.spec.specs.declared.Edition.{Edition}
 use Rattle.spec.specs.declared.Edition.TheVariants.{One, Two}
-use Rattle.spec.specs.declared.Answer.{Answer}
-use Rattle.spec.specs.declared.Answer.TheVariants as answer
-use Rattle.spec.specs.declared.Found.{Found}
-use Rattle.spec.specs.declared.Found.TheVariants as found
-use Rattle.spec.specs.declared.Located.{Located}
-use Rattle.spec.specs.declared.Located.TheVariants as located
+use Rattle.spec.specs.Results.{Answer, wrote, Found, Located, spanning}
 use Rattle.spec.specs.declared.Listener.{Listener}
 use Rattle.spec.specs.declared.Listener.TheVariants.{Pump, Road, Dispatch}
 use Rattle.spec.proofs.Computed.{everything}
+use Rattle.std.proofs.Common.{Ok, Err}
 
 -- who may hear a phrase with this set
 abbrev hearers : ℕ → Bool × Bool × Bool
@@ -99,12 +95,12 @@ pub record Lookup : Type 0 where
 
 abbrev heard_at : Listener → List ℕ → ℕ → ℕ → List ℕ → ℕ → Lookup
 heard_at l buffer used n t start =
-    record { listener = l; buffer = buffer; used = used; number = n; told = found.Tape; tape = t; place = located.At start (length t) }
+    record { listener = l; buffer = buffer; used = used; number = n; told = Ok tt; tape = t; place = spanning start (length t) }
 
 abbrev refused_at : Listener → List ℕ → ℕ → ℕ → ℕ → ℕ → Lookup
 refused_at l buffer used n k p =
     let r = refusal k p in
-    record { listener = l; buffer = buffer; used = used; number = n; told = found.Refused r; tape = 9 ∷ []; place = located.Refused r }
+    record { listener = l; buffer = buffer; used = used; number = n; told = Err r; tape = 9 ∷ []; place = Err r }
 
 -- Each record by each listener, and a number that is not there, which gets the same answer as one that is not for him. Bytes after the used
 -- count, which are no part of the book; a count above the buffer's length. 15 and 16 before 17, for a record that is found before the book
@@ -159,12 +155,12 @@ pub record Added : Type 0 where
 
 abbrev adds : List ℕ → ℕ → Edition → ℕ → ℕ → text.String → ℕ → List ℕ → Added
 adds buffer used e n set m size after =
-    let r = answer.Written size 0 in
+    let r = wrote size 0 in
     record { listener = Dispatch; buffer = buffer; used = used; edition = e; number = n; set = set; message = m; answer = r; after = after }
 
 abbrev refuses : Listener → List ℕ → ℕ → ℕ → text.String → ℕ → ℕ → Added
 refuses l buffer used n m k p =
-    let r = answer.Refused (refusal k p) in
+    let r = Err (refusal k p) in
     record { listener = l; buffer = buffer; used = used; edition = Two; number = n; set = 5; message = m; answer = r; after = buffer }
 
 -- To an empty book with just room, with a byte more, in either edition, and with a byte less. To a book, whose last bytes stay; a count

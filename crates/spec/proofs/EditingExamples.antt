@@ -10,9 +10,9 @@ use Rattle.spec.specs.Refusals.{refusal}
 use Rattle.spec.specs.Answers.{tape_answer}
 use Rattle.spec.specs.declared.Edition.TheVariants.{One}
 use Rattle.spec.specs.Editing.{edited, edit_answer}
-use Rattle.spec.specs.declared.Answer.{Answer}
-use Rattle.spec.specs.declared.Answer.TheVariants.{Written, Refused}
+use Rattle.spec.specs.Results.{Answer, wrote}
 use Rattle.spec.proofs.Computed.{everything}
+use Rattle.std.proofs.Common.{Err}
 
 -- Both are quoted: Latin letters stand here for bytes that are no mark and no break.
 pub record Example : Type 0 where
@@ -52,11 +52,11 @@ pub record Lent : Type 0 where
 unfoldable pub answers : List Lent
 answers =
     -- just room enough, and one byte less
-    (record { text = ascii "a, b."; room = 3; answer = Written 3 0 }) ∷
-    (record { text = ascii "a, b."; room = 2; answer = Refused (refusal 11 3) }) ∷
+    (record { text = ascii "a, b."; room = 3; answer = wrote 3 0 }) ∷
+    (record { text = ascii "a, b."; room = 2; answer = Err (refusal 11 3) }) ∷
     -- a text that becomes empty needs no room
-    (record { text = ascii "..."; room = 0; answer = Written 0 0 }) ∷
-    (record { text = []; room = 0; answer = Written 0 0 }) ∷
+    (record { text = ascii "..."; room = 0; answer = wrote 0 0 }) ∷
+    (record { text = []; room = 0; answer = wrote 0 0 }) ∷
     []
 
 pub answered_right : map (λ e. edit_answer e.text e.room) answers ≡ map (λ e. e.answer) answers
@@ -67,6 +67,6 @@ answered_right = refl
 unfoldable pub long : List ℕ
 long = replicate 4096 gap ++ («а» ∷ [])
 
-pub long_spoken : (tape_answer One long 9 ∷ tape_answer One (edited long) 9 ∷ []) ≡ (Refused (refusal 2 0) ∷ Written 1 0 ∷ [])
+pub long_spoken : (tape_answer One long 9 ∷ tape_answer One (edited long) 9 ∷ []) ≡ (Err (refusal 2 0) ∷ wrote 1 0 ∷ [])
 unfolding everything long
 long_spoken = refl

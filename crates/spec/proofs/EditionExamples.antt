@@ -15,8 +15,8 @@ use Rattle.spec.specs.Answers.{tape_answer, join_answer}
 use Rattle.spec.specs.EditionDemands.{makers, newer_of}
 use Rattle.spec.specs.declared.Edition.{Edition}
 use Rattle.spec.specs.declared.Edition.TheVariants.{One, Two}
-use Rattle.spec.specs.declared.Answer.TheVariants.{Written}
 use Rattle.spec.proofs.Computed.{everything}
+use Rattle.spec.specs.Results.{wrote}
 
 pub record Read : Type 0 where
   pub message : text.String
@@ -82,6 +82,6 @@ unfolding everything
 whole_right = refl
 
 pub answers_right : (join_answer Two (bytes "са*д земли*") (4 ∷ []) 9 ∷ tape_answer Two (bytes "са*д земли*") 9 ∷ [])
-    ≡ Written 9 1 ∷ Written 9 0 ∷ []
+    ≡ wrote 9 1 ∷ wrote 9 0 ∷ []
 unfolding everything
 answers_right = refl

@@ -1,4 +1,5 @@
--- Spoken levels (paper 02, slip 5): lists of levels with their words, and of what is answered for a level, proved by computing the definitions.
+-- Spoken levels (paper 02, slip 5): lists of levels with their words, and of what is answered for a level, proved by computing the
+-- definitions.
 -- Assumes nothing.
 use Prim.Native.Nat.{ℕ}
 use Prim.Native.String as text
@@ -12,10 +13,10 @@ use Rattle.spec.specs.Refusals.{refusal}
 use Rattle.spec.specs.SpokenLevels.{bytes, spoken, level_answer}
 use Rattle.spec.specs.Printed.{last_digits, decimal, printed_codes, printed_answer, after_writing, sign_length, are_digits, is_decimal}
 use Rattle.spec.specs.Printed.{digits_from, level_in, spoken_answer, printed_level}
-use Rattle.spec.specs.declared.Answer.{Answer}
-use Rattle.spec.specs.declared.Answer.TheVariants.{Written, Refused}
+use Rattle.spec.specs.Results.{Answer, wrote}
 use Rattle.spec.proofs.Computed.{everything}
 use Rattle.spec.proofs.Utf8Examples as utf8
+use Rattle.std.proofs.Common.{Err}
 
 -- a level, where negsuc n is -(n + 1), and what is spoken
 pub record Example : Type 0 where
@@ -68,23 +69,24 @@ pub record Lent : Type 0 where
 -- just room enough and a byte less; the ends of the range and of the numbers that can be asked for, with room and without
 unfoldable pub answers : List Lent
 answers =
-    (record { level = pos 0; room = 5; answer = Written 5 0 }) ∷
-    (record { level = pos 0; room = 4; answer = Refused (refusal 11 5) }) ∷
-    (record { level = pos 9999; room = 44; answer = Written 44 0 }) ∷
-    (record { level = negsuc 9998; room = 51; answer = Written 51 0 }) ∷
-    (record { level = negsuc 4483; room = 54; answer = Written 54 0 }) ∷
-    (record { level = negsuc 4483; room = 53; answer = Refused (refusal 11 54) }) ∷
-    (record { level = pos 10000; room = 100; answer = Refused (refusal 14 0) }) ∷
-    (record { level = negsuc 9999; room = 100; answer = Refused (refusal 14 0) }) ∷
-    (record { level = pos 10000; room = 0; answer = Refused (refusal 14 0) }) ∷
-    (record { level = pos 2147483647; room = 0; answer = Refused (refusal 14 0) }) ∷
-    (record { level = negsuc 2147483647; room = 100; answer = Refused (refusal 14 0) }) ∷ []
+    (record { level = pos 0; room = 5; answer = wrote 5 0 }) ∷
+    (record { level = pos 0; room = 4; answer = Err (refusal 11 5) }) ∷
+    (record { level = pos 9999; room = 44; answer = wrote 44 0 }) ∷
+    (record { level = negsuc 9998; room = 51; answer = wrote 51 0 }) ∷
+    (record { level = negsuc 4483; room = 54; answer = wrote 54 0 }) ∷
+    (record { level = negsuc 4483; room = 53; answer = Err (refusal 11 54) }) ∷
+    (record { level = pos 10000; room = 100; answer = Err (refusal 14 0) }) ∷
+    (record { level = negsuc 9999; room = 100; answer = Err (refusal 14 0) }) ∷
+    (record { level = pos 10000; room = 0; answer = Err (refusal 14 0) }) ∷
+    (record { level = pos 2147483647; room = 0; answer = Err (refusal 14 0) }) ∷
+    (record { level = negsuc 2147483647; room = 100; answer = Err (refusal 14 0) }) ∷ []
 
 pub answers_right : map (λ (l : Lent). level_answer l.level l.room) answers ≡ map (λ (l : Lent). l.answer) answers
 unfolding everything answers
 answers_right = refl
 
--- What is typed, and what the program for levels prints: a minus sign and zeros before the number, the ends, a number that is longer than any machine's; and no numbers.
+-- What is typed, and what the program for levels prints: a minus sign and zeros before the number, the ends, a number that is longer
+-- than any machine's; and no numbers.
 unfoldable pub lines : List utf8.Example
 lines =
     (record { typed = "0"; line = "37 2 34\n" }) ∷

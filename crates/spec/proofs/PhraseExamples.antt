@@ -3,10 +3,10 @@
 use Prim.Native.Nat.{ℕ}
 use mathlib.Core.Path.{◌≡◌, refl}
 use mathlib.Core.List.{List, [], ◌∷◌, map}
-use Rattle.spec.specs.Alphabet.{gap, pause, mark, «а», «б», «в», «д», «о», «р», «т», «у», «ы»}
 use Rattle.spec.specs.Tape.{tape}
 use Rattle.spec.specs.declared.Edition.TheVariants.{One}
 use Rattle.spec.specs.Phrases.{phrases, separated}
+use Rattle.spec.specs.SpokenLevels.{bytes}
 use Rattle.spec.proofs.Computed.{everything}
 
 pub record Phrased : Type 0 where
@@ -15,17 +15,9 @@ pub record Phrased : Type 0 where
 
 unfoldable pub phrased : List Phrased
 phrased =
-    -- ду*б ра*д, which has no pause
-    (record {
-      message = «д» ∷ «у» ∷ mark ∷ «б» ∷ gap ∷ «р» ∷ «а» ∷ mark ∷ «д» ∷ [];
-      phrases = («д» ∷ «у» ∷ mark ∷ «б» ∷ gap ∷ «р» ∷ «а» ∷ mark ∷ «д» ∷ []) ∷ [];
-    }) ∷
-    -- ду*б#вы во*т#да
-    (record {
-      message =
-          «д» ∷ «у» ∷ mark ∷ «б» ∷ pause ∷ «в» ∷ «ы» ∷ gap ∷ «в» ∷ «о» ∷ mark ∷ «т» ∷ pause ∷ «д» ∷ «а» ∷ [];
-      phrases = («д» ∷ «у» ∷ mark ∷ «б» ∷ []) ∷ («в» ∷ «ы» ∷ gap ∷ «в» ∷ «о» ∷ mark ∷ «т» ∷ []) ∷ («д» ∷ «а» ∷ []) ∷ [];
-    }) ∷ []
+    -- one that has no pause
+    (record { message = bytes "ду*б ра*д"; phrases = bytes "ду*б ра*д" ∷ [] }) ∷
+    (record { message = bytes "ду*б#вы во*т#да"; phrases = bytes "ду*б" ∷ bytes "вы во*т" ∷ bytes "да" ∷ [] }) ∷ []
 
 pub phrased_right : map (λ e. phrases e.message) phrased ≡ map (λ e. e.phrases) phrased
 unfolding everything phrased

@@ -4,9 +4,9 @@ use Prim.Native.Nat.{ℕ}
 use Prim.Native.String.{String}
 use mathlib.Core.Path.{◌≡◌, refl}
 use mathlib.Core.List.{List, [], ◌∷◌, map}
-use Rattle.spec.specs.Alphabet.{gap, mark, «а», «б», «д», «р», «у»}
 use Rattle.spec.specs.Tables.{ascii}
 use Rattle.spec.specs.Printed.{last_digits, decimal, printed_codes, printed_answer, printed}
+use Rattle.spec.specs.SpokenLevels.{bytes}
 use Rattle.spec.proofs.Computed.{everything}
 
 pub record Example : Type 0 where
@@ -15,12 +15,10 @@ pub record Example : Type 0 where
 
 unfoldable pub examples : List Example
 examples =
-    -- ду*б ра*д
-    (record { message = «д» ∷ «у» ∷ mark ∷ «б» ∷ gap ∷ «р» ∷ «а» ∷ mark ∷ «д» ∷ []; line = "24 6 39 0 41 1 45\n" }) ∷
-    -- а
-    (record { message = «а» ∷ []; line = "7\n" }) ∷
+    (record { message = bytes "ду*б ра*д"; line = "24 6 39 0 41 1 45\n" }) ∷
+    (record { message = bytes "а"; line = "7\n" }) ∷
     -- а бада and a gap: a break last
-    (record { message = «а» ∷ gap ∷ «б» ∷ «а» ∷ «д» ∷ «а» ∷ gap ∷ []; line = "refused 4 at 6\n" }) ∷
+    (record { message = bytes "а бада "; line = "refused 4 at 6\n" }) ∷
     -- no bytes
     (record { message = []; line = "refused 1 at 0\n" }) ∷
     []
@@ -30,6 +28,7 @@ unfolding everything ascii last_digits decimal printed_codes printed_answer prin
 printed_right = refl
 
 -- a number of each width, with zeros in it
-pub decimal_right : map decimal (0 ∷ 9 ∷ 10 ∷ 63 ∷ 100 ∷ 1000 ∷ 8192 ∷ []) ≡ map ascii ("0" ∷ "9" ∷ "10" ∷ "63" ∷ "100" ∷ "1000" ∷ "8192" ∷ [])
+pub decimal_right : map decimal (0 ∷ 9 ∷ 10 ∷ 63 ∷ 100 ∷ 1000 ∷ 8192 ∷ [])
+    ≡ map ascii ("0" ∷ "9" ∷ "10" ∷ "63" ∷ "100" ∷ "1000" ∷ "8192" ∷ [])
 unfolding ascii last_digits decimal
 decimal_right = refl

@@ -6,13 +6,15 @@ use Prim.Native.String as text
 use mathlib.Core.Path.{◌≡◌, refl}
 use mathlib.Core.List.{List, [], ◌∷◌, ◌++◌, map}
 use lib.ListN.{replicate}
-use Rattle.spec.specs.Alphabet.{gap, pause, mark, «а», «б», «у», «ъ»}
+use Rattle.spec.specs.Alphabet.{gap, mark, «а»}
 use Rattle.spec.specs.Tables.{ascii}
 use Rattle.spec.specs.Refusals.{refusal}
+use Rattle.spec.specs.SpokenLevels.{bytes}
 use Rattle.spec.specs.Utf8.{octets, characters, row_bytes, encoded, decoded, read_answer, write_answer}
 use Rattle.spec.specs.Printed.{last_digits, decimal, printed_codes, printed_answer, after_writing, text_answer, printed_text}
-use Rattle.spec.specs.declared.Answer.TheVariants.{Written, Refused}
 use Rattle.spec.proofs.{Computed.everything, EditingExamples.Lent}
+use Rattle.std.proofs.Common.{Err}
+use Rattle.spec.specs.Results.{wrote}
 
 -- the octets of a quoted text's characters
 unfoldable pub utf8 : text.String → List ℕ
@@ -21,12 +23,14 @@ utf8 (text.◌∷◌ c s) = octets (code c) ++ utf8 s
 
 -- The octets of a character: the ends of each range, and the examples of RFC 3629, section 7.
 pub ranges_right : map octets (0 ∷ 0x7F ∷ 0x80 ∷ 0x7FF ∷ 0x800 ∷ 0xFFFF ∷ 0x10000 ∷ 0x10FFFF ∷ [])
-    ≡ ((0 ∷ []) ∷ (0x7F ∷ []) ∷ (0xC2 ∷ 0x80 ∷ []) ∷ (0xDF ∷ 0xBF ∷ []) ∷ (0xE0 ∷ 0xA0 ∷ 0x80 ∷ []) ∷ (0xEF ∷ 0xBF ∷ 0xBF ∷ []) ∷ (0xF0 ∷ 0x90 ∷ 0x80 ∷ 0x80 ∷ []) ∷ (0xF4 ∷ 0x8F ∷ 0xBF ∷ 0xBF ∷ []) ∷ [])
+    ≡ ((0 ∷ []) ∷ (0x7F ∷ []) ∷ (0xC2 ∷ 0x80 ∷ []) ∷ (0xDF ∷ 0xBF ∷ []) ∷ (0xE0 ∷ 0xA0 ∷ 0x80 ∷ []) ∷ (0xEF ∷ 0xBF ∷ 0xBF ∷ [])
+    ∷ (0xF0 ∷ 0x90 ∷ 0x80 ∷ 0x80 ∷ []) ∷ (0xF4 ∷ 0x8F ∷ 0xBF ∷ 0xBF ∷ []) ∷ [])
 unfolding everything
 ranges_right = refl
 
 pub rfc_right : map octets (0x41 ∷ 0x2262 ∷ 0x391 ∷ 0xD55C ∷ 0x65E5 ∷ 0x233B4 ∷ [])
-    ≡ ((0x41 ∷ []) ∷ (0xE2 ∷ 0x89 ∷ 0xA2 ∷ []) ∷ (0xCE ∷ 0x91 ∷ []) ∷ (0xED ∷ 0x95 ∷ 0x9C ∷ []) ∷ (0xE6 ∷ 0x97 ∷ 0xA5 ∷ []) ∷ (0xF0 ∷ 0xA3 ∷ 0x8E ∷ 0xB4 ∷ []) ∷ [])
+    ≡ ((0x41 ∷ []) ∷ (0xE2 ∷ 0x89 ∷ 0xA2 ∷ []) ∷ (0xCE ∷ 0x91 ∷ []) ∷ (0xED ∷ 0x95 ∷ 0x9C ∷ []) ∷ (0xE6 ∷ 0x97 ∷ 0xA5 ∷ [])
+    ∷ (0xF0 ∷ 0xA3 ∷ 0x8E ∷ 0xB4 ∷ []) ∷ [])
 unfolding everything
 rfc_right = refl
 
@@ -52,42 +56,43 @@ ends_right = refl
 unfoldable pub answers : List Lent
 answers =
     -- the empty text, and one that is nothing of numbers 1 to 10: unedited, each character is a byte
-    (record { text = []; room = 0; answer = Written 0 0 }) ∷
-    (record { text = utf8 " *ьъ, -"; room = 7; answer = Written 7 0 }) ∷
+    (record { text = []; room = 0; answer = wrote 0 0 }) ∷
+    (record { text = utf8 " *ьъ, -"; room = 7; answer = wrote 7 0 }) ∷
     -- just room enough, and one byte less
-    (record { text = utf8 "Ё, ё"; room = 4; answer = Written 4 0 }) ∷
-    (record { text = utf8 "Ё, ё"; room = 3; answer = Refused (refusal 11 4) }) ∷
-    -- other characters: Latin, a newline, a digit, Ѐ and ѐ beside the table's letters, a breve on и, a dash, a space that does not break, a mark of byte order, one above FFFF
-    (record { text = utf8 "дa"; room = 9; answer = Refused (refusal 13 2) }) ∷
-    (record { text = utf8 "д\n"; room = 9; answer = Refused (refusal 13 2) }) ∷
-    (record { text = utf8 "7"; room = 9; answer = Refused (refusal 13 0) }) ∷
-    (record { text = 0xD0 ∷ 0x80 ∷ []; room = 9; answer = Refused (refusal 13 0) }) ∷
-    (record { text = 0xD1 ∷ 0x90 ∷ []; room = 9; answer = Refused (refusal 13 0) }) ∷
-    (record { text = utf8 "и" ++ (0xCC ∷ 0x86 ∷ []); room = 9; answer = Refused (refusal 13 2) }) ∷
-    (record { text = utf8 "да—"; room = 9; answer = Refused (refusal 13 4) }) ∷
-    (record { text = utf8 "*" ++ (0xC2 ∷ 0xA0 ∷ []); room = 9; answer = Refused (refusal 13 1) }) ∷
-    (record { text = 0xEF ∷ 0xBB ∷ 0xBF ∷ []; room = 9; answer = Refused (refusal 13 0) }) ∷
-    (record { text = utf8 "я😀"; room = 9; answer = Refused (refusal 13 2) }) ∷
+    (record { text = utf8 "Ё, ё"; room = 4; answer = wrote 4 0 }) ∷
+    (record { text = utf8 "Ё, ё"; room = 3; answer = Err (refusal 11 4) }) ∷
+    -- other characters: Latin, a newline, a digit, Ѐ and ѐ beside the table's letters, a breve on и, a dash, a space that does not
+    -- break, a mark of byte order, one above FFFF
+    (record { text = utf8 "дa"; room = 9; answer = Err (refusal 13 2) }) ∷
+    (record { text = utf8 "д\n"; room = 9; answer = Err (refusal 13 2) }) ∷
+    (record { text = utf8 "7"; room = 9; answer = Err (refusal 13 0) }) ∷
+    (record { text = 0xD0 ∷ 0x80 ∷ []; room = 9; answer = Err (refusal 13 0) }) ∷
+    (record { text = 0xD1 ∷ 0x90 ∷ []; room = 9; answer = Err (refusal 13 0) }) ∷
+    (record { text = utf8 "и" ++ (0xCC ∷ 0x86 ∷ []); room = 9; answer = Err (refusal 13 2) }) ∷
+    (record { text = utf8 "да—"; room = 9; answer = Err (refusal 13 4) }) ∷
+    (record { text = utf8 "*" ++ (0xC2 ∷ 0xA0 ∷ []); room = 9; answer = Err (refusal 13 1) }) ∷
+    (record { text = 0xEF ∷ 0xBB ∷ 0xBF ∷ []; room = 9; answer = Err (refusal 13 0) }) ∷
+    (record { text = utf8 "я😀"; room = 9; answer = Err (refusal 13 2) }) ∷
     -- a stray continuation, and one too many
-    (record { text = 0x90 ∷ []; room = 9; answer = Refused (refusal 13 0) }) ∷
-    (record { text = utf8 "А" ++ (0x90 ∷ []); room = 9; answer = Refused (refusal 13 2) }) ∷
+    (record { text = 0x90 ∷ []; room = 9; answer = Err (refusal 13 0) }) ∷
+    (record { text = utf8 "А" ++ (0x90 ∷ []); room = 9; answer = Err (refusal 13 2) }) ∷
     -- overlong forms of a gap in two, three and four octets, and of А in three and four
-    (record { text = 0xC0 ∷ 0xA0 ∷ []; room = 9; answer = Refused (refusal 13 0) }) ∷
-    (record { text = 0xE0 ∷ 0x80 ∷ 0xA0 ∷ []; room = 9; answer = Refused (refusal 13 0) }) ∷
-    (record { text = 0xF0 ∷ 0x80 ∷ 0x80 ∷ 0xA0 ∷ []; room = 9; answer = Refused (refusal 13 0) }) ∷
-    (record { text = 0xE0 ∷ 0x90 ∷ 0x90 ∷ []; room = 9; answer = Refused (refusal 13 0) }) ∷
-    (record { text = 0xF0 ∷ 0x80 ∷ 0x90 ∷ 0x90 ∷ []; room = 9; answer = Refused (refusal 13 0) }) ∷
+    (record { text = 0xC0 ∷ 0xA0 ∷ []; room = 9; answer = Err (refusal 13 0) }) ∷
+    (record { text = 0xE0 ∷ 0x80 ∷ 0xA0 ∷ []; room = 9; answer = Err (refusal 13 0) }) ∷
+    (record { text = 0xF0 ∷ 0x80 ∷ 0x80 ∷ 0xA0 ∷ []; room = 9; answer = Err (refusal 13 0) }) ∷
+    (record { text = 0xE0 ∷ 0x90 ∷ 0x90 ∷ []; room = 9; answer = Err (refusal 13 0) }) ∷
+    (record { text = 0xF0 ∷ 0x80 ∷ 0x90 ∷ 0x90 ∷ []; room = 9; answer = Err (refusal 13 0) }) ∷
     -- a surrogate, a number above 10FFFF, an octet that UTF-8 never has
-    (record { text = 0xED ∷ 0xA0 ∷ 0x80 ∷ []; room = 9; answer = Refused (refusal 13 0) }) ∷
-    (record { text = 0xF4 ∷ 0x90 ∷ 0x80 ∷ 0x80 ∷ []; room = 9; answer = Refused (refusal 13 0) }) ∷
-    (record { text = 0xFF ∷ []; room = 9; answer = Refused (refusal 13 0) }) ∷
+    (record { text = 0xED ∷ 0xA0 ∷ 0x80 ∷ []; room = 9; answer = Err (refusal 13 0) }) ∷
+    (record { text = 0xF4 ∷ 0x90 ∷ 0x80 ∷ 0x80 ∷ []; room = 9; answer = Err (refusal 13 0) }) ∷
+    (record { text = 0xFF ∷ []; room = 9; answer = Err (refusal 13 0) }) ∷
     -- cut short by the end, and by the next character
-    (record { text = utf8 "да" ++ (0xD0 ∷ []); room = 9; answer = Refused (refusal 13 4) }) ∷
-    (record { text = utf8 "*" ++ (0xD1 ∷ gap ∷ []); room = 9; answer = Refused (refusal 13 1) }) ∷
-    (record { text = 0xD0 ∷ 0xD0 ∷ 0x90 ∷ []; room = 9; answer = Refused (refusal 13 0) }) ∷
+    (record { text = utf8 "да" ++ (0xD0 ∷ []); room = 9; answer = Err (refusal 13 4) }) ∷
+    (record { text = utf8 "*" ++ (0xD1 ∷ gap ∷ []); room = 9; answer = Err (refusal 13 1) }) ∷
+    (record { text = 0xD0 ∷ 0xD0 ∷ 0x90 ∷ []; room = 9; answer = Err (refusal 13 0) }) ∷
     -- the first of two, and also where the output is short
-    (record { text = utf8 "дa, дb"; room = 9; answer = Refused (refusal 13 2) }) ∷
-    (record { text = utf8 "да, да!€"; room = 0; answer = Refused (refusal 13 11) }) ∷
+    (record { text = utf8 "дa, дb"; room = 9; answer = Err (refusal 13 2) }) ∷
+    (record { text = utf8 "да, да!€"; room = 0; answer = Err (refusal 13 11) }) ∷
     []
 
 pub read_right : map (λ e. read_answer e.text e.room) answers ≡ map (λ e. e.answer) answers
@@ -97,15 +102,14 @@ read_right = refl
 -- what is lent to the writer, and what it answers: the check's numbers first, and then 11
 unfoldable pub messages : List Lent
 messages =
-    (record { text = []; room = 9; answer = Refused (refusal 1 0) }) ∷
-    (record { text = replicate 4097 «а»; room = 9; answer = Refused (refusal 2 0) }) ∷
-    (record { text = «а» ∷ 0x2C ∷ []; room = 0; answer = Refused (refusal 3 1) }) ∷
-    (record { text = «а» ∷ gap ∷ []; room = 0; answer = Refused (refusal 4 1) }) ∷
-    (record { text = «б» ∷ mark ∷ []; room = 0; answer = Refused (refusal 5 1) }) ∷
-    (record { text = «ъ» ∷ []; room = 0; answer = Refused (refusal 6 0) }) ∷
-    -- Ду*б#а
-    (record { text = 0xC4 ∷ «у» ∷ mark ∷ «б» ∷ pause ∷ «а» ∷ []; room = 10; answer = Written 10 0 }) ∷
-    (record { text = 0xC4 ∷ «у» ∷ mark ∷ «б» ∷ pause ∷ «а» ∷ []; room = 9; answer = Refused (refusal 11 10) }) ∷
+    (record { text = []; room = 9; answer = Err (refusal 1 0) }) ∷
+    (record { text = replicate 4097 «а»; room = 9; answer = Err (refusal 2 0) }) ∷
+    (record { text = «а» ∷ 0x2C ∷ []; room = 0; answer = Err (refusal 3 1) }) ∷
+    (record { text = bytes "а "; room = 0; answer = Err (refusal 4 1) }) ∷
+    (record { text = bytes "б*"; room = 0; answer = Err (refusal 5 1) }) ∷
+    (record { text = bytes "ъ"; room = 0; answer = Err (refusal 6 0) }) ∷
+    (record { text = bytes "Ду*б#а"; room = 10; answer = wrote 10 0 }) ∷
+    (record { text = bytes "Ду*б#а"; room = 9; answer = Err (refusal 11 10) }) ∷
     []
 
 pub write_right : map (λ e. write_answer e.text e.room) messages ≡ map (λ e. e.answer) messages

@@ -1,66 +1,63 @@
 -- Paper 01, 'Turned-away messages', what is answered and what the lent output holds afterwards, for
 -- every operation.
 -- Assumes nothing: these are definitions.
-use Rattle.std.specs.Prelude.{ℕ, ◌≡◌, cond, List, ◌++◌, eqb, leb, length, drop}
+use Rattle.std.specs.Prelude.{ℕ, ◌≡◌, cond, List, ◌++◌, eqb, leb, length, drop, Ok, Err}
 use Rattle.spec.specs.Numbers.{short_output, misplaced_cut}
 use Rattle.spec.specs.Tape.{tape, names}
 use Rattle.spec.specs.Refusals.{refusal, check_of}
 use Rattle.spec.specs.Joints.{joined, live_count, bad_cut}
 use Rattle.spec.specs.declared.Edition.{Edition}
-use Rattle.spec.specs.declared.Checked.{Checked}
-use Rattle.spec.specs.declared.Answer.{Answer}
-use Rattle.spec.specs.declared.Checked.TheVariants as checked
-use Rattle.spec.specs.declared.Answer.TheVariants.{Written, Refused}
+use Rattle.spec.specs.Results.{Checked, Answer, wrote}
 
 -- The paper's number, place, length and live count of an answer; an accepted message has number 0
 -- and place 0.
 unfoldable pub number_of : Answer → ℕ
-number_of (Written n k) = 0
-number_of (Refused r) = r.number
+number_of (Ok w) = 0
+number_of (Err r) = r.number
 
 unfoldable pub place_of : Answer → ℕ
-place_of (Written n k) = 0
-place_of (Refused r) = r.place
+place_of (Ok w) = 0
+place_of (Err r) = r.place
 
 unfoldable pub length_of : Answer → ℕ
-length_of (Written n k) = n
-length_of (Refused r) = 0
+length_of (Ok w) = w.length
+length_of (Err r) = 0
 
 unfoldable pub live_of : Answer → ℕ
-live_of (Written n k) = k
-live_of (Refused r) = 0
+live_of (Ok w) = w.live
+live_of (Err r) = 0
 
 -- The same of the check's answer, whose accepted case has the lengths of the tape and of the
 -- naming.
 unfoldable pub checked_number : Checked → ℕ
-checked_number (checked.Accepted counts) = 0
-checked_number (checked.Refused r) = r.number
+checked_number (Ok counts) = 0
+checked_number (Err r) = r.number
 
 unfoldable pub checked_place : Checked → ℕ
-checked_place (checked.Accepted counts) = 0
-checked_place (checked.Refused r) = r.place
+checked_place (Ok counts) = 0
+checked_place (Err r) = r.place
 
 unfoldable pub checked_codes : Checked → ℕ
-checked_codes (checked.Accepted counts) = counts.codes
-checked_codes (checked.Refused r) = 0
+checked_codes (Ok counts) = counts.codes
+checked_codes (Err r) = 0
 
 unfoldable pub checked_names : Checked → ℕ
-checked_names (checked.Accepted counts) = counts.names
-checked_names (checked.Refused r) = 0
+checked_names (Ok counts) = counts.names
+checked_names (Err r) = 0
 
 -- number 11: a lent output of this room is too short for n bytes; the place is n
 unfoldable pub within : ℕ → ℕ → ℕ → Answer
-within room n live = cond (leb n room) (Written n live) (Refused (refusal short_output n))
+within room n live = cond (leb n room) (wrote n live) (Err (refusal short_output n))
 
 -- the check's refusals come first
 unfoldable pub after_check : Checked → Answer → Answer
-after_check (checked.Accepted counts) a = a
-after_check (checked.Refused r) a = Refused r
+after_check (Ok counts) a = a
+after_check (Err r) a = Err r
 
 -- what the lent output holds afterwards: the answer's bytes and then its own, or its own alone
 unfoldable pub output_after : Answer → List ℕ → List ℕ → List ℕ
-output_after (Written n k) text out = text ++ drop n out
-output_after (Refused r) text out = out
+output_after (Ok w) text out = text ++ drop w.length out
+output_after (Err r) text out = out
 
 -- the naming operation, lent an output of this room
 unfoldable pub name_answer : List ℕ → ℕ → Answer
@@ -76,7 +73,7 @@ join_answer e m cuts room =
     after_check (check_of m)
     (cond (eqb (bad_cut m cuts) (length cuts))
     (within room (length (joined e m cuts)) (live_count m cuts))
-    (Refused (refusal misplaced_cut (bad_cut m cuts))))
+    (Err (refusal misplaced_cut (bad_cut m cuts))))
 
 -- What an operation promises of its answer r and of what the lent output held, out, and holds
 -- afterwards, out': the answer that is due, in number, place, length and live count, and the bytes

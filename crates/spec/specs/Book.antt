@@ -3,6 +3,7 @@
 -- Assumes nothing: these are definitions.
 use Rattle.std.specs.Prelude.{ℕ, zero, suc, ◌+◌, ◌-◌, ◌*◌, ◌/◌, ◌%◌, ◌<◌, ◌≤◌, ◌≡◌, Bool, cond}
 use Rattle.std.specs.Prelude.{◌&&◌, not, List, [], ◌∷◌, ◌++◌, eqb, leb, length, take, drop, get_or}
+use Rattle.std.specs.Prelude.{Ok, Err}
 use Rattle.spec.specs.Numbers.{broken_record, number_not_above}
 use Rattle.spec.specs.Tape.{tape}
 use Rattle.spec.specs.Tables.{same}
@@ -12,12 +13,7 @@ use Rattle.spec.specs.Listeners.{may_hear, may_write, withheld}
 use Rattle.spec.specs.declared.Edition.{Edition}
 use Rattle.spec.specs.declared.Listener.{Listener}
 use Rattle.spec.specs.declared.Refusal.{Refusal}
-use Rattle.spec.specs.declared.Answer.{Answer}
-use Rattle.spec.specs.declared.Answer.TheVariants as answer
-use Rattle.spec.specs.declared.Found.{Found}
-use Rattle.spec.specs.declared.Found.TheVariants as found
-use Rattle.spec.specs.declared.Located.{Located}
-use Rattle.spec.specs.declared.Located.TheVariants as located
+use Rattle.spec.specs.Results.{Answer, Found, Located, spanning}
 
 infix 40 ◌then◌
 -- A phrase of the book: its number, the set of its listeners, how many codes its tape has, and the
@@ -121,8 +117,8 @@ pub data Heard : Type 0 where
 -- What a lookup tells where this is heard, and what it hands back: the tape, and else what was
 -- there before.
 unfoldable pub told : Heard → Found
-told nothing = found.Refused withheld
-told (aloud t) = found.Tape
+told nothing = Err withheld
+told (aloud t) = Ok tt
 
 unfoldable pub handed : Heard → List ℕ → List ℕ
 handed nothing old = old
@@ -136,7 +132,7 @@ unheard (unsound r) = r
 
 -- Request 6, the writer. First of all 17, for any listener but dispatch (request 7)
 unfoldable pub after_listener : Listener → Answer → Answer
-after_listener l a = cond (may_write l) a (answer.Refused withheld)
+after_listener l a = cond (may_write l) a (Err withheld)
 
 -- the least number that is above the last one's
 unfoldable pub least_after : ℕ → List Phrase → ℕ
@@ -147,8 +143,8 @@ least_after least (f ∷ fs) = least_after (suc f.number) fs
 -- last one's
 unfoldable pub after_book : Reading → ℕ → ℕ → Answer → Answer
 after_book (holds fs) n bookEnd a =
-    cond (leb (least_after 0 fs) n) a (answer.Refused (refusal number_not_above bookEnd))
-after_book (unsound r) n bookEnd a = answer.Refused r
+    cond (leb (least_after 0 fs) n) a (Err (refusal number_not_above bookEnd))
+after_book (unsound r) n bookEnd a = Err r
 
 -- what an addition asks for: a message in an edition under a number, for a set of listeners
 pub record NewPhrase : Type 0 where
@@ -236,7 +232,7 @@ module _ (st : Storage) where
   -- A lookup's answer: the book's own refusals come before 17.
   unfoldable pub find_answer : Listener → Reading → ℕ → Found
   find_answer l (holds fs) n = told (heard l (search fs n))
-  find_answer l (unsound r) n = found.Refused r
+  find_answer l (unsound r) n = Err r
 
   unfoldable pub tape_after : Listener → Reading → ℕ → List ℕ → List ℕ
   tape_after l (holds fs) n old = handed (heard l (search fs n)) old
@@ -302,26 +298,26 @@ abbrev pub start_of : List Phrase → ℕ → ℕ
 start_of fs n = record_at plain fs n + head_size
 
 unfoldable pub placed : ℕ → Heard → Located
-placed start nothing = located.Refused withheld
-placed start (aloud t) = located.At start (length t)
+placed start nothing = Err withheld
+placed start (aloud t) = spanning start (length t)
 
 unfoldable pub locate_answer : Listener → Reading → ℕ → Located
 locate_answer l (holds fs) n = placed (start_of fs n) (heard plain l (search fs n))
-locate_answer l (unsound r) n = located.Refused r
+locate_answer l (unsound r) n = Err r
 
 -- what such a lookup tells without the place
 unfoldable pub told_of : Located → Found
-told_of (located.At start n) = found.Tape
-told_of (located.Refused r) = found.Refused r
+told_of (Ok s) = Ok tt
+told_of (Err r) = Err r
 
 -- the bytes of the buffer that such a lookup tells of, and where they end
 unfoldable pub part_at : Located → List ℕ → List ℕ
-part_at (located.At start n) buffer = take n (drop start buffer)
-part_at (located.Refused r) buffer = []
+part_at (Ok s) buffer = take s.length (drop s.start buffer)
+part_at (Err r) buffer = []
 
 unfoldable pub end_of : Located → ℕ
-end_of (located.At start n) = start + n
-end_of (located.Refused r) = 0
+end_of (Ok s) = s.start + s.length
+end_of (Err r) = 0
 
 pub record LocatePromise (l : Listener) (buffer : List ℕ) (used n : ℕ) (r : Located) : Type 0 where
   pub answer : r ≡ locate_answer l (read_book plain (book_in buffer used)) n
@@ -331,5 +327,5 @@ pub record LocatePromise (l : Listener) (buffer : List ℕ) (used n : ℕ) (r : 
 -- What the lookup hands back are the tape's own bytes: in memory they stand in the buffer, from
 -- that start on. Where there is none to hand back the lent place refers to what it did before.
 unfoldable pub stands_after : Located → ℕ × ℕ → ℕ × ℕ → ℕ × ℕ
-stands_after (located.At start n) buffer old = (buffer.0, start + buffer.1)
-stands_after (located.Refused r) buffer old = old
+stands_after (Ok s) buffer old = (buffer.0, s.start + buffer.1)
+stands_after (Err r) buffer old = old

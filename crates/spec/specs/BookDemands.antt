@@ -5,7 +5,7 @@
 -- `additions_located`, comes last.
 -- Assumes nothing: these are definitions.
 use Rattle.std.specs.Prelude.{ℕ, ◌+◌, ◌*◌, ◌<◌, ◌≤◌, ◌≡◌, true, false, ◌⊎◌, ◌↔◌, List, [], ◌∷◌}
-use Rattle.std.specs.Prelude.{◌++◌, map, length, take}
+use Rattle.std.specs.Prelude.{◌++◌, map, length, take, Ok, Err}
 use Rattle.spec.specs.Numbers.{short_output, broken_record, number_not_above, not_for_listener}
 use Rattle.spec.specs.Refusals.{refusal, NoneFits, Given}
 use Rattle.spec.specs.Listeners.{may_hear, may_write}
@@ -15,11 +15,7 @@ use Rattle.spec.specs.Book.{heard, told, handed, FindPromise, least_after, NewPh
 use Rattle.spec.specs.Book.{with_addition, AddPromise, Fits, RisingFrom, Sound, start_of}
 use Rattle.spec.specs.Book.{placed, told_of, part_at, LocatePromise}
 use Rattle.spec.specs.declared.Listener.{Listener}
-use Rattle.spec.specs.declared.Answer.{Answer}
-use Rattle.spec.specs.declared.Answer.TheVariants.{Written, Refused}
-use Rattle.spec.specs.declared.Found.{Found}
-use Rattle.spec.specs.declared.Found.TheVariants as found
-use Rattle.spec.specs.declared.Located.{Located}
+use Rattle.spec.specs.Results.{Answer, Found, Located}
 use Rattle.spec.specs.Demands.{Settled, Exactly}
 
 -- What does not depend on the storage comes first. A phrase is one of these
@@ -37,12 +33,12 @@ pub record Addition : Type 0 where
 -- the used count after it, which the next addition gets, and the phrases that it and the later ones
 -- added, where its phrase is f and the later ones added fs
 unfoldable pub used_after : Answer → ℕ → ℕ
-used_after (Written n live) used = n
-used_after (Refused r) used = used
+used_after (Ok w) used = w.length
+used_after (Err r) used = used
 
 unfoldable pub added_by : Answer → Phrase → List Phrase → List Phrase
-added_by (Written n live) f fs = f ∷ fs
-added_by (Refused r) f fs = fs
+added_by (Ok w) f fs = f ∷ fs
+added_by (Err r) f fs = fs
 
 -- the buffer and the used count after the last of a list
 abbrev pub last_buffer : List ℕ → List Addition → List ℕ
@@ -114,9 +110,9 @@ module _ (st : Storage) where
   -- and gives each number exactly where it is due.
   pub record LooksUp (l : Listener) (book : List ℕ) (n : ℕ) (old new : List ℕ) (r : Found) : Type 0
     where
-      pub gives : (t : List ℕ) → ((r ≡ found.Tape) × (new ≡ t)) ↔ Has l book n t
+      pub gives : (t : List ℕ) → ((r ≡ Ok tt) × (new ≡ t)) ↔ Has l book n t
       pub refuses : (k p : ℕ)
-          → ((r ≡ found.Refused (refusal k p)) × (new ≡ old)) ↔ FindDue l book n k p
+          → ((r ≡ Err (refusal k p)) × (new ≡ old)) ↔ FindDue l book n k p
 
   -- a listener may add a new phrase
   pub record MayAdd (l : Listener) (book : List ℕ) (x : NewPhrase) : Type 0 where

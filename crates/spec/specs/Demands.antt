@@ -16,8 +16,7 @@ use Rattle.spec.specs.Answers.{number_of, place_of, length_of, live_of, checked_
 use Rattle.spec.specs.Answers.{checked_place, checked_codes, checked_names, CheckPromise}
 use Rattle.spec.specs.Answers.{NamePromise, TranscribePromise, JoinPromise}
 use Rattle.spec.specs.declared.Edition.{Edition}
-use Rattle.spec.specs.declared.Checked.{Checked}
-use Rattle.spec.specs.declared.Answer.{Answer}
+use Rattle.spec.specs.Results.{Checked, Answer}
 
 -- The number and the place that the table has for a message, a list of cuts and an output of this
 -- room, where the full answer has this size; its whole order is 1 and 2, then 3 to 10, then 12 at

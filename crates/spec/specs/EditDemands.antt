@@ -7,7 +7,7 @@ use Rattle.spec.specs.Numbers.{message_max}
 use Rattle.spec.specs.Refusals.{fits, NoneFits, Given}
 use Rattle.spec.specs.Answers.{number_of, length_of}
 use Rattle.spec.specs.Editing.{OnlyBreaks, edited, EditPromise}
-use Rattle.spec.specs.declared.Answer.{Answer}
+use Rattle.spec.specs.Results.{Answer}
 use Rattle.spec.specs.Demands.{Settled, Exactly, Demand1, Demand2, Demand3}
 
 -- The editor's only number: 11, with the edited text's length, where the output is shorter.

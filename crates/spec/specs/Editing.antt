@@ -8,7 +8,7 @@ use Rattle.spec.specs.Tables.{among, ascii}
 use Rattle.spec.specs.Letters.{is_break}
 use Rattle.spec.specs.Refusals.{none}
 use Rattle.spec.specs.Answers.{within, Promise}
-use Rattle.spec.specs.declared.Answer.{Answer}
+use Rattle.spec.specs.Results.{Answer}
 
 -- Slip 1, marks: those that become a pause
 unfoldable pub pause_marks : List ℕ

@@ -8,7 +8,7 @@ use Rattle.spec.specs.Refusals.{NoneFits}
 use Rattle.spec.specs.Answers.{number_of, length_of, TranscribePromise}
 use Rattle.spec.specs.SpokenLevels.{level_words, Each, marks_in, spoken, InRange, LevelPromise}
 use Rattle.spec.specs.declared.Edition.{Edition}
-use Rattle.spec.specs.declared.Answer.{Answer}
+use Rattle.spec.specs.Results.{Answer}
 use Rattle.spec.specs.Demands.{CarriedOut, Settled, Exactly}
 
 -- The numbers for a level: 14, outside the range, and then 11.

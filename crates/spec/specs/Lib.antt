@@ -13,6 +13,7 @@ pub mod Palatalization
 pub mod Tape
 pub mod Counting
 pub mod Phrases
+pub mod Results
 pub mod Refusals
 pub mod Joints
 pub mod Answers

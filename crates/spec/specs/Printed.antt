@@ -3,7 +3,7 @@
 -- third prints for a level in decimal, with slip 5 before it. All three keep edition 1 (slip 8).
 -- Assumes nothing: these are definitions.
 use Rattle.std.specs.Prelude.{ℕ, zero, suc, ◌+◌, ◌-◌, ◌*◌, ◌/◌, ◌%◌, Bool, true, cond, ◌&&◌, not}
-use Rattle.std.specs.Prelude.{List, [], ◌∷◌, ◌++◌, eqb, leb, length, drop, ℤ, pos, neg_ℤ}
+use Rattle.std.specs.Prelude.{List, [], ◌∷◌, ◌++◌, eqb, leb, length, drop, ℤ, pos, neg_ℤ, Ok, Err}
 use Rattle.spec.specs.Tables.{ascii}
 use Rattle.spec.specs.Tape.{tape}
 use Rattle.spec.specs.Answers.{tape_answer}
@@ -11,8 +11,7 @@ use Rattle.spec.specs.Editing.{edited}
 use Rattle.spec.specs.Utf8.{decoded, read_answer}
 use Rattle.spec.specs.SpokenLevels.{spoken, level_answer}
 use Rattle.spec.specs.declared.Edition.TheVariants.{One}
-use Rattle.spec.specs.declared.Answer.{Answer}
-use Rattle.spec.specs.declared.Answer.TheVariants.{Written, Refused}
+use Rattle.spec.specs.Results.{Answer}
 
 -- the last k digits of a number, or all where it has no more, most significant first
 unfoldable pub last_digits : ℕ → ℕ → List ℕ
@@ -31,8 +30,8 @@ printed_codes (c ∷ (d ∷ codes)) = decimal c ++ (ascii " " ++ printed_codes (
 
 -- an answer: the codes of its tape, or 'refused N at P'
 unfoldable pub printed_answer : Answer → List ℕ → List ℕ
-printed_answer (Written n k) codes = printed_codes codes
-printed_answer (Refused r) codes = ascii "refused " ++ (decimal r.number ++ (ascii " at " ++ decimal r.place))
+printed_answer (Ok w) codes = printed_codes codes
+printed_answer (Err r) codes = ascii "refused " ++ (decimal r.number ++ (ascii " at " ++ decimal r.place))
 
 -- The whole text for a message m: the transcriber's answer, lent two bytes of output for each byte
 -- of the longest message, and a newline.
@@ -41,8 +40,8 @@ printed m = printed_answer (tape_answer One m 8192) (tape One m) ++ ascii "\n"
 
 -- what is answered after another operation: its refusal, where it has one
 unfoldable pub after_writing : Answer → Answer → Answer
-after_writing (Written n k) a = a
-after_writing (Refused r) a = Refused r
+after_writing (Ok w) a = a
+after_writing (Err r) a = Err r
 
 -- A text t in UTF-8 is read, lent as much as it has, then edited and transcribed as a message is;
 -- the editor, lent as much, refuses nothing.

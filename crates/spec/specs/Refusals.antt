@@ -2,7 +2,7 @@
 -- A row is tested at a byte b, given the bytes before it, nearest first, and the bytes after it.
 -- Assumes nothing: these are definitions.
 use Rattle.std.specs.Prelude.{ℕ, zero, suc, ◌<◌, ◌≡◌, Bool, true, false, cond, ◌&&◌, ◌||◌, not, ◌⊎◌}
-use Rattle.std.specs.Prelude.{List, [], ◌∷◌, eqb, leb, length, get_or, drop}
+use Rattle.std.specs.Prelude.{List, [], ◌∷◌, eqb, leb, length, get_or, drop, Ok, Err}
 use Rattle.spec.specs.Numbers.{empty_message, long_message, unknown_byte, misplaced_break}
 use Rattle.spec.specs.Numbers.{misplaced_mark, sign_first, sign_after_sign}
 use Rattle.spec.specs.Numbers.{consonant_after_hard_sign, vowel_sign_vowel, long_word, message_max}
@@ -11,8 +11,7 @@ use Rattle.spec.specs.Alphabet.{«ъ»}
 use Rattle.spec.specs.Letters.{small, is_break, is_mark, is_consonant, is_sign, is_vowel}
 use Rattle.spec.specs.Counting.{code_count, name_count}
 use Rattle.spec.specs.declared.Refusal.{Refusal}
-use Rattle.spec.specs.declared.Checked.{Checked}
-use Rattle.spec.specs.declared.Checked.TheVariants.{Accepted, Refused}
+use Rattle.spec.specs.Results.{Checked}
 
 infix 40 ◌when◌
 -- the classes of a byte as it stands in a message, where a letter may be a capital
@@ -117,16 +116,16 @@ unfoldable pub scan : Checked → List ℕ → List ℕ → Checked
 scan accepted before [] = accepted
 scan accepted before (b ∷ after) =
     let n = fault_at before b after in
-    cond (eqb n 0) (scan accepted (b ∷ before) after) (Refused (refusal n (length before)))
+    cond (eqb n 0) (scan accepted (b ∷ before) after) (Err (refusal n (length before)))
 
 -- The message check: number 1, no bytes; number 2, over 4,096 bytes; then 3 to 10. An accepted
 -- message has as many codes and names as its letters and breaks make.
 unfoldable pub check_of : List ℕ → Checked
 check_of m =
-    cond (eqb (length m) 0) (Refused (refusal empty_message 0))
+    cond (eqb (length m) 0) (Err (refusal empty_message 0))
     (cond (leb (length m) message_max)
-    (scan (Accepted (record { codes = code_count m; names = name_count m })) [] m)
-    (Refused (refusal long_message 0)))
+    (scan (Ok (record { codes = code_count m; names = name_count m })) [] m)
+    (Err (refusal long_message 0)))
 
 -- Which numbers fit where, one by one. Does number k of the rows fit at a byte?
 unfoldable pub fits_in : List Row → ℕ → List ℕ → ℕ → List ℕ → Bool

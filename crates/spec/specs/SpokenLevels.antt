@@ -2,7 +2,7 @@
 -- docs/LEVELS.md has the same table of words.
 -- Assumes nothing: these are definitions.
 use Rattle.std.specs.Prelude.{ℕ, zero, suc, ◌*◌, ◌/◌, ◌%◌, ◌≤◌, cond, List, [], ◌∷◌, ◌++◌, eqb, leb}
-use Rattle.std.specs.Prelude.{length, ℤ, pos, negsuc, nat_abs}
+use Rattle.std.specs.Prelude.{length, ℤ, pos, negsuc, nat_abs, Err}
 use Prim.Native.Char.{code}
 use Prim.Native.String as text
 use Rattle.spec.specs.Numbers.{level_outside, level_max}
@@ -11,8 +11,7 @@ use Rattle.spec.specs.Letters.{is_mark}
 use Rattle.spec.specs.Refusals.{refusal}
 use Rattle.spec.specs.Answers.{within, Promise}
 use Rattle.spec.specs.Utf8.{Character, ◌is◌, characters}
-use Rattle.spec.specs.declared.Answer.{Answer}
-use Rattle.spec.specs.declared.Answer.TheVariants.{Refused}
+use Rattle.spec.specs.Results.{Answer}
 
 infix 70 ◌says◌
 -- the byte of the character with this number, by the table of slip 2; 0, which has no row, where
@@ -121,7 +120,7 @@ InRange level = nat_abs level ≤ level_max
 unfoldable pub level_answer : ℤ → ℕ → Answer
 level_answer level room =
     cond (leb (nat_abs level) level_max) (within room (length (spoken level)) 0)
-    (Refused (refusal level_outside 0))
+    (Err (refusal level_outside 0))
 
 abbrev pub LevelPromise : ℤ → List ℕ → List ℕ → Answer → Type 0
 LevelPromise level out out' r = Promise (level_answer level (length out)) (spoken level) out out' r

@@ -2,15 +2,14 @@
 -- accepted message back.
 -- Assumes nothing: these are definitions.
 use Rattle.std.specs.Prelude.{ℕ, ◌+◌, ◌/◌, ◌%◌, ◌<◌, ◌≡◌, Bool, true, cond, ◌&&◌, not, ◌≢◌, List}
-use Rattle.std.specs.Prelude.{[], ◌∷◌, ◌++◌, map, eqb, leb, length, take, drop}
+use Rattle.std.specs.Prelude.{[], ◌∷◌, ◌++◌, map, eqb, leb, length, take, drop, Err}
 use Rattle.spec.specs.Numbers.{unreadable_text}
 use Rattle.spec.specs.Alphabet.{gap, pause, mark}
 use Rattle.spec.specs.Tables.{among, same}
 use Rattle.spec.specs.Refusals.{refusal, check_of}
 use Rattle.spec.specs.Answers.{within, after_check, Promise}
 use Rattle.spec.specs.Editing.{pause_marks, gap_marks}
-use Rattle.spec.specs.declared.Answer.{Answer}
-use Rattle.spec.specs.declared.Answer.TheVariants.{Refused}
+use Rattle.spec.specs.Results.{Answer}
 
 infix 70 ◌is◌
 -- RFC 3629, section 3: an octet that continues a sequence has the last six bits of a number
@@ -137,7 +136,7 @@ pub record StopsAt (t : List ℕ) (p : ℕ) : Type 0 where
 unfoldable pub read_answer : List ℕ → ℕ → Answer
 read_answer t room =
     cond (eqb (read_to t) (length t)) (within room (length (decoded t)) 0)
-    (Refused (refusal unreadable_text (read_to t)))
+    (Err (refusal unreadable_text (read_to t)))
 
 -- The writer: numbers 1 to 10, and then 11.
 unfoldable pub write_answer : List ℕ → ℕ → Answer

@@ -7,7 +7,7 @@ use Rattle.spec.specs.Refusals.{NoneFits}
 use Rattle.spec.specs.Answers.{number_of, length_of}
 use Rattle.spec.specs.Utf8.{WellFormed, encoded, decoded, RunOf, Readable, StopsAt}
 use Rattle.spec.specs.Utf8.{ReadPromise, WritePromise}
-use Rattle.spec.specs.declared.Answer.{Answer}
+use Rattle.spec.specs.Results.{Answer}
 use Rattle.spec.specs.Demands.{Due, CarriedOut, Settled, Exactly}
 use Rattle.spec.specs.EditDemands.{EditedDemands}
 

@@ -35,7 +35,8 @@ pub enum Edition {
     Two,
 }
 
-// Why a message is turned away, by the paper's number, and where.
+// Why a message is turned away, by the paper's number, and where. A number and no enum: paper 01
+// ('Forms') has a refusal hold it, the definitions and C speak of it, and the check's table has it.
 #[derive(Clone, Copy)]
 pub struct Refusal {
     pub number: u8,
@@ -49,18 +50,12 @@ pub struct Counts {
     pub names: usize,
 }
 
-// What the message check answers.
+// What an operation on a lent output wrote: so many bytes, which C is told beside its own output.
+// The live count is the joiner's; the others answer 0, as their definitions and C's struct have it.
 #[derive(Clone, Copy)]
-pub enum Checked {
-    Accepted(Counts),
-    Refused(Refusal),
-}
-
-// What an operation on a lent output answers. The live count is the joiner's; the others answer 0.
-#[derive(Clone, Copy)]
-pub enum Answer {
-    Written { length: usize, live: usize },
-    Refused(Refusal),
+pub struct Written {
+    pub length: usize,
+    pub live: usize,
 }
 
 // Who calls the phrase book (paper 02, slip 7).
@@ -71,16 +66,9 @@ pub enum Listener {
     Dispatch,
 }
 
-// What a lookup in the phrase book tells: the tape was handed back, or why not.
+// Where a tape stands in the lent buffer.
 #[derive(Clone, Copy)]
-pub enum Found {
-    Tape,
-    Refused(Refusal),
-}
-
-// The same with the tape's place in the lent buffer, for callers in C.
-#[derive(Clone, Copy)]
-pub enum Located {
-    At { start: usize, length: usize },
-    Refused(Refusal),
+pub struct Span {
+    pub start: usize,
+    pub length: usize,
 }

@@ -17,7 +17,8 @@ after_letter x l = record { p = x.byte; q = l.p; hard = false }
 
 module _ (m : List ℕ) (i : ℕ) (h : i < length m) where
   -- a letter becomes the last one
-  pub left_letter : is_break (get_or m i 0) ≡ false → is_mark (get_or m i 0) ≡ false → left_at m (suc i) ≡ after_letter (letter_of m i) (left_at m i)
+  pub left_letter : is_break (get_or m i 0) ≡ false → is_mark (get_or m i 0) ≡ false
+      → left_at m (suc i) ≡ after_letter (letter_of m i) (left_at m i)
   unfolding last_at last_but_one_at hard_at letter_of
   left_letter b k = rw (b, k)
 
@@ -42,7 +43,8 @@ mark_first (b ∷ m) = by (is_break b) (is_mark b) refl refl (mark_first m)
     x = record { byte = small b; stressed = begins_with_mark m }
 
     by : (t k : Bool) → is_break b ≡ t → is_mark b ≡ k → (begins_with_mark m || has_mark (first_word (read m))) ≡ mark_from m
-        → (k || has_mark (first_word (cond t (more [] b (read m)) (cond k (read m) (put_letter x (read m)))))) ≡ (not t && (k || mark_from m))
+        → (k || has_mark (first_word (cond t (more [] b (read m)) (cond k (read m) (put_letter x (read m))))))
+        ≡ (not t && (k || mark_from m))
     by true true d e r = sym d ∙ mark_within b e
     by true false d e r = refl
     by false true d e r = refl

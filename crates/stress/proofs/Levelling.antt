@@ -6,7 +6,7 @@ use Rattle.spec.specs.Letters.{is_break, is_mark, begins_with_mark}
 use Rattle.spec.specs.{Refusals.vowel_byte, Syllables.next_stressed, Syllables.level_of, LevelSteps.back_at, LevelSteps.back_to}
 use Rattle.spec.specs.LevelSteps.{level_steps}
 use Rattle.spec.specs.declared.Level.TheVariants.{Stressed, First, Second}
-use Rattle.letters.specs.{Classes.classes, Classes.class_of, Classes.is_covering_class, Places.Steady, Places.letter_of, Places.word_at}
+use Rattle.letters.specs.{Classes.class_of, Classes.is_covering_class, Places.Steady, Places.letter_of, Places.word_at}
 use Rattle.letters.proofs.Left.{mark_within, begins_at, unmarked_after, word_letter, word_break, word_end}
 use Rattle.letters.proofs.{Bytes.vowel_break, Bytes.vowel_mark, Bytes.not_both, Computed.everything}
 use Rattle.laws.proofs.{Classes.break_mark, Classes.break_vowel, Classes.either, Classes.where_same, LevelSteps.steps_suffice}
@@ -16,10 +16,12 @@ use Rattle.stress.specs.Levels.{over_break, over_letter, steps_of, turn_of, step
 use Rattle.stress.proofs.Marked.{marked_within, marked_break, marked_end, facts_marked}
 
 -- a letter of these classes is no vowel, no break and no mark
-pub plain_letter : (b : ℕ) → b < 256 → is_covering_class (class_of b) ≡ true → (is_break b ≡ false) × (is_mark b ≡ false) × (vowel_byte b ≡ false)
+pub plain_letter : (b : ℕ) → b < 256 → is_covering_class (class_of b) ≡ true
+    → (is_break b ≡ false) × (is_mark b ≡ false) × (vowel_byte b ≡ false)
 unfolding everything
 plain_letter b h c =
-    let e = where_same (λ x. is_covering_class (class_of x)) (λ x. is_break x ∷ is_mark x ∷ vowel_byte x ∷ []) (λ _. false ∷ false ∷ false ∷ []) [] b refl h c in
+    let e = where_same (λ x. is_covering_class (class_of x)) (λ x. is_break x ∷ is_mark x ∷ vowel_byte x ∷ [])
+    (λ _. false ∷ false ∷ false ∷ []) [] b refl h c in
     (cc, cc, cc)
 
 -- nor is a mark a vowel
@@ -51,14 +53,17 @@ nearly_more (suc (suc n)) true ahead e = omega (arith, e)
 nearly_more (suc (suc n)) false ahead e = refl
 
 -- the step goes by what the byte is
-pub step_by : (P : LevelRun → Type 0) (s : LevelRun) (b : ℕ) → (vowel_byte b ≡ true → P (over_vowel s)) → (is_mark b ≡ true → P (over_mark s))
-    → (is_break b ≡ true → P (over_break s))
+pub step_by : (P : LevelRun → Type 0) (s : LevelRun) (b : ℕ) → (vowel_byte b ≡ true → P (over_vowel s))
+    → (is_mark b ≡ true → P (over_mark s)) → (is_break b ≡ true → P (over_break s))
     → (is_break b ≡ false → is_mark b ≡ false → vowel_byte b ≡ false → P (over_letter s)) → P (step_over s b)
 step_by P s b vowel mark break letter =
-    either (vowel_byte b) (λ v. rw v (vowel v)) (λ v. either (is_mark b) (λ k. rw (v, k) (mark k)) (λ k. either (is_break b) (λ x. rw (v, k, x) (break x)) (λ x. rw (v, k, x) (letter x k v))))
+    either (vowel_byte b) (λ v. rw v (vowel v)) (λ v.
+    either (is_mark b) (λ k. rw (v, k) (mark k)) (λ k.
+    either (is_break b) (λ x. rw (v, k, x) (break x)) (λ x. rw (v, k, x) (letter x k v))))
 
 -- a letter is one byte more that is looked back over
-pub back_letter : (m : List ℕ) (i : ℕ) → is_break (get_or m i 0) ≡ false → is_mark (get_or m i 0) ≡ false → back_at m (suc i) ≡ suc (back_at m i)
+pub back_letter : (m : List ℕ) (i : ℕ) → is_break (get_or m i 0) ≡ false → is_mark (get_or m i 0) ≡ false
+    → back_at m (suc i) ≡ suc (back_at m i)
 unfolding back_at
 back_letter m i b k = rw (b, k)
 
@@ -82,10 +87,8 @@ unfolding back_to
 ends_within m i b = rw b (omega arith)
 
 -- there is room for a step
-pub levels_due : {t m : List ℕ} {i : ℕ} {s : LevelRun} → t ≡ classes → Steady m → i < length m → LevelsAt m (suc i) s
-    → StepDue t s (get_or m i 0)
-levels_due {m = m} {i} e steady h l = record {
-  table = e;
+pub levels_due : {m : List ℕ} {i : ℕ} {s : LevelRun} → Steady m → i < length m → LevelsAt m (suc i) s → StepDue s (get_or m i 0)
+levels_due {m} {i} steady h l = record {
   named = steady.named i h;
   steps = omega (arith, l.steps, (steps_suffice m).two, steady.short);
   since = omega (arith, l.most, steady.short);
@@ -120,14 +123,16 @@ module _ (m : List ℕ) (steady : Steady m) (i : ℕ) (h : i < length m) where
         let b = vowel_break (get_or m i 0) (steady.bytes i) v in
         let k = vowel_mark (get_or m i 0) (steady.bytes i) v in
         record {
-          since = rw (add-one s.since, begins_at m i, k, word_letter m steady i h b k, v) (nearly_more s.since (begins_with_mark (drop (suc i) m)) (next_stressed (word_at m (suc i))) l.since);
+          since = rw (add-one s.since, begins_at m i, k, word_letter m steady i h b k, v)
+              (nearly_more s.since (begins_with_mark (drop (suc i) m)) (next_stressed (word_at m (suc i))) l.since);
           marked = l.marked ∙ sym (marked_within m steady i h b);
           most = omega (arith, l.most);
           steps = omega (arith, l.steps, ends_within m i b);
         }
 
     -- over another letter
-    over_letter_lem : is_break (get_or m i 0) ≡ false → is_mark (get_or m i 0) ≡ false → vowel_byte (get_or m i 0) ≡ false → LevelsAt m i (over_letter s)
+    over_letter_lem : is_break (get_or m i 0) ≡ false → is_mark (get_or m i 0) ≡ false → vowel_byte (get_or m i 0) ≡ false
+        → LevelsAt m i (over_letter s)
     unfolding next_stressed letter_of vowel_byte
     over_letter_lem b k v =
         let u : begins_with_mark (drop (suc i) m) ≡ false = begins_at m (suc i) ∙ unmarked_after m steady i v in
@@ -152,7 +157,8 @@ module _ (m : List ℕ) (steady : Steady m) (i : ℕ) (h : i < length m) where
 
     -- so over every byte of a word
     pub levels_over : is_break (get_or m i 0) ≡ false → LevelsAt m i (step_over s (get_or m i 0))
-    levels_over b = step_by (LevelsAt m i) s (get_or m i 0) over_vowel_lem over_mark_lem (λ x. absurd (true≢false (sym x ∙ b))) over_letter_lem
+    levels_over b =
+        step_by (LevelsAt m i) s (get_or m i 0) over_vowel_lem over_mark_lem (λ x. absurd (true≢false (sym x ∙ b))) over_letter_lem
 
     module _ (b : is_break (get_or m i 0) ≡ true) where
       -- at a break another word ends
@@ -160,9 +166,8 @@ module _ (m : List ℕ) (steady : Steady m) (i : ℕ) (h : i < length m) where
       over_break_lem = rw (break_vowel (get_or m i 0) b, break_mark (get_or m i 0) b, b)
 
       -- where the step may be taken ahead
-      pub break_due : {t : List ℕ} → t ≡ classes → LookDue t m i (step_over s (get_or m i 0))
-      break_due e = rw over_break_lem (record {
-        table = e;
+      pub break_due : LookDue m i (step_over s (get_or m i 0))
+      break_due = rw over_break_lem (record {
         steady = steady;
         within = omega (arith, h);
         steps = omega (arith, l.steps, (steps_suffice m).two);
@@ -184,8 +189,8 @@ module _ (m : List ℕ) (steady : Steady m) (i : ℕ) (h : i < length m) where
           }
 
 -- so it may at the message's end
-pub end_due : {t m : List ℕ} → t ≡ classes → Steady m → LookDue t m (length m) (end_run 0 0 false)
-end_due e steady = record { table = e; steady = steady; within = omega arith; steps = omega arith; since = refl; marked = refl }
+pub end_due : {m : List ℕ} → Steady m → LookDue m (length m) (end_run 0 0 false)
+end_due steady = record { steady = steady; within = omega arith; steps = omega arith; since = refl; marked = refl }
 
 -- where the run begins
 pub levels_end : {m : List ℕ} → Steady m → {q : LevelRun} → Looked m (length m) (end_run 0 0 false) q → LevelsAt m (length m) q

@@ -15,7 +15,13 @@ module _ (m : List ℕ) (steady : Steady m) where
   -- whether the word has a mark does not change within it
   pub marked_within : (i : ℕ) → i < length m → is_break (get_or m i 0) ≡ false → marked_at m i ≡ marked_at m (suc i)
   unfolding marked_at mark_before mark_from
-  marked_within i h b = rw (drop-cons m i 0 h, b, ← or_assoc (mark_before m i) (is_mark (get_or m i 0)) (mark_from (drop (suc i) m)), or_comm (mark_before m i) (is_mark (get_or m i 0)))
+  marked_within i h b =
+      rw (
+        drop-cons m i 0 h,
+        b,
+        ← or_assoc (mark_before m i) (is_mark (get_or m i 0)) (mark_from (drop (suc i) m)),
+        or_comm (mark_before m i) (is_mark (get_or m i 0)),
+      )
 
   -- at its end it is told by the bytes before
   pub marked_break : (i : ℕ) → i < length m → is_break (get_or m i 0) ≡ true → marked_at m i ≡ mark_before m i

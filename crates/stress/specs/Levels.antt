@@ -1,13 +1,13 @@
 -- The levels of a word's vowels, found by a running step from the right. These are not the paper's
 -- words: `proofs/` shows that they agree with them.
 -- Assumes nothing: these are definitions.
-use Rattle.std.specs.Prelude.{ℕ, zero, suc, ◌+◌, ◌*◌, ◌<◌, ◌≤◌, ◌≡◌, ◌⊎◌, Bool, true, false, cond}
+use Rattle.std.specs.Prelude.{ℕ, zero, suc, ◌+◌, ◌*◌, ◌<◌, ◌≤◌, ◌≡◌, Bool, true, false, cond}
 use Rattle.std.specs.Prelude.{List, length, drop}
 use Rattle.spec.specs.Letters.{begins_with_mark, is_break, is_mark}
 use Rattle.spec.specs.Refusals.{vowel_byte}
 use Rattle.spec.specs.LevelSteps.{back_at, back_to, level_steps}
 use Rattle.spec.specs.Syllables.{next_stressed, level_of}
-use Rattle.letters.specs.Classes.{classes, class_of}
+use Rattle.letters.specs.Classes.{class_of}
 use Rattle.letters.specs.Places.{Steady, letter_of, word_at}
 use Rattle.spec.specs.declared.Level.{Level}
 use Rattle.spec.specs.declared.Level.TheVariants.{Stressed, First, Second}
@@ -29,10 +29,6 @@ abbrev pub numbered : ℕ → Level
 numbered zero = Stressed
 numbered (suc zero) = First
 numbered (suc (suc n)) = Second
-
--- n is the smaller of two numbers
-abbrev pub Least : ℕ → ℕ → ℕ → Type 0
-Least a b n = ((a < b) × (n ≡ a)) ⊎ ((b ≤ a) × (n ≡ b))
 
 -- the count as far as it makes a difference, and what it is where a mark stands right at a place or
 -- after the next vowel
@@ -79,7 +75,9 @@ over_letter s =
     }
 
 abbrev pub step_over : LevelRun → ℕ → LevelRun
-step_over s b = cond (vowel_byte b) (over_vowel s) (cond (is_mark b) (over_mark s) (cond (is_break b) (over_break s) (over_letter s)))
+step_over s b =
+    cond (vowel_byte b) (over_vowel s)
+    (cond (is_mark b) (over_mark s) (cond (is_break b) (over_break s) (over_letter s)))
 
 -- all steps that were taken, and the run where the next turn of a walk begins
 abbrev pub steps_of : LevelRun → ℕ
@@ -90,15 +88,13 @@ turn_of s =
     record { before = steps_of s; steps = 0; since = s.since; marked = s.marked; edge = s.edge }
 
 -- the step may be taken over byte b: it is one of an accepted message, and the counts have room
-pub record StepDue (t : List ℕ) (s : LevelRun) (b : ℕ) : Type 0 where
-  pub table : t ≡ classes
+pub record StepDue (s : LevelRun) (b : ℕ) : Type 0 where
   pub named : class_of b ≡ 0 → ⊥
   pub steps : s.steps < 65536
   pub since : s.since < 65536
 
 -- the step may be taken ahead from place i, where a word ends
-pub record LookDue (t m : List ℕ) (i : ℕ) (s : LevelRun) : Type 0 where
-  pub table : t ≡ classes
+pub record LookDue (m : List ℕ) (i : ℕ) (s : LevelRun) : Type 0 where
   pub steady : Steady m
   pub within : i ≤ length m
   pub steps : s.steps ≤ 2 * length m

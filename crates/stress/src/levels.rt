@@ -5,12 +5,11 @@
 // learn whether the word has a mark. How many steps these are `level_steps` says
 // (crates/spec/specs/LevelSteps.antt); no byte is stepped over more than twice.
 ghost use Rattle.std.specs.Prelude.{◌≡◌, ◌<◌};
-ghost use Rattle.stress.specs.Levels.{Least, counted_by, numbered, end_run, step_over};
+ghost use Rattle.stress.specs.Levels.{counted_by, numbered, end_run, step_over};
 ghost use Rattle.stress.specs.Levels.{steps_of, turn_of, StepDue, LookDue, Looked};
 
 use crate::LevelRun;
 use letters::classes;
-use letters::classes::ClassTable;
 use letters::classify::class_of;
 use spec::{Level, alphabet};
 
@@ -31,54 +30,45 @@ pub fn at_word_end(before: usize, steps: usize, marked: bool) -> LevelRun
 }
 
 // The step, over byte b, the next to the left.
-pub fn step(s: LevelRun, b: u8, t: &ClassTable) -> LevelRun
-    requires { StepDue t.now s b }
+#[tactic(auto, using(crate::proofs::Stepping::steps_by_class))]
+pub fn step(s: LevelRun, b: u8) -> LevelRun
+    requires { StepDue s b }
     ensures { result ≡ step_over s b }
 {
-    let c = class_of(b, t);
-    let before = s.before;
-    let steps = s.steps + 1;
-    let marked = s.marked;
+    let c = class_of(b);
+    let next = LevelRun {
+        steps: s.steps + 1,
+        edge: false,
+        ..s
+    };
     if classes::PLAIN_VOWEL <= c {
         return LevelRun {
-            before,
-            steps,
             since: s.since + 1,
-            marked,
-            edge: false,
+            ..next
         };
     }
     if classes::FIRST_LETTER <= c {
-        return LevelRun {
-            before,
-            steps,
-            since: s.since,
-            marked,
-            edge: false,
-        };
+        return next;
     }
     if b == alphabet::MARK {
         return LevelRun {
-            before,
-            steps,
             since: 0,
             marked: true,
             edge: true,
+            ..next
         };
     }
-    at_word_end(before, steps, false)
+    at_word_end(next.before, next.steps, false)
 }
 
 // Takes the step ahead from the end of a word, place i, until a mark or a break is met.
-pub fn look_back(m: &[u8], i: usize, s: LevelRun, t: &ClassTable) -> LevelRun
-    requires { LookDue t.now m.now i s }
+pub fn look_back(m: &[u8], i: usize, s: LevelRun) -> LevelRun
+    requires { LookDue m.now i s }
     ensures { Looked m.now i s result }
 {
-    let mut j = i;
     let mut ahead = s;
-    while 0 < j {
-        j -= 1;
-        ahead = step(ahead, m[j], t);
+    for j in (0..i).rev() {
+        ahead = step(ahead, m[j]);
         if ahead.edge {
             return at_word_end(ahead.before, ahead.steps, ahead.marked);
         }
@@ -86,7 +76,8 @@ pub fn look_back(m: &[u8], i: usize, s: LevelRun, t: &ClassTable) -> LevelRun
     at_word_end(ahead.before, ahead.steps, false)
 }
 
-// All steps that were taken.
+// All steps that were taken. That they are few is asked and no fact of the run: each step would
+// have to show it again, and the walk alone knows it.
 pub fn steps_taken(s: LevelRun) -> usize
     requires { steps_of s < 65536 }
     ensures { result ≡ steps_of s }
@@ -100,33 +91,22 @@ pub fn begin_turn(s: LevelRun) -> LevelRun
     requires { steps_of s < 65536 }
     ensures { result ≡ turn_of s }
 {
-    let before = steps_taken(s);
     LevelRun {
-        before,
+        before: steps_taken(s),
         steps: 0,
-        since: s.since,
-        marked: s.marked,
-        edge: s.edge,
+        ..s
     }
 }
 
-// The smaller of two numbers.
-fn least(a: usize, b: usize) -> usize
-    ensures { Least a b result }
-{
-    if a < b { a } else { b }
-}
-
 // The level of the next vowel to the left: the syllables from it to the mark, but no more than 2,
-// or 1 in a word with no mark. With three numbers told apart the compiler takes the number for the
-// level as it is.
+// or 1 in a word with no mark.
 pub fn level_of(s: LevelRun) -> Level
     ensures { result ≡ numbered (counted_by s.since s.marked) }
 {
-    match least(s.since, 1 + s.marked as usize) {
+    match s.since {
         0 => Level::Stressed,
         1 => Level::First,
-        2 => Level::Second,
-        _ => Level::Second,
+        _ if s.marked => Level::Second,
+        _ => Level::First,
     }
 }

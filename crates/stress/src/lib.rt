@@ -1,4 +1,4 @@
-#![tactic(auto)]
+#![tactic(auto, unfolding(letters::proofs::Computed::everything))]
 
 pub mod before;
 pub mod levels;
@@ -10,7 +10,7 @@ pub mod syllables;
 pub struct LevelRun {
     pub before: usize, // count: the steps of the walk's turns before this one; no answer shows it
     pub steps: usize, // count: the steps since; the compiler leaves both counts out
-    pub since: usize, // count: the syllables from here to the next mark on the right, or at least 2 where the word has none there
+    pub since: usize, // count: the syllables to the next mark on the right, or 2 or more for none
     pub marked: bool, // flag: has the word a mark?
     pub edge: bool, // flag: was the last byte a mark or a break?
 }

@@ -9,7 +9,7 @@ use spec::{Cover, Level, Syllable};
 pub fn is_consonant_or_sign(k: usize) -> bool
     ensures { result ≡ is_covering_class k }
 {
-    (classes::HARD_SIGN <= k) & (k <= classes::SOFT_ONLY)
+    (classes::HARD_SIGN..=classes::SOFT_ONLY).contains(&k)
 }
 
 // The syllable of a vowel of this level after a byte of class k: it is covered where a consonant or
@@ -17,14 +17,10 @@ pub fn is_consonant_or_sign(k: usize) -> bool
 pub fn syllable_by(k: usize, level: Level) -> Syllable
     ensures { result ≡ syllable_by k level }
 {
-    if is_consonant_or_sign(k) {
-        return Syllable {
-            cover: Cover::Covered,
-            level,
-        };
-    }
-    Syllable {
-        cover: Cover::Bare,
-        level,
-    }
+    let cover = if is_consonant_or_sign(k) {
+        Cover::Covered
+    } else {
+        Cover::Bare
+    };
+    Syllable { cover, level }
 }

@@ -6,7 +6,7 @@ use lib.ListN.{length-map}
 use Rattle.spec.specs.{Vowels.vowel_sound, Vowels.glides, Editions.code_in, declared.Edition.Edition}
 use Rattle.spec.specs.Codes.{J, mark_of, is_sound_code, is_sound}
 use Rattle.spec.specs.{Phones.softens, Refusals.vowel_byte, Refusals.sign_byte, Refusals.consonant_byte, declared.Level.Level}
-use Rattle.letters.specs.Classes.{classes, class_of, is_break_class, is_sign_class, is_consonant_class, is_vowel_class, is_softening_class}
+use Rattle.letters.specs.Classes.{class_of, is_break_class, is_sign_class, is_consonant_class, is_vowel_class, is_softening_class}
 use Rattle.letters.specs.Classes.{elided_at}
 use Rattle.letters.specs.Classes.{pause_class, soft_sign_class}
 use Rattle.letters.specs.Places.{last_at, Steady, letter_of, word_at}
@@ -136,8 +136,8 @@ module _ {m out : List ℕ} {i : ℕ} {r : Right} (a : Ready m out i r) where
   letter_room p e = rw (p.break, p.mark, e) at a.room
 
   -- the levels' step may be taken over the byte
-  pub run_ready : {t : List ℕ} → t ≡ classes → StepDue t r.levels (get_or m i 0)
-  run_ready e = levels_due e a.steady a.within a.stands.levels
+  pub run_ready : StepDue r.levels (get_or m i 0)
+  run_ready = levels_due a.steady a.within a.stands.levels
 
   -- a letter has put its codes, and left of it stands the same word with these sounds and this letter first
   letter_steps : (ed : Edition) {s v x : Bool} {out' codes : List ℕ} {at sound : ℕ} {l : LevelRun} → Spelt (get_or m i 0) s v x
@@ -200,8 +200,8 @@ module _ {m out : List ℕ} {i c : ℕ} {r : Right} (a : ReadyFor is_break_class
   break_room = rw breaks at a.ready.room
 
   -- the levels' step may be taken ahead of it
-  pub break_looks : {t : List ℕ} {l : LevelRun} → t ≡ classes → l ≡ step_over r.levels (get_or m i 0) → LookDue t m i l
-  break_looks e l = rw l (break_due m a.ready.steady i a.ready.within a.ready.stands.levels breaks e)
+  pub break_looks : {l : LevelRun} → l ≡ step_over r.levels (get_or m i 0) → LookDue m i l
+  break_looks l = rw l (break_due m a.ready.steady i a.ready.within a.ready.stands.levels breaks)
 
   -- it has put it, and left of it stands another word
   pub break_steps : {out' : List ℕ} {at sound : ℕ} {l q : LevelRun} (pause : Bool) → eqb c pause_class ≡ pause

@@ -8,17 +8,12 @@ use Rattle.spec.specs.Phones.{softens}
 use Rattle.spec.specs.{Editions.code_in, Tape.sounds, declared.Edition.Edition}
 use Rattle.letters.specs.Places.{Steady, word_at}
 use Rattle.letters.specs.Filling.{MayStep, DidStep}
-use Rattle.letters.specs.Classes.{classes, class_of, is_break_class}
+use Rattle.letters.specs.Classes.{class_of, is_break_class}
 use Rattle.transcriber.specs.Places.{following_at, codes_at}
 use Rattle.stress.specs.Levels.{step_over, turn_of, LevelsAt}
-use Rattle.consonants.specs.Sounds.{sound_table, Tells}
+use Rattle.consonants.specs.Sounds.{Tells}
 use Rattle.stress.specs.declared.LevelRun.{LevelRun}
 use Rattle.transcriber.specs.declared.Right.{Right}
-
--- the lent tables are the two
-pub record Lent (t s : List ℕ) : Type 0 where
-  pub byte : t ≡ classes
-  pub sound : s ≡ sound_table
 
 -- a byte of class c stands at place i
 pub record ClassAt (m : List ℕ) (i c : ℕ) : Type 0 where
@@ -64,8 +59,7 @@ pub record BreakReady (m out : List ℕ) (i c : ℕ) (r : Right) (l : LevelRun) 
   pub passed : l ≡ step_over r.levels (get_or m i 0)
 
 -- the tape of m may be written right before place `end` of the output
-pub record MayWrite (t s m out : List ℕ) (end : ℕ) : Type 0 where
-  pub lent : Lent t s
+pub record MayWrite (m out : List ℕ) (end : ℕ) : Type 0 where
   pub steady : Steady m
   pub room : length (sounds m) ≤ end
   pub place : end ≤ length out

@@ -1,7 +1,9 @@
 -- What the reader's and the writer's tests of octets tell: each is one computation over the 256 octets, since all letters begin with D0 or
 -- D1.
-use Rattle.laws.proofs.Kit.{ℕ, ◌+◌, ◌*◌, ◌-◌, ◌/◌, ◌%◌, ◌<◌, ◌≤◌, ◌≡◌, refl, sym, ◌∙◌, Bool, true, false, cond, ◌&&◌, ◌||◌, and-false}
+use Rattle.laws.proofs.Kit.{ℕ, ◌/◌, ◌%◌, ◌+◌, ◌*◌, ◌-◌, ◌<◌, ◌≤◌, ◌≡◌, refl, sym, ◌∙◌, Bool, true, false, cond, ◌&&◌, ◌||◌, and-false}
 use Rattle.laws.proofs.Kit.{true≢false, List, [], ◌∷◌, arith, eqb, leb, eqb-true, leb-true, le-leb, lt-leb, and-eq-true_iff, get_or}
+use Rattle.std.proofs.Common.{w16}
+use Rattle.std.specs.Int.{to_be_bytes}
 use Rattle.spec.specs.Alphabet.{gap, mark}
 use Rattle.spec.specs.Letters.{between}
 use Rattle.spec.specs.Tables.{among}
@@ -111,12 +113,24 @@ unfolding everything
 single_sequence b h l = rw (le-leb b 0x7F (omega arith)) at
     (among_same (λ x. cond (leb x 0x7F) (sequence x) (x ∷ [])) (λ x. x ∷ []) (row_bytes characters) b refl h)
 
--- and those that the table has from there on, where all bytes are letters
+-- and those that the table has from there on, where all bytes are letters: two octets,
 pub letter_sequence : (b : ℕ) → has_row b ≡ true → 0x80 ≤ b
     → sequence b ≡ (sequence_of (b - 0xA8) / 256) ∷ (sequence_of (b - 0xA8) % 256) ∷ []
 unfolding everything sequence_of both
 letter_sequence b h l = rw (lt-leb b 0x7F (omega arith)) at (among_same (λ x. cond (leb x 0x7F) [] (sequence x))
     (λ x. cond (leb x 0x7F) [] ((sequence_of (x - 0xA8) / 256) ∷ (sequence_of (x - 0xA8) % 256) ∷ [])) (row_bytes characters) b refl h)
+
+-- which are the bytes of the table's number, the high one first,
+pub letter_octets : (b : ℕ) → has_row b ≡ true → 0x80 ≤ b → to_be_bytes w16 (sequence_of (b - 0xA8)) ≡ sequence b
+unfolding everything sequence_of both
+letter_octets b h l =
+    let same = among_same (λ x. cond (leb x 0x7F) [] (to_be_bytes w16 (sequence_of (x - 0xA8))))
+    (λ x. cond (leb x 0x7F) [] (sequence x)) (row_bytes characters) b refl h in
+    rw (lt-leb b 0x7F (omega arith)) at same
+
+-- and by themselves
+pub letter_two : (b : ℕ) → has_row b ≡ true → 0x80 ≤ b → sequence b ≡ get_or (sequence b) 0 0 ∷ get_or (sequence b) 1 0 ∷ []
+letter_two b h l = rw (letter_sequence b h l) refl
 
 pub letter_within : (b : ℕ) → has_row b ≡ true → 0x80 ≤ b → 0xA8 ≤ b
 unfolding everything
@@ -126,7 +140,3 @@ letter_within b h l = leb-true 0xA8 b (rw (lt-leb b 0x7F (omega arith)) at
 pub sequences_read : {t : List ℕ} {j : ℕ} → t ≡ sequences → j < 88 → get_or t j 0 ≡ sequence_of j
 unfolding sequences
 sequences_read = tabulate_read sequence_of 88
-
-pub sequence_small : (j : ℕ) → j < 88 → sequence_of j ≤ 0xFFFF
-unfolding everything sequence_of both
-sequence_small j h = leb-true (sequence_of j) 0xFFFF (below_same (λ x. leb (sequence_of x) 0xFFFF) (λ _. true) 88 j refl h)

@@ -1,7 +1,7 @@
 -- Both walks go by sequences: what stands at a place tells how far the next one reaches, and that it adds one byte.
 use Rattle.laws.proofs.Kit.{ℕ, zero, suc, ◌+◌, ◌<◌, ◌≤◌, arith, add-one, ◌≡◌, refl, sym, ap, ◌∙◌, ⊎_elim, true, false, List, [], ◌∷◌, ◌++◌}
 use Rattle.laws.proofs.Kit.{append-nil, length, take, drop, get_or, set, length-append, length-drop, drop-cons, drop-drop}
-use Rattle.laws.proofs.Kit.{drop_of_length-le, get_or-drop, take_all, take-suc}
+use Rattle.laws.proofs.Kit.{drop_of_length-le, get_or-drop, take-suc}
 use Rattle.spec.specs.Tables.{among}
 use Rattle.spec.specs.Utf8.{ascii_bytes, has_row, sequence, byte_of, is_taken, encoded, decoded, read_to, AllRows}
 use Rattle.laws.proofs.Classes.{either, below_or}
@@ -166,9 +166,6 @@ pub record Copies (t out₀ out : List ℕ) (i n : ℕ) : Type 0 where
   pub stands : Stands t i n
   pub put : Put (take n (decoded t)) out₀ out n 0
 
-pub copies_none : (t out : List ℕ) → Copies t out out 0 0
-copies_none t out = record { stands = stands_none t; put = put_none out 0 }
-
 module _ {t out₀ out : List ℕ} {i n : ℕ} (s : Copies t out₀ out i n) (room : length (decoded t) ≤ length out₀) where
   -- one byte more is put
   copies_more : {k : ℕ} {o : List ℕ} (x : Next t i k o) → Copies t out₀ (set out n (byte_of o)) (i + k) (n + 1)
@@ -178,10 +175,6 @@ module _ {t out₀ out : List ℕ} {i n : ℕ} (s : Copies t out₀ out i n) (ro
       let p = put_behind (omega (arith, b.0)) s.put (put_at out n (byte_of o) (omega (arith, l, b.0))) in
       let e : take (n + 1) (decoded t) ≡ take n (decoded t) ++ (byte_of o ∷ []) = rw (add-one n, take-suc (decoded t) n 0 b.0, b.1) refl in
       record { stands = stands_more s.stands x; put = rw e p }
-
-  -- there is room for it
-  pub copies_room : {k : ℕ} {o : List ℕ} (x : Next t i k o) → n < length out
-  copies_room x = let b = next_byte s.stands x in omega (arith, put_length _ _ _ _ _ (omega (arith, b.0)) s.put, b.0)
 
   -- It is the octet itself, or the letter's byte.
   module _ (more : n < length (decoded t)) (bytes : (j : ℕ) → get_or t j 0 < 256) where
@@ -193,13 +186,6 @@ module _ {t out₀ out : List ℕ} {i n : ℕ} (s : Copies t out₀ out i n) (ro
     pub copies_letter : {b : ℕ} → 0x80 ≤ get_or t i 0 → b ≡ byte_of (get_or t i 0 ∷ get_or t (i + 1) 0 ∷ [])
         → Copies t out₀ (set out n b) (i + 2) (n + 1)
     copies_letter l e = rw e (copies_more (copy_letter s.stands more bytes l))
-
--- At the end all of it is put.
-pub copies_end : {t out₀ out : List ℕ} {i n : ℕ} → Copies t out₀ out i n → length (decoded t) ≤ n
-    → Put (decoded t) out₀ out (length (decoded t)) 0
-copies_end {t} {out₀} {out} {i} {n} s l =
-    let e : n ≡ length (decoded t) = omega (arith, s.stands.most) in
-    rw (← e) (rw (take_all n (decoded t) l) at s.put)
 
 -- Every byte of a message with rows has one.
 pub row_at : (m : List ℕ) (i : ℕ) → AllRows m → i < length m → has_row (get_or m i 0) ≡ true
@@ -266,6 +252,3 @@ module _ {m out₀ out : List ℕ} {i at : ℕ} (w : Writes m out₀ out i at) (
       let q = put_at (set out at lead) (at + 1) next (omega (arith, put_length _ _ _ _ _ (omega arith) p)) in
       let z : at + 1 + 1 ≡ at + 2 = omega arith in
       writes_more (ap length e) (rw e (put_behind r p (rw z at q)))
-
-pub writes_end : {m out₀ out : List ℕ} {i at : ℕ} → Writes m out₀ out i at → length m ≤ i → Put (encoded m) out₀ out at 0
-writes_end {m} {i = i} w l = rw (take_all i m l) at w.put

@@ -1,9 +1,8 @@
 -- How the code of reader and writer goes: a sequence at a time.
 -- Assumes nothing: these are definitions.
-use Rattle.std.specs.Prelude.{ℕ, ◌+◌, ◌≤◌, ◌≡◌, List, [], ◌∷◌, length, drop}
-use Rattle.spec.specs.Utf8.{sequence, decoded, read_to}
+use Rattle.std.specs.Prelude.{ℕ, ◌+◌, ◌≤◌, ◌≡◌, List, length, drop}
+use Rattle.spec.specs.Utf8.{decoded, read_to}
 use Rattle.utf8.specs.declared.Extent.{Extent}
-use Rattle.utf8.specs.declared.Letter.{Letter}
 
 -- A loop over a text stands at place i and has read n bytes: from there on the rest is read, of the
 -- octets and of the bytes.
@@ -17,7 +16,3 @@ pub record Stands (t : List ℕ) (i n : ℕ) : Type 0 where
 pub record Reaches (t : List ℕ) (r : Extent) : Type 0 where
   pub octets : r.octets ≡ read_to t
   pub bytes : r.bytes ≡ length (decoded t)
-
--- the octets of a letter
-pub record Octets (b : ℕ) (r : Letter) : Type 0 where
-  pub both : sequence b ≡ r.lead ∷ r.next ∷ []

@@ -10,10 +10,3 @@ pub struct Extent {
     pub octets: usize,
     pub bytes: usize,
 }
-
-// The two octets of a letter.
-#[derive(Clone, Copy)]
-pub struct Letter {
-    pub lead: u8,
-    pub next: u8,
-}

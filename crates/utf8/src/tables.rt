@@ -1,12 +1,8 @@
 // The tables that reader and writer ask. specs/Tables.antt has their rules, and that these numbers
-// keep them is shown here once; whoever goes over a text makes a copy and lends it.
+// keep them is shown where each is read.
 ghost use Rattle.std.specs.Prelude.{◌≡◌, true, false, [], ◌∷◌, ◌≤◌};
 ghost use Rattle.spec.specs.Tables.{among};
-ghost use Rattle.spec.specs.Utf8.{ascii_bytes, has_row, byte_of, is_taken};
-ghost use Rattle.utf8.specs.Tables.{leads, letters, sequences};
-ghost use Rattle.utf8.specs.Walk.{Octets};
-
-use crate::Letter;
+ghost use Rattle.spec.specs.Utf8.{ascii_bytes, has_row, sequence, byte_of, is_taken};
 
 // What the letters begin with: А to п and Ё, р to я and ё.
 const D0: u8 = 0xD0;
@@ -16,15 +12,9 @@ const D1: u8 = 0xD1;
 // What none begins with.
 const NO: u8 = b' ';
 
-pub type LeadTable = [u8; 256];
-
-pub type LetterTable = [u8; 128];
-
-pub type SequenceTable = [u16; 88];
-
 // What a letter begins with, by the octet that it ends with. Ё and ё are not here: с and Б end like
 // them.
-const LEADS: LeadTable = [
+static LEADS: [u8; 256] = [
     NO, // 00
     NO, // 01
     NO, // 02
@@ -284,7 +274,7 @@ const LEADS: LeadTable = [
 ];
 
 // The letters by their numbers, from 0x400 on.
-const LETTERS: LetterTable = [
+static LETTERS: [u8; 128] = [
     0, // 0400
     0xA8, // 0401 Ё
     0, // 0402
@@ -416,7 +406,7 @@ const LETTERS: LetterTable = [
 ];
 
 // The octets of the letters by their bytes, from that of Ё on.
-const SEQUENCES: SequenceTable = [
+static SEQUENCES: [u16; 88] = [
     0xD081, // A8 Ё
     0, // A9
     0, // AA
@@ -507,54 +497,29 @@ const SEQUENCES: SequenceTable = [
     0xD18F, // FF я
 ];
 
-// A copy of the one table.
-pub fn lead_table() -> LeadTable
-    ensures { result ≡ leads }
-{
-    LEADS
-}
-
-// And of the other.
-pub fn letter_table() -> LetterTable
-    ensures { result ≡ letters }
-{
-    LETTERS
-}
-
-// And of the writer's.
-pub fn sequence_table() -> SequenceTable
-    ensures { result ≡ sequences }
-{
-    SEQUENCES
-}
-
 // Are these the octets of a letter? The first is known not to stand for itself.
-pub fn is_letter(lead: u8, next: u8, t: &LeadTable) -> bool
-    requires { (t.now ≡ leads) × (among ascii_bytes lead ≡ false) }
+pub fn is_letter(lead: u8, next: u8) -> bool
+    requires { among ascii_bytes lead ≡ false }
     ensures { result ≡ is_taken (lead ∷ next ∷ []) }
 {
-    if t[next as usize] == lead {
+    if LEADS[next as usize] == lead {
         return true;
     }
     ((lead == D0) & (next == 0x81)) | ((lead == D1) & (next == 0x91))
 }
 
 // The letter whose octets these are.
-pub fn letter(lead: u8, next: u8, t: &LetterTable) -> u8
-    requires { (t.now ≡ letters) × (is_taken (lead ∷ next ∷ []) ≡ true) }
+pub fn letter(lead: u8, next: u8) -> u8
+    requires { is_taken (lead ∷ next ∷ []) ≡ true }
     ensures { result ≡ byte_of (lead ∷ next ∷ []) }
 {
-    t[64 * (lead as usize - 0xD0) + (next as usize - 0x80)]
+    LETTERS[64 * (lead as usize - 0xD0) + (next as usize - 0x80)]
 }
 
 // The octets of a letter.
-pub fn octets(b: u8, t: &SequenceTable) -> Letter
-    requires { (t.now ≡ sequences) × (0x80 ≤ b) × (has_row b ≡ true) }
-    ensures { Octets b result }
+pub fn octets(b: u8) -> [u8; 2]
+    requires { (0x80 ≤ b) × (has_row b ≡ true) }
+    ensures { result ≡ sequence b }
 {
-    let both = t[b as usize - 0xA8];
-    Letter {
-        lead: (both / 256) as u8,
-        next: (both % 256) as u8,
-    }
+    SEQUENCES[b as usize - 0xA8].to_be_bytes()
 }

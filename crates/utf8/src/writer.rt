@@ -6,55 +6,46 @@ ghost use Rattle.spec.specs.Refusals.{NoneFits};
 ghost use Rattle.spec.specs.Answers.{within, Promise};
 ghost use Rattle.spec.specs.Utf8.{has_row, sequence, encoded, AllRows, WritePromise};
 ghost use Rattle.laws.specs.Putting.{Put};
-ghost use Rattle.utf8.specs.Tables.{sequences};
 
-use crate::tables::{SequenceTable, octets, sequence_table};
+use crate::tables::octets;
 use message::check::check;
-use spec::{Answer, Checked, Refusal, numbers};
+use spec::{Refusal, Written, numbers};
 
 // How many octets a byte of a message has.
 fn width(b: u8) -> usize
     requires { has_row b ≡ true }
     ensures { result ≡ length (sequence b) }
 {
-    if b < 0x80 {
-        return 1;
-    }
-    2
+    if b < 0x80 { 1 } else { 2 }
 }
 
-// How many octets a message has.
+// How many octets a message has. It only counts, and write_octets writes: one walk for both is no
+// plainer, for it would take what it does with a byte as a parameter with a contract.
 fn measure(m: &[u8]) -> usize
     requires { AllRows m.now × (length m.now ≤ message_max) }
     ensures { result ≡ length (encoded m.now) }
 {
     let mut n = 0;
-    let mut i = 0;
-    while i < m.len() {
-        n += width(m[i]);
-        i += 1;
+    for &b in m {
+        n += width(b);
     }
     n
 }
 
 // Writes the octets of a message, where there is room for them, and answers how many they are.
-fn write_octets(m: &[u8], out: &mut [u8], t: &SequenceTable) -> usize
-    requires { (t.now ≡ sequences) × AllRows m.now × (length (encoded m.now) ≤ length out.old) }
+fn write_octets(m: &[u8], out: &mut [u8]) -> usize
+    requires { AllRows m.now × (length (encoded m.now) ≤ length out.old) }
     ensures { Put (encoded m.now) out.old out.new result 0 }
 {
-    let mut i = 0;
     let mut at = 0;
-    while i < m.len() {
-        let b = m[i];
+    for &b in m {
         if b < 0x80 {
             out[at] = b;
-            i += 1;
             at += 1;
         } else {
-            let letter = octets(b, t);
-            out[at] = letter.lead;
-            out[at + 1] = letter.next;
-            i += 1;
+            let [lead, next] = octets(b);
+            out[at] = lead;
+            out[at + 1] = next;
             at += 2;
         }
     }
@@ -63,7 +54,7 @@ fn write_octets(m: &[u8], out: &mut [u8], t: &SequenceTable) -> usize
 
 // Writes an accepted message. Only an output that is shorter than two octets for each byte can be
 // too short.
-fn write_accepted(m: &[u8], out: &mut [u8]) -> Answer
+fn write_accepted(m: &[u8], out: &mut [u8]) -> Result<Written, Refusal>
     requires { NoneFits m.now }
     ensures { Promise (within (length out.old) (length (encoded m.now)) 0)
         (encoded m.now) out.old out.new result }
@@ -71,23 +62,20 @@ fn write_accepted(m: &[u8], out: &mut [u8]) -> Answer
     if out.len() < 2 * m.len() {
         let n = measure(m);
         if out.len() < n {
-            return Answer::Refused(Refusal {
+            return Err(Refusal {
                 number: numbers::SHORT_OUTPUT,
                 place: n,
             });
         }
     }
-    let sequences = sequence_table();
-    let length = write_octets(m, out, &sequences);
-    Answer::Written { length, live: 0 }
+    let length = write_octets(m, out);
+    Ok(Written { length, live: 0 })
 }
 
 // Writes a message in UTF-8 at the start of the lent output, or refuses and leaves every byte.
-pub fn write_utf8(m: &[u8], out: &mut [u8]) -> Answer
+pub fn write_utf8(m: &[u8], out: &mut [u8]) -> Result<Written, Refusal>
     ensures { WritePromise m.now out.old out.new result }
 {
-    match check(m) {
-        Checked::Accepted(_) => write_accepted(m, out),
-        Checked::Refused(r) => Answer::Refused(r),
-    }
+    check(m)?;
+    write_accepted(m, out)
 }

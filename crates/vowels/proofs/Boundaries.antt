@@ -8,14 +8,12 @@ use Rattle.spec.specs.{Vowels.initial, Vowels.hard_end}
 use Rattle.letters.specs.Classes.{class_of, gap_class, pause_class, soft_sign_class, is_break_class, byte_before}
 use Rattle.letters.specs.Places.{last_at, Steady}
 use Rattle.letters.proofs.Bytes.{by_class, not_both, vowel_break, vowel_mark}
-use Rattle.letters.proofs.{Before.ClassesAlike, Before.classes_alike, Before.byte_tells, Computed.everything}
+use Rattle.letters.proofs.{Before.classes_alike, Before.byte_tells, Computed.everything}
 use Rattle.laws.proofs.Classes.{cond_by, either, below_same}
 use Rattle.stress.specs.Before.{class_before}
 use Rattle.stress.specs.Places.{last_but_one_at, hard_at}
 use Rattle.stress.proofs.Raw.{start_class, before_class}
 use Rattle.vowels.specs.VowelSounds.{Told, letter_before, hard_before}
-use Rattle.vowels.specs.declared.LetterBefore.{LetterBefore}
-use Rattle.vowels.specs.declared.LetterBefore.TheVariants.{None, Byte}
 
 -- a gap's class is its own
 gap_class_lem : (b : ℕ) → b < 256 → is_gap b ≡ eqb (class_of b) gap_class
@@ -26,14 +24,6 @@ gap_class_lem b h = below_same is_gap (λ x. eqb (class_of x) gap_class) 256 b r
 within_gap : (b : ℕ) → b < 256 → is_break b ≡ false → eqb (class_of b) gap_class ≡ false
 unfolding everything
 within_gap b h s = not_both (λ x. not (is_break x)) (λ x. eqb (class_of x) gap_class) b refl h (ap not s)
-
--- what is told where no letter stands before
-pub told_none : {b : LetterBefore} {q : ℕ} → b ≡ None → Told b q → q ≡ 0
-told_none e t = rw e at t
-
--- and where a letter does
-pub told_byte : {b : LetterBefore} {p q : ℕ} → b ≡ Byte p → Told b q → (initial q ≡ false) × ClassesAlike q (small p)
-told_byte e t = let u = rw e at t in (u.1.first ∙ u.0, classes_alike u.1.letter)
 
 -- only at the start is the byte before a place a pause that is not there
 pub past_start : (m : List ℕ) (i : ℕ) {k : ℕ} → k ≡ class_before m i → (k ≡ pause_class → ⊥) → 0 < i
@@ -88,4 +78,5 @@ module _ (m : List ℕ) (steady : Steady m) where
       let x : suc i - 1 ≡ i = omega arith in
       let y : suc i - 2 ≡ i - 1 = omega arith in
       let P : Bool → Type 0 = λ t. t ≡ hard_before m (suc i) in
-      cond_by P (is_break b) (λ s. rw (gap_class_lem b t, end_raw i (omega arith), x, y)) (λ s. cond_by P (is_mark b) (λ k. rw (mark_soft i h k, within_gap b t s)) (λ k. rw (within_gap b t s)))
+      cond_by P (is_break b) (λ s. rw (gap_class_lem b t, end_raw i (omega arith), x, y)) (λ s.
+      cond_by P (is_mark b) (λ k. rw (mark_soft i h k, within_gap b t s)) (λ k. rw (within_gap b t s)))

@@ -1,4 +1,3 @@
 pub mod Boundaries
 pub mod Keys
-pub mod Readings
 pub mod VowelSounds

@@ -2,7 +2,7 @@
 use Rattle.laws.proofs.Kit.{ℕ, ◌<◌, ◌≤◌, ◌≡◌, List, arith, length, get_or}
 use Rattle.spec.specs.{Letters.small, Vowels.glides, declared.Edition.Edition, declared.Cover.Cover, declared.Level.Level}
 use Rattle.spec.specs.{declared.Syllable.Syllable}
-use Rattle.letters.specs.{Classes.class_count, Classes.class_of, Places.last_at, Places.Steady}
+use Rattle.letters.specs.{Classes.class_of, Places.last_at, Places.Steady}
 use Rattle.letters.proofs.Bytes.{by_class}
 use Rattle.stress.specs.Before.{class_before, syllable_by}
 use Rattle.stress.specs.Places.{syllable_at}
@@ -23,10 +23,6 @@ module _ (m : List ℕ) (steady : Steady m) where
 
 -- a vowel may be sung
 module _ {m : List ℕ} {i c : ℕ} {level : Level} (a : VowelAt m i c level) where
-  -- its class is a byte's
-  pub class_small : c < class_count
-  class_small = rw a.class (by_class (get_or m i 0) (a.steady.bytes i)).class
-
   -- what is found of it by the letter before it, the class of the byte before, its own class, and the level is what the passes make of it
   pub sung_by : {e : Edition} {k : ℕ} {s : Syllable} {v : Vowel} → k ≡ class_before m i → s ≡ syllable_by k level
       → RowAt e (row_of (small (get_or m i 0))) m i s v.code → v.glide ≡ glide_by c s.cover k → Sung e m i v

@@ -2,7 +2,7 @@
 -- are not the paper's words: `proofs/` shows that they agree with them.
 -- Assumes nothing: these are definitions.
 use Rattle.std.specs.Prelude.{ℕ, ◌-◌, ◌<◌, ◌≡◌, Bool, false, cond, ◌&&◌, ◌||◌, List, [], ◌∷◌, eqb}
-use Rattle.std.specs.Prelude.{length, get_or}
+use Rattle.std.specs.Prelude.{length, get_or, Option, None, Some}
 use Rattle.spec.specs.Letters.{small, is_break}
 use Rattle.spec.specs.Vowels.{hard_end, vowel_sound, bare, glides}
 use Rattle.letters.specs.Classes.{gap_class, soft_sign_class, vowel_o_class, iotated_class}
@@ -18,8 +18,6 @@ use Rattle.letters.specs.Places.{last_at, Steady, ByteTells}
 use Rattle.spec.specs.declared.Level.{Level}
 use Rattle.stress.specs.Places.{syllable_at, hard_at}
 use Rattle.stress.specs.Levels.{level_at}
-use Rattle.vowels.specs.declared.LetterBefore.{LetterBefore}
-use Rattle.vowels.specs.declared.LetterBefore.TheVariants.{None, Byte}
 use Rattle.vowels.specs.declared.Vowel.{Vowel}
 
 -- the sounds of a vowel b after p
@@ -30,23 +28,23 @@ vowel_codes hard p b s =
 
 -- what is told of the letter q before, 0 for none: it is none, or the byte before is no break and
 -- tells of it
-abbrev pub Told : LetterBefore → ℕ → Type 0
+abbrev pub Told : Option ℕ → ℕ → Type 0
 Told None q = q ≡ 0
-Told (Byte p) q = (is_break p ≡ false) × ByteTells p q
+Told (Some p) q = (is_break p ≡ false) × ByteTells p q
 
 -- r is what a row says of syllable s after every letter that is told of; where the row's line does
 -- not ask for the boundary, hard is all one
-abbrev pub ByRow : (Bool → ℕ → Syllable → ℕ) → Bool → LetterBefore → Syllable → ℕ → Type 0
+abbrev pub ByRow : (Bool → ℕ → Syllable → ℕ) → Bool → Option ℕ → Syllable → ℕ → Type 0
 ByRow row hard before s r = (q : ℕ) → Told before q → r ≡ row hard q s
 
 -- r is its code in edition e
-abbrev pub ByRowIn : Edition → (Bool → ℕ → Syllable → ℕ) → Bool → LetterBefore → Syllable → ℕ
+abbrev pub ByRowIn : Edition → (Bool → ℕ → Syllable → ℕ) → Bool → Option ℕ → Syllable → ℕ
     → Type 0
 ByRowIn e row hard before s r = (q : ℕ) → Told before q → r ≡ code_in e (row hard q s)
 
 -- the letter before place i
-unfoldable pub letter_before : List ℕ → ℕ → LetterBefore
-letter_before m i = cond (is_break_class (class_before m i)) None (Byte (byte_before m i))
+unfoldable pub letter_before : List ℕ → ℕ → Option ℕ
+letter_before m i = cond (is_break_class (class_before m i)) None (Some (byte_before m i))
 
 -- a hard boundary stands before place i: a gap is there, and the word before it ends hard, as its
 -- last two bytes tell

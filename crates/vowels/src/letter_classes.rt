@@ -1,51 +1,57 @@
 // The classes of consonants (paper 01, 'Bytes of a message'), each told by a match over the
 // Windows-1251 codes of its letters, small and capital, with a range where letters of the class are
 // neighbours in the alphabet.
+
 ghost use Rattle.std.specs.Prelude.{◌≡◌};
 ghost use Rattle.spec.specs.Letters.{small, is_hard_only, is_paired, is_soft_only};
 
 use spec::alphabet;
 
 // Class T: ж ш ц.
-#[tactic(auto, using(std::proofs::lemmas::Bool::Decides::nat_tests), unfolding(spec::specs::Letters::small, spec::specs::Letters::is_hard_only, spec::specs::Tables::among))]
 pub fn is_hard_only(b: u8) -> bool
     ensures { result ≡ is_hard_only (small b) }
 {
-    match b {
-        alphabet::ZHE | alphabet::TSE | alphabet::SHA => true,
-        alphabet::CAPITAL_ZHE | alphabet::CAPITAL_TSE | alphabet::CAPITAL_SHA => true,
-        _ => false,
-    }
+    matches!(
+        b,
+        alphabet::ZHE
+            | alphabet::TSE
+            | alphabet::SHA
+            | alphabet::CAPITAL_ZHE
+            | alphabet::CAPITAL_TSE
+            | alphabet::CAPITAL_SHA
+    )
 }
 
 // Class P: б в г д з к л м н п р с т ф х.
-#[tactic(auto, using(std::proofs::lemmas::Bool::Decides::nat_tests), unfolding(spec::specs::Letters::small, spec::specs::Letters::is_paired, spec::specs::Tables::among))]
 pub fn is_paired(b: u8) -> bool
     ensures { result ≡ is_paired (small b) }
 {
-    match b {
+    matches!(
+        b,
         alphabet::BE..=alphabet::DE
         | alphabet::ZE
         | alphabet::KA..=alphabet::EN
         | alphabet::PE..=alphabet::TE
-        | alphabet::EF..=alphabet::HA => true,
-        alphabet::CAPITAL_BE..=alphabet::CAPITAL_DE
+        | alphabet::EF..=alphabet::HA
+        | alphabet::CAPITAL_BE..=alphabet::CAPITAL_DE
         | alphabet::CAPITAL_ZE
         | alphabet::CAPITAL_KA..=alphabet::CAPITAL_EN
         | alphabet::CAPITAL_PE..=alphabet::CAPITAL_TE
-        | alphabet::CAPITAL_EF..=alphabet::CAPITAL_HA => true,
-        _ => false,
-    }
+        | alphabet::CAPITAL_EF..=alphabet::CAPITAL_HA
+    )
 }
 
 // Class Q: ч щ й.
-#[tactic(auto, using(std::proofs::lemmas::Bool::Decides::nat_tests), unfolding(spec::specs::Letters::small, spec::specs::Letters::is_soft_only, spec::specs::Tables::among))]
 pub fn is_soft_only(b: u8) -> bool
     ensures { result ≡ is_soft_only (small b) }
 {
-    match b {
-        alphabet::SHORT_I | alphabet::CHE | alphabet::SHCHA => true,
-        alphabet::CAPITAL_SHORT_I | alphabet::CAPITAL_CHE | alphabet::CAPITAL_SHCHA => true,
-        _ => false,
-    }
+    matches!(
+        b,
+        alphabet::SHORT_I
+            | alphabet::CHE
+            | alphabet::SHCHA
+            | alphabet::CAPITAL_SHORT_I
+            | alphabet::CAPITAL_CHE
+            | alphabet::CAPITAL_SHCHA
+    )
 }

@@ -4,20 +4,20 @@ use Rattle.spec.specs.Answers.{output_after}
 use Rattle.laws.proofs.Promises.{promised}
 use Rattle.capi.proofs.govorun_book_add.Goals as goal
 
-pub returns-in-Known : goal.returns-in-Known
+pub returns-in-Some : goal.returns-in-Some
 unfolding output_after
-returns-in-Known c =
+returns-in-Some c =
     record {
       answer = c.add.result;
-      promise = rw (sym c.in-Known.ensures) (rw c.edition_of.ensures at c.add.ensures);
-      said = c.tell_added.ensures;
+      promise = rw (sym c.in-Some.ensures) (rw c.edition_of.ensures at c.add.ensures);
+      said = c.from.ensures;
     }
 
-pub returns-in-Other : goal.returns-in-Other
+pub returns-in-None : goal.returns-in-None
 unfolding output_after
-returns-in-Other c =
+returns-in-None c =
     record {
       answer = _;
-      promise = rw (sym c.in-Other.ensures, c.not_for_listener.ensures) (promised _ _ _ _ _ refl refl);
-      said = c.tell_added-in-Other.ensures;
+      promise = rw (sym c.in-None.ensures, c.not_for_listener.ensures) (promised _ _ _ _ _ refl refl);
+      said = c.from-in-None.ensures;
     }

@@ -4,8 +4,8 @@ use Rattle.editor.specs.Walk.{others}
 use Rattle.editor.proofs.Walking.{Counting, Copying}
 use Rattle.editor.proofs.copy_word.Given as goal
 
-abbrev pub invariant-loop-k : goal.invariant-loop-k
-invariant-loop-k l = Counting others l.text l.k × Copying l.text l.initial.out l.out l.k
+abbrev pub invariant-loop-out : goal.invariant-loop-out
+invariant-loop-out l = record { counted : Counting others l.text l.k; copied : Copying l.text l.initial.out l.out l.k }
 
-abbrev pub decreases-loop-k : goal.decreases-loop-k
-decreases-loop-k l = length l.text - l.k
+abbrev pub decreases-loop-out : goal.decreases-loop-out
+decreases-loop-out l = length l.text - l.k

@@ -1,12 +1,7 @@
 -- What stands between the breaks at the ends is what is edited.
-use Rattle.laws.proofs.Kit.{sym, length-take-le}
 use Rattle.spec.specs.Editing.{edit_answer}
-use Rattle.editor.proofs.Walking.{from_most, between_edited, between_word}
+use Rattle.editor.proofs.Walking.{from_most, between_edited}
 use Rattle.editor.proofs.edit.Goals as goal
-
-pub slice_bounds-first_breaks-end : goal.slice_bounds-first_breaks-end
-unfolding edit_answer
-slice_bounds-first_breaks-end c = sym (length-take-le _ _ c.last_breaks-end.ensures.trailing.within)
 
 pub slice_bounds-edit_between-count : goal.slice_bounds-edit_between-count
 unfolding edit_answer
@@ -15,10 +10,6 @@ slice_bounds-edit_between-count c = from_most _ c.last_breaks-end.ensures c.firs
 pub slice_bounds-edit_between-start : goal.slice_bounds-edit_between-start
 unfolding edit_answer
 slice_bounds-edit_between-start c = from_most _ c.last_breaks-end.ensures c.first_breaks-from.ensures
-
-pub edit_between-requires : goal.edit_between-requires
-unfolding edit_answer
-edit_between-requires c = between_word _ c.last_breaks-end.ensures c.first_breaks-from.ensures
 
 pub returns : goal.returns
 unfolding edit_answer

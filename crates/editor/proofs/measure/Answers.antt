@@ -1,16 +1,7 @@
-use Rattle.laws.proofs.Kit.{[], refl, arith}
+use Rattle.laws.proofs.Kit.{arith}
 use Rattle.laws.proofs.Edited.{walk_length}
 use Rattle.editor.proofs.Walking.{stands_most, stands_reads, stands_further, stands_more, stands_end}
 use Rattle.editor.proofs.measure.Goals as goal
-
-pub loop-i-init : goal.loop-i-init
-loop-i-init c = ([], record { within = omega arith; size = refl; rest = refl })
-
-pub slice_bounds-pass_word-count : goal.slice_bounds-pass_word-count
-slice_bounds-pass_word-count c = c.loop-i.invariant.1.within
-
-pub slice_bounds-pass_word-start : goal.slice_bounds-pass_word-start
-slice_bounds-pass_word-start c = c.loop-i.invariant.1.within
 
 pub pass_word-stride-requires : goal.pass_word-stride-requires
 pass_word-stride-requires c = stands_reads c.loop-i.invariant.1 c.requires c.loop-i-test.true
@@ -29,9 +20,6 @@ loop-i-smaller c = stands_further c.loop-i.invariant.1 c.requires c.loop-i-test.
 
 pub loop-i-preserved : goal.loop-i-preserved
 loop-i-preserved c = (_, stands_more c.loop-i.invariant.1 c.requires c.loop-i-test.true c.pass_word-stride.ensures)
-
-pub overflow_sub-result : goal.overflow_sub-result
-overflow_sub-result c = c.loop-i.invariant.1.within
 
 pub overflow_add-result : goal.overflow_add-result
 overflow_add-result c =

@@ -1,4 +1,4 @@
-use Rattle.laws.proofs.Kit.{◌<◌, refl, sym, ◌∙◌, arith, length}
+use Rattle.laws.proofs.Kit.{◌<◌, refl, sym, ◌∙◌, length}
 use Rattle.spec.specs.Letters.{is_break}
 use Rattle.laws.specs.Edited.{breaks}
 use Rattle.editor.proofs.Walking.{counting_none, counting_within, running_pause, running_gap, running_stop}
@@ -13,31 +13,11 @@ pub loop-becomes-init : goal.loop-becomes-init
 unfolding is_break
 loop-becomes-init c = record { counted = counting_none breaks _; some = refl; run = refl }
 
-pub bounds-text-k : goal.bounds-text-k
-unfolding is_break
-bounds-text-k c = within (goal.at.bounds-text-k c).At-loop-becomes
-
-pub overflow_add-k : goal.overflow_add-k
-unfolding is_break
-overflow_add-k c = omega (arith, within (goal.at.overflow_add-k c).At-loop-becomes)
-
-pub loop-becomes-smaller-then-is_pause : goal.loop-becomes-smaller-then-is_pause
-unfolding is_break
-loop-becomes-smaller-then-is_pause c = omega (arith, within (goal.at.loop-becomes-smaller-then-is_pause c).At-loop-becomes)
-
 pub loop-becomes-preserved-then-is_pause : goal.loop-becomes-preserved-then-is_pause
 unfolding is_break
 loop-becomes-preserved-then-is_pause c =
     let h = within (goal.at.loop-becomes-preserved-then-is_pause c).At-loop-becomes in
     running_pause c.loop-becomes.invariant h (sym c.is_pause.ensures ∙ c.if-is_pause.true)
-
-pub overflow_add-k-then-is_gap : goal.overflow_add-k-then-is_gap
-unfolding is_break
-overflow_add-k-then-is_gap c = omega (arith, within (goal.at.overflow_add-k-then-is_gap c).At-loop-becomes)
-
-pub loop-becomes-smaller : goal.loop-becomes-smaller
-unfolding is_break
-loop-becomes-smaller c = omega (arith, within (goal.at.loop-becomes-smaller c).At-loop-becomes)
 
 pub loop-becomes-preserved : goal.loop-becomes-preserved
 unfolding is_break

@@ -1,13 +1,10 @@
 -- The end of the last word is settled before the loop.
 use Rattle.laws.proofs.Kit.{◌≡◌, ◌∙◌, arith}
-use Rattle.laws.proofs.Putting.{put_length, put_rest, put_first_lem}
-use Rattle.letters.proofs.Filling.{writing_length, writing_ready, writing_more}
-use Rattle.stress.proofs.Levelling.{levels_done, levels_taken, end_due}
+use Rattle.laws.proofs.Putting.{put_rest, put_first_lem}
+use Rattle.letters.proofs.Filling.{writing_ready, writing_more}
+use Rattle.stress.proofs.Levelling.{levels_done, levels_taken}
 use Rattle.naming.proofs.{Namings.end_ends, Namings.naming_none, Names.names_start}
 use Rattle.naming.proofs.fill_names.Goals as goal
-
-pub shape_of-out : goal.shape_of-out
-shape_of-out c = writing_length c.loop-i.invariant ∙ put_length _ _ _ _ _ c.requires.room c.put_end-at.ensures
 
 pub returns : goal.returns
 returns c =
@@ -19,16 +16,13 @@ returns c =
     )
 
 pub put_end-at-requires : goal.put_end-at-requires
-put_end-at-requires c = (c.class_table-t.ensures, end_ends c.requires)
-
-pub look_back-levels-requires : goal.look_back-levels-requires
-look_back-levels-requires c = rw c.at_word_end.ensures (end_due c.class_table-t.ensures c.requires.steady)
+put_end-at-requires c = end_ends c.requires
 
 pub loop-i-init : goal.loop-i-init
 loop-i-init c = naming_none c.requires (rw c.at_word_end.ensures at c.look_back-levels.ensures) c.put_end-at.ensures
 
 pub step-v-requires : goal.step-v-requires
-step-v-requires c = (c.class_table-t.ensures, writing_ready c.loop-i.invariant c.loop-i-test.true)
+step-v-requires c = writing_ready c.loop-i.invariant c.loop-i-test.true
 
 pub loop-i-preserved : goal.loop-i-preserved
 loop-i-preserved c = writing_more c.loop-i.invariant c.loop-i-test.true c.step-v.ensures

@@ -11,13 +11,13 @@ use Rattle.naming.proofs.put_end.Goals.{After-is_consonant_or_sign}
 tail : (c : After-is_consonant_or_sign)
     → incomplete (last_at c.args.m.now c.args.i) ≡ cond c.is_consonant_or_sign.result (7 ∷ []) []
 tail c =
-    let w = c.requires.1 in
+    let w = c.requires in
     rw (c.is_consonant_or_sign.ensures, c.class_before.ensures) (incomplete_raw c.args.m.now w.steady c.args.i w.within)
 
 pub put-requires : goal.put-requires
 put-requires c =
     let t = tail (goal.at.put-requires c).After-is_consonant_or_sign in
-    (omega (arith, c.requires.1.room, rw c.if-is_consonant_or_sign.true at (ap length t)), c.requires.1.place)
+    (omega (arith, c.requires.room, rw c.if-is_consonant_or_sign.true at (ap length t)), c.requires.place)
 
 pub returns-then-is_consonant_or_sign : goal.returns-then-is_consonant_or_sign
 returns-then-is_consonant_or_sign c =

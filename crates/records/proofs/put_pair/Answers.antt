@@ -1,9 +1,12 @@
--- Two stores are two bytes put one behind the other.
-use Rattle.laws.proofs.Kit.{◌/◌, ◌%◌}
+-- The two bytes stand at the place, and what is behind them stays.
+use Rattle.laws.proofs.Kit.{arith, drop-drop, refl, ◌+◌, ◌-◌, ◌/◌, ◌%◌, ◌≡◌}
 use Rattle.spec.specs.Book.{two_bytes}
-use Rattle.laws.proofs.Putting.{put_two}
 use Rattle.records.proofs.put_pair.Goals as goal
 
 pub returns : goal.returns
 unfolding two_bytes
-returns c = put_two c.args.out.now c.args.i (c.args.n % 256) (c.args.n / 256) c.requires.1
+returns c =
+    let two : c.args.i + 2 - c.args.i ≡ 2 = omega arith in
+    let high : c.args.n / 256 % 256 ≡ c.args.n / 256 = omega arith in
+    let rest = drop-drop 2 c.args.i c.args.out.now in
+    record { place = refl; bytes = rw (two, c.copy_from_slice.ensures.after, c.to_le_bytes.ensures, high, rest) refl }

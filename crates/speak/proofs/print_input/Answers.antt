@@ -1,26 +1,13 @@
 -- What is written for the bytes that were kept is what is printed for the whole text.
-use Rattle.laws.proofs.Kit.{arith}
-use Rattle.console.proofs.{Inputs.printed_for, Inputs.written, Inputs.nothing_written, Inputs.some_told, Inputs.none_told, Kept.text_kept}
+use Rattle.std.proofs.Common.{arith, rules}
 use Rattle.spec.specs.Printed.{printed_text}
+use Rattle.console.proofs.{Inputs.answer_for, Kept.text_kept}
 use Rattle.speak.proofs.print_input.Goals as goal
 
-pub returns-then-end-eq0-clause-text : goal.returns-then-end-eq0-clause-text
-returns-then-end-eq0-clause-text g c = nothing_written printed_text _ _
-    (printed_for printed_text 65536 text_kept _ _ _ _ (omega arith) c.in-Bytes.ensures.within c.in-Bytes.ensures.bytes
-    c.in-Bytes.ensures.whole _ (rw c.if-end-eq0.true at c.print_text-end.ensures.print_after))
+pub returns-clause-text : goal.returns-clause-text
+returns-clause-text g c =
+    answer_for _ _ 65537 printed_text 65536 text_kept (omega arith) (λ t text r. search rules) _ _ _ c.print_input.ensures.text
 
-pub returns-then-end-eq0-clause-some : goal.returns-then-end-eq0-clause-some
-returns-then-end-eq0-clause-some g c = none_told printed_text _
-    (printed_for printed_text 65536 text_kept _ _ _ _ (omega arith) c.in-Bytes.ensures.within c.in-Bytes.ensures.bytes
-    c.in-Bytes.ensures.whole _ (rw c.if-end-eq0.true at c.print_text-end.ensures.print_after))
-
-pub returns-in-Ok-clause-text : goal.returns-in-Ok-clause-text
-returns-in-Ok-clause-text g c = written printed_text _ _ _ _
-    (printed_for printed_text 65536 text_kept _ _ _ _ (omega arith) c.in-Bytes.ensures.within c.in-Bytes.ensures.bytes
-    c.in-Bytes.ensures.whole _ c.print_text-end.ensures.print_after)
-    c.in-Ok.ensures.bytes
-
-pub returns-in-Ok-clause-some : goal.returns-in-Ok-clause-some
-returns-in-Ok-clause-some g c = some_told printed_text _ _ (omega (arith, c.print_text-end.ensures.prefix_len.1, c.if-end-eq0.false))
-    (printed_for printed_text 65536 text_kept _ _ _ _ (omega arith) c.in-Bytes.ensures.within c.in-Bytes.ensures.bytes
-    c.in-Bytes.ensures.whole _ c.print_text-end.ensures.print_after)
+pub returns-clause-some : goal.returns-clause-some
+returns-clause-some g c =
+    answer_for _ _ 65537 printed_text 65536 text_kept (omega arith) (λ t text r. search rules) _ _ _ c.print_input.ensures.some

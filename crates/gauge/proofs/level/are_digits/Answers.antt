@@ -1,13 +1,11 @@
-use Rattle.laws.proofs.Kit.{sym, ◌∙◌}
-use Rattle.gauge.proofs.Numbers.{digits_more, digits_stop, digits_end}
+use Rattle.std.proofs.Common.{rules, tests, leb, ◌&&◌, ◌∙◌}
+use Rattle.std.proofs.lemmas.Iterator.{YieldsList-from_slice}
+use Rattle.std.proofs.lemmas.Iterator.Search.{all_from_yields_List}
+use Rattle.gauge.proofs.Numbers.{digits_all}
 use Rattle.gauge.proofs.level.are_digits.Goals as goal
 
-pub loop-i-preserved : goal.loop-i-preserved
-loop-i-preserved c = digits_more _ _ c.loop-i-test.true (sym c.is_digit.ensures ∙ c.if-is_digit.true) ∙ c.loop-i.invariant
-
-pub returns-else-is_digit : goal.returns-else-is_digit
-returns-else-is_digit c =
-    sym (sym c.loop-i.invariant ∙ digits_stop _ _ c.loop-i-test.true (sym c.is_digit.ensures ∙ c.if-is_digit.false))
-
 pub returns : goal.returns
-returns c = sym (sym c.loop-i.invariant ∙ digits_end _ _ c.loop-i-test.false)
+returns c =
+    all_from_yields_List (λ b. leb 48 b && leb b 57) _ _ _ c.all.ensures.ran (YieldsList-from_slice c.args.t.now cc)
+    (λ x b q k. search (rules, tests))
+    ∙ digits_all c.args.t.now

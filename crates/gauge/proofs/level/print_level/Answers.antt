@@ -1,20 +1,16 @@
--- The newline is put after the answer, for which there is a byte more than an answer takes; a text that is no number has none.
-use Rattle.laws.proofs.Kit.{sym, ◌∙◌}
+-- The newline is put after the answer; what is no number has none.
+use Rattle.std.proofs.Common.{sym, ◌∙◌, refl, rules}
 use mir.Syntax.{w32}
+use mir.Val.{SFits}
 use mir.ValLaws.{to_z-of_z}
-use Rattle.spec.specs.{Tables.ascii, Printed.level_in, Printed.printed_level}
-use Rattle.console.proofs.Texts.{put_over}
-use Rattle.gauge.proofs.Texts.{like_printed}
+use Rattle.gauge.proofs.Texts.{printed_typed, printed_nothing}
 use Rattle.gauge.proofs.level.print_level.Goals as goal
 
-pub returns-then-is_decimal-clause-text_after : goal.returns-then-is_decimal-clause-text_after
-unfolding printed_level ascii
-returns-then-is_decimal-clause-text_after c =
-    let held = to_z-of_z w32 c.read_level.result (record { sfits = c.read_level.type_inv }) in
-    let like = like_printed c.read_level.result (level_in c.args.t.now) c.read_level.ensures in
-    rw (sym c.is_decimal.ensures ∙ c.if-is_decimal.true)
-    (put_over (rw (held, like) at c.put_level-end.ensures.appended) c.put_bytes.ensures).bytes
+pub returns-in_default : goal.returns-in_default
+returns-in_default c = c.new-text.ensures ∙ sym (printed_nothing _ c.in_default.ensures.number.1)
 
-pub returns-clause-text_after : goal.returns-clause-text_after
-unfolding printed_level
-returns-clause-text_after c = rw (sym c.is_decimal.ensures ∙ c.if-is_decimal.false)
+pub returns : goal.returns
+returns c =
+    let fits : SFits w32 c.in-Some.level = search rules in
+    rw (c.push.ensures.items, c.put_level.ensures.appended, c.new-text.ensures, to_z-of_z w32 c.in-Some.level fits)
+    (printed_typed c.args.t.now c.in-Some.level (c.in-Some.ensures.number.0 refl) c.in-Some.ensures.value)

@@ -1,39 +1,39 @@
 -- The refusals come in the definition's order, and else the second tape is written, which is as long as the message's.
-use Rattle.laws.proofs.Kit.{◌≡◌, sym, ◌∙◌, length-take-le, rules}
-use Rattle.spec.specs.{Refusals.check_of, Answers.join_answer, declared.Checked.TheVariants.Accepted}
+use Rattle.laws.proofs.Kit.{◌≡◌, sym, ◌∙◌, rules}
+use Rattle.spec.specs.{Refusals.check_of, Answers.join_answer}
 use Rattle.message.proofs.Answering.{answered_refused}
 use Rattle.joiner.proofs.Answering.{join_cut, join_short, tape_due, join_written}
 use Rattle.joiner.proofs.join.join.Goals as goal
-use Rattle.joiner.proofs.join.join.Goals.{After-bad_cut-bad}
+use Rattle.joiner.proofs.join.join.Goals.{After-check_cuts, In_ok-check_cuts}
+use Rattle.joiner.specs.Writing.{cuts_checked}
+use Rattle.std.proofs.lemmas.Result.{err_from_is_err_and}
+use Rattle.std.proofs.Common.{Ok}
 
--- the check accepted
-accepted : (c : After-bad_cut-bad) → check_of c.args.m.now ≡ Accepted c.in-Accepted.counts
-accepted c = sym c.check-checked.ensures.answer ∙ c.in-Accepted.is
+-- the check accepted and the list is good
+accepted : (c : After-check_cuts) → check_of c.args.m.now ≡ Ok c.in-Ok.counts
+accepted c = sym c.check-checked.ensures.answer ∙ c.in-Ok.is
+
+good : (c : In_ok-check_cuts) → cuts_checked c.args.m.now c.args.cuts.now ≡ Ok tt
+good c = sym c.check_cuts.ensures ∙ c.in_ok-check_cuts.was
 
 pub write_joined-counted-requires : goal.write_joined-counted-requires
-write_joined-counted-requires c = (
-  c.lay_tables-tables.ensures,
-  tape_due _ _ _ (accepted (goal.at.write_joined-counted-requires c).After-bad_cut-bad) c.bad_cut-bad.ensures c.if-bad-cuts.false c.if-out-n.false (λ j. search rules),
-)
+write_joined-counted-requires c = tape_due _ _ _ (accepted (goal.at.write_joined-counted-requires c).After-check_cuts)
+    (good (goal.at.write_joined-counted-requires c).In_ok-check_cuts) c.if-out-n.false (λ j. search rules)
 
 pub returns : goal.returns
 returns c =
     let j = c.write_joined-counted in
-    join_written _ _ _ (accepted (goal.at.returns c).After-bad_cut-bad) c.bad_cut-bad.ensures c.if-bad-cuts.false c.if-out-n.false _ j.new.out j.result
-    j.ensures
+    join_written _ _ _ (accepted (goal.at.returns c).After-check_cuts) (good (goal.at.returns c).In_ok-check_cuts) c.if-out-n.false _ j.new.out j.result j.ensures
 
 pub returns-in_default : goal.returns-in_default
 unfolding join_answer
 returns-in_default c = rw (c.refused.ensures, c.check-checked.ensures.answer) (answered_refused _ _ (sym c.check-checked.ensures.answer ∙ c.in_default.is))
 
-pub returns-then-bad-cuts : goal.returns-then-bad-cuts
-unfolding join_answer
-returns-then-bad-cuts c = join_cut _ _ _ (accepted (goal.at.returns-then-bad-cuts c).After-bad_cut-bad) c.bad_cut-bad.ensures _ c.if-bad-cuts.true
+pub returns-in_err-check_cuts : goal.returns-in_err-check_cuts
+returns-in_err-check_cuts c =
+    let p = err_from_is_err_and c.from_residual.result c.from_residual.ensures.1 in
+    rw (p.1, p.2) (join_cut _ _ _ (accepted (goal.at.returns-in_err-check_cuts c).After-check_cuts) _ (sym c.check_cuts.ensures ∙ c.in_err-check_cuts.was))
 
 pub returns-then-out-n : goal.returns-then-out-n
-unfolding join_answer
-returns-then-out-n c = join_short _ _ _ (accepted (goal.at.returns-then-out-n c).After-bad_cut-bad) c.bad_cut-bad.ensures c.if-bad-cuts.false _ c.if-out-n.true
-
-pub slice_bounds-write_joined-end-2 : goal.slice_bounds-write_joined-end-2
-unfolding join_answer
-slice_bounds-write_joined-end-2 c = sym (length-take-le _ _ c.if-out-n.false)
+returns-then-out-n c = join_short _ _ _ (accepted (goal.at.returns-then-out-n c).After-check_cuts)
+    (good (goal.at.returns-then-out-n c).In_ok-check_cuts) _ c.if-out-n.true

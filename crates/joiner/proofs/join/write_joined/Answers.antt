@@ -1,4 +1,4 @@
-use Rattle.laws.proofs.Kit.{sym, ap, arith, length, length-take-le, rules}
+use Rattle.laws.proofs.Kit.{sym, ap, arith, length, length-take-le}
 use Rattle.laws.proofs.Accepted.{accepted_passes}
 use Rattle.joiner.proofs.Laying.{next, laid_none, laid_on, laid_length, first_part, laid_all}
 use Rattle.joiner.proofs.join.write_joined.Goals as goal
@@ -9,23 +9,23 @@ returns c =
 
 pub write_tape-whole-requires : goal.write_tape-whole-requires
 write_tape-whole-requires c =
-    let p = c.requires in let v = p.1.valid in
-    (p.0, record { counts = v.counts; accepted = v.accepted; room = omega (arith, p.1.fits); place = omega arith })
+    let p = c.requires in let v = p.valid in
+    record { counts = v.counts; accepted = v.accepted; room = omega (arith, p.fits); place = omega arith }
 
 pub loop-k-init : goal.loop-k-init
-loop-k-init c = laid_none c.requires.1 c.write_tape-whole.ensures
+loop-k-init c = laid_none c.requires c.write_tape-whole.ensures
 
 pub lay_part-p-requires : goal.lay_part-p-requires
-lay_part-p-requires c = (search rules, laid_on c.loop-k.invariant c.loop-k-test.true)
+lay_part-p-requires c = laid_on c.loop-k.invariant c.loop-k-test.true
 
 pub slice_bounds-write_part-end : goal.slice_bounds-write_part-end
 slice_bounds-write_part-end c = sym (length-take-le _ _ (next c.loop-k.invariant).within)
 
 pub write_part-first-requires : goal.write_part-first-requires
-write_part-first-requires c = (search rules, first_part c.loop-k.invariant c.loop-k-test.false)
+write_part-first-requires c = first_part c.loop-k.invariant c.loop-k-test.false
 
-pub overflow_add-steps : goal.overflow_add-steps
-overflow_add-steps c =
+pub overflow_add-result : goal.overflow_add-result
+overflow_add-result c =
     let v = c.loop-k.invariant.valid in
     omega (arith, (returns c).four, (accepted_passes _ v.counts v.accepted).short)
 

@@ -4,6 +4,3 @@ use Rattle.joiner.proofs.join.write_joined.Given as goal
 
 abbrev pub invariant-loop-k : goal.invariant-loop-k
 invariant-loop-k l = Laid l.edition l.m l.cuts l.k l.out l.p
-
-abbrev pub decreases-loop-k : goal.decreases-loop-k
-decreases-loop-k l = l.k

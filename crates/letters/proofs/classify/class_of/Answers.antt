@@ -1,10 +1,14 @@
 -- The table has the class of each byte.
-use Rattle.laws.proofs.Kit.{◌<◌, arith}
-use Rattle.letters.proofs.{Bytes.by_class, Tabulated.class_read}
+use Rattle.laws.proofs.Kit.{◌≡◌, arith, refl}
+use Rattle.letters.specs.declared.classify.TheConstants.{CLASSES}
+use Rattle.letters.specs.Classes.{classes}
+use Rattle.letters.proofs.Computed.{everything}
+use Rattle.letters.proofs.Tabulated.{class_read}
 use Rattle.letters.proofs.classify.class_of.Goals as goal
 
-pub overflow_cast-result-2 : goal.overflow_cast-result-2
-overflow_cast-result-2 c = let h : c.args.b < 256 = omega (arith, c.ranges.b) in rw (class_read _ _ c.requires h) (omega (arith, (by_class c.args.b h).class))
+the_rule : CLASSES ≡ classes
+unfolding everything
+the_rule = refl
 
 pub returns : goal.returns
-returns c = class_read _ _ c.requires (omega (arith, c.ranges.b))
+returns c = class_read CLASSES _ the_rule (omega (arith, c.ranges.b))

@@ -1,3 +1,4 @@
+-- Over a byte the letters before its place go by its class.
 use Rattle.laws.proofs.Kit.{ℕ, suc, ◌-◌, ◌≤◌, ◌<◌, ◌≡◌, ap, ◌∙◌, cond, and-false, List, arith, leb, le-leb, lt-leb, rules}
 use Rattle.letters.specs.Classes.{is_break_class, is_letter_class, class_at}
 use Rattle.message.specs.Steps.{letters_at}
@@ -33,8 +34,3 @@ loop-j-preserved-then-c-lt-FIRST_LETTER c = let e = (here (goal.at.loop-j-preser
 
 pub loop-j-preserved : goal.loop-j-preserved
 loop-j-preserved c = let e = (here (goal.at.loop-j-preserved c).After-class_of-c).letter c.if-c-lt-FIRST_LETTER.false in search rules
-
-pub returns : goal.returns
-returns c =
-    let e : c.loop-j.j ≡ c.args.seen.from = omega (arith, c.loop-j-test.false, c.loop-j.invariant.above) in
-    let q = rw e at c.loop-j.invariant.same in search rules

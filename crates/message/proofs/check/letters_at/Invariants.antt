@@ -10,7 +10,4 @@ pub record Back (m : List ℕ) (from i j marks : ℕ) : Type 0 where
   pub same : i + letters_at m j ≡ letters_at m i + (marks + j)
 
 abbrev pub invariant-loop-j : goal.invariant-loop-j
-invariant-loop-j l = Back l.m l.from l.at l.j l.marks
-
-abbrev pub decreases-loop-j : goal.decreases-loop-j
-decreases-loop-j l = l.j
+invariant-loop-j l = Back l.m l.seen.from l.seen.at l.j l.marks

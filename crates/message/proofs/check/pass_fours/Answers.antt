@@ -1,3 +1,4 @@
+-- Four bytes without a stop are seen, whichever way their sum was made.
 use Rattle.laws.proofs.Kit.{◌+◌, ◌<◌, arith, rules}
 use Rattle.letters.specs.Classes.{class_at}
 use Rattle.message.specs.{declared.Seen.Seen, Steps.Sees, Steps.silent_four, Steps.stop_unit}

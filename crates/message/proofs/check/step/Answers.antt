@@ -1,7 +1,7 @@
 -- The entry tells the case: a fault, or a byte that is passed unless it is a 65th letter.
-use Rattle.laws.proofs.Kit.{◌<◌, ◌≡◌, cond, add-one, arith, length, rules}
+use Rattle.laws.proofs.Kit.{◌<◌, ◌≡◌, refl, cond, add-one, arith, length, rules}
 use Rattle.message.specs.Steps.{fault_here}
-use Rattle.message.proofs.Checking.{sees_small, sees_more, stop_here, full_here, Gives, gives}
+use Rattle.message.proofs.Checking.{sees_more, stop_here, full_here, Gives, gives}
 use Rattle.letters.proofs.Bytes.{by_class}
 use Rattle.message.proofs.check.step.Goals as goal
 use Rattle.message.proofs.check.step.Goals.{After-class_of-c, After-entry_at-e, After-is_too_many}
@@ -24,22 +24,19 @@ pub returns : goal.returns
 returns c =
     let r = c.count_on-counted in
     let z = rw c.if-is_too_many.false at (fault (goal.at.returns c).After-is_too_many) in
-    (rw (add-one r.result.at, c.next_kind-kind.ensures) (sees_more r.ensures.sees (byte (goal.at.returns c).After-class_of-c) c.class_of-c.ensures c.entry_at-e.ensures.0 _ z (omega (arith, c.silent_at.ensures.0, (here (goal.at.returns c).After-entry_at-e).enough))), omega (arith, r.ensures.place))
-
-pub entry_at-e-requires : goal.entry_at-e-requires
-entry_at-e-requires c = let b = sees_small c.count_on-counted.ensures.sees in let h = byte (goal.at.entry_at-e-requires c).After-class_of-c in search rules
+    (rw (add-one r.result.at, c.next_kind.ensures) (sees_more r.ensures.sees (byte (goal.at.returns c).After-class_of-c) c.class_of-c.ensures c.entry_at-e.ensures.0 _ z (omega (arith, c.silent_at.ensures.0, (here (goal.at.returns c).After-entry_at-e).enough))), omega (arith, r.ensures.place))
 
 pub returns-then-e : goal.returns-then-e
-returns-then-e c = let r = c.count_on-counted.ensures in rw (← r.place) (stop_here r.sees (byte (goal.at.returns-then-e c).After-class_of-c) c.class_of-c.ensures c.entry_at-e.ensures.0 c.if-e.true)
+returns-then-e c =
+    let r = c.count_on-counted.ensures in
+    let f = stop_here r.sees (byte (goal.at.returns-then-e c).After-class_of-c) c.class_of-c.ensures c.entry_at-e.ensures.0 c.if-e.true in
+    rw (← r.place) (f.0, f.1, refl)
 
 pub returns-then-is_too_many : goal.returns-then-is_too_many
-returns-then-is_too_many c = (rw (← c.count_on-counted.ensures.place, fault (goal.at.returns-then-is_too_many c).After-is_too_many, c.if-is_too_many.true), search rules)
+returns-then-is_too_many c = (rw (← c.count_on-counted.ensures.place, fault (goal.at.returns-then-is_too_many c).After-is_too_many, c.if-is_too_many.true), search rules, c.count_on-counted.ensures.place)
 
-pub next_kind-kind-requires : goal.next_kind-kind-requires
-next_kind-kind-requires c = let r = c.count_on-counted in let b = by_class _ (r.ensures.sees.bytes r.result.at) in search rules
+pub next_kind-requires : goal.next_kind-requires
+next_kind-requires c = let r = c.count_on-counted in let b = by_class _ (r.ensures.sees.bytes r.result.at) in search rules
 
-pub overflow_add-sum : goal.overflow_add-sum
-overflow_add-sum c = let b = sees_small c.count_on-counted.ensures.sees in let h = byte (goal.at.overflow_add-sum c).After-class_of-c in search rules
-
-pub overflow_sub-sum : goal.overflow_sub-sum
-overflow_sub-sum c = let g = here (goal.at.overflow_sub-sum c).After-entry_at-e in search rules
+pub overflow_sub-result-2 : goal.overflow_sub-result-2
+overflow_sub-result-2 c = let g = here (goal.at.overflow_sub-result-2 c).After-entry_at-e in search rules

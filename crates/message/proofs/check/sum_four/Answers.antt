@@ -17,6 +17,3 @@ entry_at-requires-3 c = let k = small (goal.at.entry_at-requires-3 c).After-clas
 
 pub entry_at-requires-4 : goal.entry_at-requires-4
 entry_at-requires-4 c = let k = small (goal.at.entry_at-requires-4 c).After-class_of-a (c.args.i + 2) in search rules
-
-pub returns : goal.returns
-returns c = rw (c.entry_at.ensures.0, c.entry_at-2.ensures.0, c.entry_at-3.ensures.0, c.entry_at-4.ensures.0, c.class_of-a.ensures, c.class_of-b.ensures, c.class_of-c.ensures)

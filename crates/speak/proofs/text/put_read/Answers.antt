@@ -1,51 +1,46 @@
 -- The reader puts what is read, which is edited and spoken; where it refuses, its refusal is put.
-use Rattle.laws.proofs.Kit.{◌≤◌, ◌≡◌, ap, ◌∙◌, [], arith, length}
+use Rattle.laws.proofs.Kit.{◌≤◌, ◌≡◌, ap, ◌∙◌, [], arith, length, length-append}
 use Rattle.spec.specs.Editing.{edited}
 use Rattle.spec.specs.Utf8.{decoded}
 use Rattle.spec.specs.Printed.{printed_answer, text_answer}
-use Rattle.spec.specs.declared.Answer.TheVariants.{Refused}
 use Rattle.console.proofs.Texts.{Part}
 use Rattle.speak.proofs.Texts.{read_part, read_short, text_spoken, text_refused}
 use Rattle.speak.proofs.text.put_read.Goals as goal
-use Rattle.speak.proofs.text.put_read.Goals.{In-Written, In-Refused}
+use Rattle.speak.proofs.text.put_read.Goals.{In-Ok, In-Err}
+use Rattle.std.proofs.Common.{Err}
 
 -- what the reader put
-read : (c : In-Written) → Part (decoded c.args.t.now) c.read_utf8.new.out c.in-Written.length
-read c = read_part c.args.t.now c.read_utf8.ensures (omega (arith, c.requires.0, c.requires.1)) c.in-Written.is
+read : (c : In-Ok) → Part (decoded c.args.t.now) c.read_utf8.new.out c.in-Ok.w.length
+read c = read_part c.args.t.now c.read_utf8.ensures c.requires.0 c.in-Ok.is
 
 -- what it refused
-refused : (c : In-Refused)
-    → (text_answer c.args.t.now ≡ Refused c.in-Refused.r) × (length (printed_answer (Refused c.in-Refused.r) []) ≤ 40)
-refused c = text_refused c.args.t.now c.read_utf8.ensures (omega (arith, c.requires.0, c.requires.1)) c.requires.0 c.in-Refused.is
+refused : (c : In-Err)
+    → (text_answer c.args.t.now ≡ Err c.in-Err.r) × (length (printed_answer (Err c.in-Err.r) []) ≤ 40)
+refused c = text_refused c.args.t.now c.read_utf8.ensures c.requires.0 c.requires.0 c.in-Err.is
+
+pub slice_bounds-read-end : goal.slice_bounds-read-end
+slice_bounds-read-end c = (read (goal.at.slice_bounds-read-end c).In-Ok).within
 
 pub slice_bounds-edit_read-end : goal.slice_bounds-edit_read-end
-slice_bounds-edit_read-end c = (read (goal.at.slice_bounds-edit_read-end c).In-Written).within
-
-pub slice_bounds-edit_read-end-in-Written : goal.slice_bounds-edit_read-end-in-Written
-slice_bounds-edit_read-end-in-Written c = (read (goal.at.slice_bounds-edit_read-end-in-Written c).In-Written).size
+slice_bounds-edit_read-end c = (read (goal.at.slice_bounds-edit_read-end c).In-Ok).size
 
 pub edit_read-n-requires : goal.edit_read-n-requires
 edit_read-n-requires c =
-    let w = read (goal.at.edit_read-n-requires c).In-Written in
-    omega (
-      arith,
-      read_short c.args.t.now c.read_utf8.ensures (omega (arith, c.requires.0, c.requires.1)) w,
-      c.requires.0,
-      c.requires.2,
-    )
+    omega (arith, read_short c.args.t.now c.read_utf8.ensures c.requires.0 (read (goal.at.edit_read-n-requires c).In-Ok), c.requires.0)
 
 pub put_refusal-requires : goal.put_refusal-requires
-put_refusal-requires c = omega (arith, (refused (goal.at.put_refusal-requires c).In-Refused).1, c.requires.3)
+put_refusal-requires c = omega (arith, (refused (goal.at.put_refusal-requires c).In-Err).1, c.requires.1)
 
-pub returns-in-Written-clause-appended : goal.returns-in-Written-clause-appended
+pub returns-in-Ok-clause-appended : goal.returns-in-Ok-clause-appended
 unfolding printed_answer
-returns-in-Written-clause-appended c =
-    let t = c.edit_read-n.ensures.plain_after ∙ ap edited (read (goal.at.returns-in-Written-clause-appended c).In-Written).bytes in
-    rw (text_spoken c.args.t.now c.read_utf8.ensures (omega (arith, c.requires.0, c.requires.1)) c.in-Written.is)
-    (rw t at c.put_answer.ensures.appended)
+returns-in-Ok-clause-appended c =
+    let t = c.edit_read-n.ensures.plain_after ∙ ap edited (read (goal.at.returns-in-Ok-clause-appended c).In-Ok).bytes in
+    rw (text_spoken c.args.t.now c.read_utf8.ensures c.requires.0 c.in-Ok.is, ← t) c.put_answer.ensures.appended
 
-pub returns-in-Refused : goal.returns-in-Refused
+pub returns-in-Err-clause-appended : goal.returns-in-Err-clause-appended
 unfolding printed_answer
-returns-in-Refused c =
-    let f = refused (goal.at.returns-in-Refused c).In-Refused in
-    record { appended = rw f.0 c.put_refusal.ensures; upper_bound = omega (arith, c.put_refusal.ensures.place, f.1) }
+returns-in-Err-clause-appended c = rw (refused (goal.at.returns-in-Err-clause-appended c).In-Err).0 c.put_refusal.ensures
+
+pub returns-in-Err-clause-upper_bound : goal.returns-in-Err-clause-upper_bound
+returns-in-Err-clause-upper_bound c =
+    rw (c.put_refusal.ensures, length-append) (omega (arith, (refused (goal.at.returns-in-Err-clause-upper_bound c).In-Err).1))

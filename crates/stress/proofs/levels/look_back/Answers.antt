@@ -52,12 +52,6 @@ start : {m : List ℕ} {i : ℕ} {s ahead q : LevelRun} → Ahead m i s 0 ahead 
 unfolding mark_before back_at
 start a e = rw e (record { since = refl; marked = a.tells; steps = omega (arith, a.steps); before = a.before })
 
--- what is known in a turn of the loop
-turn : (c : In-loop-j) → Ahead c.args.m.now c.args.i c.args.s (suc (c.loop-j.j - 1)) c.loop-j.ahead
-turn c =
-    let e : suc (c.loop-j.j - 1) ≡ c.loop-j.j = omega (arith, c.loop-j-test.true) in
-    rw e c.loop-j.invariant
-
 -- the step met a mark or a break, or neither
 module _ {m : List ℕ} {i k : ℕ} {s ahead q : LevelRun} (a : Ahead m i s (suc k) ahead) (stepped : q ≡ step_over ahead (get_or m k 0)) where
   edged : q.edge ≡ true → Looked m i s (end_run q.before q.steps q.marked)
@@ -70,22 +64,16 @@ module _ {m : List ℕ} {i k : ℕ} {s ahead q : LevelRun} (a : Ahead m i s (suc
       refl (omega arith) refl refl)
       (λ n e. absurd (true≢false e)) (λ b e. absurd (true≢false e)) (λ b n v e. letter a b n refl (omega arith) refl refl))
 
-pub loop-j-init : goal.loop-j-init
-loop-j-init c =
-    let p = c.requires in
-    record { within = omega arith; marked = p.marked; tells = refl; steps = refl; before = refl; since = omega (arith, p.since) }
-
-pub overflow_sub-j : goal.overflow_sub-j
-overflow_sub-j c = omega (arith, c.loop-j-test.true)
-
-pub bounds-m-j : goal.bounds-m-j
-bounds-m-j c = omega (arith, c.loop-j.invariant.within, c.requires.within)
+-- what is known in a turn of the loop
+turn : (c : In-loop-j) → Ahead c.args.m.now c.args.i c.args.s (suc (c.loop-j.j - 1)) c.loop-j.ahead
+turn c =
+    let e : suc (c.loop-j.j - 1) ≡ c.loop-j.j = omega (arith, c.loop-j-test.true) in
+    rw e c.loop-j.invariant
 
 pub step-ahead-requires : goal.step-ahead-requires
 step-ahead-requires c =
     let a = turn (goal.at.step-ahead-requires c).In-loop-j in let p = c.requires in let y = p.steady in
     record {
-      table = p.table;
       named = y.named _ (omega (arith, a.within, p.within));
       steps = omega (arith, a.steps, p.steps, back_most c.args.m.now c.args.i, p.within, y.short);
       since = omega (arith, a.since, p.within, y.short);
@@ -93,9 +81,6 @@ step-ahead-requires c =
 
 pub returns-then-ahead : goal.returns-then-ahead
 returns-then-ahead c = rw c.at_word_end.ensures (edged (turn (goal.at.returns-then-ahead c).In-loop-j) c.step-ahead.ensures c.if-ahead.true)
-
-pub loop-j-smaller : goal.loop-j-smaller
-loop-j-smaller c = omega (arith, c.loop-j-test.true)
 
 pub loop-j-preserved : goal.loop-j-preserved
 loop-j-preserved c = inside (turn (goal.at.loop-j-preserved c).In-loop-j) c.step-ahead.ensures c.requires.steady c.if-ahead.false

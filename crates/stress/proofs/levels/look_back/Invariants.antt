@@ -1,4 +1,5 @@
--- The bytes passed so far are letters, so what stands before them tells of the word's marks, and each was one step; a mark or a break, or the message's start, then tells all. The measure is j.
+-- The bytes passed so far are letters, so what stands before them tells of the word's marks, and each was one step; a mark or a break, or
+-- the message's start, then tells all.
 use Rattle.laws.proofs.Kit.{ℕ, ◌+◌, ◌≤◌, ◌≡◌, false, List}
 use Rattle.spec.specs.{LevelSteps.back_at}
 use Rattle.stress.specs.{declared.LevelRun.LevelRun, Places.mark_before}
@@ -15,6 +16,3 @@ pub record Ahead (m : List ℕ) (i : ℕ) (s : LevelRun) (j : ℕ) (ahead : Leve
 
 abbrev pub invariant-loop-j : goal.invariant-loop-j
 invariant-loop-j l = Ahead l.m l.i l.initial.ahead l.j l.ahead
-
-abbrev pub decreases-loop-j : goal.decreases-loop-j
-decreases-loop-j l = l.j

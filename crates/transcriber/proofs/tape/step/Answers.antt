@@ -1,63 +1,44 @@
 -- Each class of byte is handled by its own function, and a byte of an accepted message has one.
-use Rattle.laws.proofs.Kit.{ℕ, Bool, true, ◌<◌, ◌≡◌, arith, get_or, rules, eq-eqb, ne_eqb}
-use Rattle.spec.specs.{Letters.is_mark, declared.Edition.Edition}
+use Rattle.laws.proofs.Kit.{ℕ, Bool, true, ◌<◌, ◌≡◌, arith, get_or, eq-eqb, ne_eqb}
+use Rattle.spec.specs.Letters.{is_mark}
 use Rattle.transcriber.specs.Walk.{ReadyFor}
 use Rattle.stress.proofs.Raw.{between_true, vowel_class, break_class}
 use Rattle.transcriber.proofs.Walking.{run_ready, sign_steps, mark_steps}
 use Rattle.transcriber.proofs.tape.step.Goals as goal
 use Rattle.transcriber.proofs.tape.step.Goals.{After-class_of-c}
 
--- where the class is known
-
--- the edition that is written
-abbrev edition : (c : After-class_of-c) → Edition
-edition c = c.args.e
-
 -- the byte is one
 byte : (c : After-class_of-c) → get_or c.args.m.now c.args.i 0 < 256
-byte c = c.requires.1.steady.bytes c.args.i
+byte c = c.requires.steady.bytes c.args.i
 
 -- a step may be taken at a byte whose class passes a test
 tested : (c : After-class_of-c) {test : ℕ → Bool} → test c.class_of-c.result ≡ true
     → ReadyFor test c.args.m.now c.args.out.now c.args.i c.class_of-c.result c.args.r
-tested c t = record { ready = c.requires.1; class = c.class_of-c.ensures; kind = t }
+tested c t = record { ready = c.requires; class = c.class_of-c.ensures; kind = t }
 
 pub put_break-requires : goal.put_break-requires
 unfolding is_mark
 put_break-requires c =
-    let t = break_class (byte (goal.at.put_break-requires c).After-class_of-c) c.class_of-c.ensures (c.requires.1.steady.named c.args.i c.requires.1.within) c.if-c-ge-HARD_SIGN.false (ne_eqb _ 42 c.if-b-eq-MARK.false) in
-    (c.requires.0, record { ready = tested (goal.at.put_break-requires c).After-class_of-c t; passed = c.step-levels.ensures })
+    let t = break_class (byte (goal.at.put_break-requires c).After-class_of-c) c.class_of-c.ensures (c.requires.steady.named c.args.i c.requires.within) c.if-c-ge-HARD_SIGN.false (ne_eqb _ 42 c.if-b-eq-MARK.false) in
+    record { ready = tested (goal.at.put_break-requires c).After-class_of-c t; passed = c.step-levels.ensures }
 
 pub put_vowel-requires : goal.put_vowel-requires
-unfolding is_mark
-put_vowel-requires c = (c.requires.0.byte, tested (goal.at.put_vowel-requires c).After-class_of-c (vowel_class (byte (goal.at.put_vowel-requires c).After-class_of-c) c.class_of-c.ensures c.if-c-ge-PLAIN_VOWEL.true))
-
-pub returns-then-c-ge-PLAIN_VOWEL : goal.returns-then-c-ge-PLAIN_VOWEL
-unfolding is_mark
-returns-then-c-ge-PLAIN_VOWEL c = search rules
-
-pub put_consonant-requires : goal.put_consonant-requires
-unfolding is_mark
-put_consonant-requires c = (c.requires.0, tested (goal.at.put_consonant-requires c).After-class_of-c (between_true 6 9 _ c.if-c-ge-HARD_ONLY.true (omega (arith, c.if-c-ge-PLAIN_VOWEL.false))))
+put_vowel-requires c = tested (goal.at.put_vowel-requires c).After-class_of-c (vowel_class (byte (goal.at.put_vowel-requires c).After-class_of-c) c.class_of-c.ensures c.if-c-ge-PLAIN_VOWEL.true)
 
 pub returns-then-c-ge-HARD_ONLY : goal.returns-then-c-ge-HARD_ONLY
-unfolding is_mark
-returns-then-c-ge-HARD_ONLY c = c.put_consonant.ensures (edition (goal.at.returns-then-c-ge-HARD_ONLY c).After-class_of-c)
+returns-then-c-ge-HARD_ONLY c = c.put_consonant.ensures c.args.e
 
 pub step-levels-requires : goal.step-levels-requires
-unfolding is_mark
-step-levels-requires c = run_ready c.requires.1 c.requires.0.byte
+step-levels-requires c = run_ready c.requires
 
 pub returns-then-c-ge-HARD_SIGN : goal.returns-then-c-ge-HARD_SIGN
-unfolding is_mark
 returns-then-c-ge-HARD_SIGN c =
-    rw c.pass_over.ensures (sign_steps (tested (goal.at.returns-then-c-ge-HARD_SIGN c).After-class_of-c (between_true 4 5 _ c.if-c-ge-HARD_SIGN.true (omega (arith, c.if-c-ge-HARD_ONLY.false))))
-    c.seen_over.ensures c.step-levels.ensures (edition (goal.at.returns-then-c-ge-HARD_SIGN c).After-class_of-c))
+    sign_steps (tested (goal.at.returns-then-c-ge-HARD_SIGN c).After-class_of-c (between_true 4 5 _ c.if-c-ge-HARD_SIGN.true (omega (arith, c.if-c-ge-HARD_ONLY.false))))
+    c.seen_over.ensures c.step-levels.ensures c.args.e
 
 pub returns-then-b-eq-MARK : goal.returns-then-b-eq-MARK
 unfolding is_mark
-returns-then-b-eq-MARK c = rw c.pass_over-then-b-eq-MARK.ensures (mark_steps c.requires.1 (eq-eqb _ 42 c.if-b-eq-MARK.true) c.step-levels.ensures (edition (goal.at.returns-then-b-eq-MARK c).After-class_of-c))
+returns-then-b-eq-MARK c = mark_steps c.requires (eq-eqb _ 42 c.if-b-eq-MARK.true) c.step-levels.ensures c.args.e
 
 pub returns : goal.returns
-unfolding is_mark
-returns c = c.put_break.ensures (edition (goal.at.returns c).After-class_of-c)
+returns c = c.put_break.ensures c.args.e

@@ -1,11 +1,12 @@
+-- Each turn puts the piece of its byte before the rest; at the start of the message all pieces are the tape.
 use Rattle.laws.proofs.Kit.{suc, ◌≡◌, ap, ◌∙◌, arith, length}
 use mathlib.Core.List.{map, map-append}
 use lib.ListN.{length-map}
 use Rattle.spec.specs.{Editions.code_in, Tape.tape}
 use Rattle.laws.proofs.Putting.{put_none}
 use Rattle.transcriber.specs.{Places.tape_at, Walk.piece_at}
-use Rattle.letters.proofs.Filling.{writing_length, writing_ready, writing_more}
-use Rattle.stress.proofs.Levelling.{levels_done, levels_taken, end_due}
+use Rattle.letters.proofs.Filling.{writing_ready, writing_more}
+use Rattle.stress.proofs.Levelling.{levels_done, levels_taken}
 use Rattle.transcriber.proofs.{Tail.tape_start, Tail.tape_end, Walking.piece_step, Walking.stands_end, Walking.ready_read}
 use Rattle.transcriber.proofs.{Walking.ready_begun}
 use Rattle.transcriber.proofs.tape.walk.Goals as goal
@@ -21,7 +22,7 @@ loop-i-init c =
         step = λ i h. ap (map (code_in e)) (piece_step m y i h) ∙ map-append (code_in e) (piece_at m i) (tape_at m (suc i));
         whole = omega (arith, ap length (tape_start m y), length-map (tape_at m 0) (code_in e));
       };
-      stands = stands_end y (rw c.at_word_end.ensures at c.look_back-levels.ensures);
+      stands = stands_end y (rw c.at_word_end.ensures at c.look_back.ensures);
       within = omega arith;
       room = c.requires.room;
       place = c.requires.place;
@@ -34,27 +35,11 @@ returns c =
     let e : c.loop-i.i ≡ 0 = omega (arith, c.loop-i-test.false) in
     (rw (e, tape_start c.args.m.now c.requires.steady) at c.loop-i.invariant.put, levels_done (rw e at c.loop-i.invariant.stands.levels))
 
-pub look_back-levels-requires : goal.look_back-levels-requires
-look_back-levels-requires c = rw c.at_word_end.ensures (end_due c.requires.lent.byte c.requires.steady)
-
-pub overflow_sub-i : goal.overflow_sub-i
-overflow_sub-i c = omega arith
-
 pub begun-requires : goal.begun-requires
 begun-requires c = levels_taken c.requires.steady c.loop-i.invariant.stands.levels
 
 pub step-r-requires : goal.step-r-requires
-step-r-requires c = (
-  c.requires.lent,
-  rw c.begun.ensures (ready_begun
-      (ready_read c.args.e (writing_ready c.loop-i.invariant c.loop-i-test.true))),
-)
-
-pub loop-i-smaller : goal.loop-i-smaller
-loop-i-smaller c = omega arith
+step-r-requires c = rw c.begun.ensures (ready_begun (ready_read c.args.e (writing_ready c.loop-i.invariant c.loop-i-test.true)))
 
 pub loop-i-preserved : goal.loop-i-preserved
 loop-i-preserved c = writing_more c.loop-i.invariant c.loop-i-test.true (rw c.begun.ensures at c.step-r.ensures)
-
-pub shape_of-out : goal.shape_of-out
-shape_of-out c = writing_length c.loop-i.invariant

@@ -9,6 +9,3 @@ use Rattle.transcriber.proofs.tape.walk.Given as goal
 abbrev pub invariant-loop-i : goal.invariant-loop-i
 invariant-loop-i l = Writing (λ j. Stands l.m j l.r) l.m (λ j. map (code_in l.e) (tape_at l.m j)) (λ j. map (code_in l.e) (piece_at l.m j)) (length (sounds l.m)) l.initial.out l.out l.end l.i
     l.r.at
-
-abbrev pub decreases-loop-i : goal.decreases-loop-i
-decreases-loop-i l = l.i

@@ -1,7 +1,7 @@
 use Rattle.laws.proofs.Kit.{◌+◌, ◌<◌, ◌≡◌, false, sym, ◌∙◌, arith, length, get_or}
 use Rattle.spec.specs.{Tables.among, Utf8.ascii_bytes}
 use Rattle.utf8.specs.Walk.{Stands}
-use Rattle.utf8.proofs.Walking.{stands_none, stands_most, reaches, measure_single, measure_letter, measure_stop, measure_end}
+use Rattle.utf8.proofs.Walking.{stands_most, reaches, measure_single, measure_letter, measure_stop}
 use Rattle.utf8.proofs.reader.measure.Goals as goal
 use Rattle.utf8.proofs.reader.measure.Goals.{Else-is_single, In-loop-i, Then-is_letter, Then-is_single}
 
@@ -31,41 +31,14 @@ letter c =
     measure_letter c.loop-i.invariant (omega (arith, follows w)) (byte w) (other p.Else-is_single) (follows w)
     (sym c.is_letter.ensures ∙ c.if-is_letter.true)
 
-pub returns-then-text-eq0 : goal.returns-then-text-eq0
-returns-then-text-eq0 c = reaches (measure_end (stands_none _) (omega (arith, c.if-text-eq0.true)))
-
-pub loop-i-init : goal.loop-i-init
-loop-i-init c = stands_none _
-
-pub overflow_add-after : goal.overflow_add-after
-overflow_add-after c = omega (arith, follows (goal.at.overflow_add-after c).In-loop-i)
-
-pub bounds-text-i : goal.bounds-text-i
-bounds-text-i c = omega (arith, follows (goal.at.bounds-text-i c).In-loop-i)
-
-pub bounds-text-after : goal.bounds-text-after
-bounds-text-after c = omega (arith, follows (goal.at.bounds-text-after c).In-loop-i)
-
 pub overflow_add-n : goal.overflow_add-n
 overflow_add-n c = omega (arith, stands_most (single (goal.at.overflow_add-n c).Then-is_single))
-
-pub loop-i-smaller-then-is_single : goal.loop-i-smaller-then-is_single
-loop-i-smaller-then-is_single c = omega (arith, (single (goal.at.loop-i-smaller-then-is_single c).Then-is_single).within)
 
 pub loop-i-preserved-then-is_single : goal.loop-i-preserved-then-is_single
 loop-i-preserved-then-is_single c = single (goal.at.loop-i-preserved-then-is_single c).Then-is_single
 
-pub is_letter-requires : goal.is_letter-requires
-is_letter-requires c = (c.requires, other (goal.at.is_letter-requires c).Else-is_single)
-
-pub overflow_add-i : goal.overflow_add-i
-overflow_add-i c = omega (arith, (letter (goal.at.overflow_add-i c).Then-is_letter).within)
-
 pub overflow_add-n-then-is_letter : goal.overflow_add-n-then-is_letter
 overflow_add-n-then-is_letter c = omega (arith, stands_most (letter (goal.at.overflow_add-n-then-is_letter c).Then-is_letter))
-
-pub loop-i-smaller : goal.loop-i-smaller
-loop-i-smaller c = omega (arith, (letter (goal.at.loop-i-smaller c).Then-is_letter).within)
 
 pub loop-i-preserved : goal.loop-i-preserved
 loop-i-preserved c = letter (goal.at.loop-i-preserved c).Then-is_letter
@@ -76,9 +49,3 @@ returns-else-is_letter c =
     let w = p.In-loop-i in
     reaches (measure_stop c.loop-i.invariant (omega (arith, follows w)) (byte w) (other p.Else-is_single) (follows w)
     (sym c.is_letter.ensures ∙ c.if-is_letter.false))
-
-pub measure_last-requires : goal.measure_last-requires
-measure_last-requires c = (c.loop-i.invariant, omega (arith, c.loop-i-test.false))
-
-pub returns : goal.returns
-returns c = c.measure_last.ensures

@@ -16,9 +16,6 @@ pub returns-then-out-length : goal.returns-then-out-length
 returns-then-out-length c = rw (answered_read _ _ (whole _ _ c.measure-extent.ensures.octets (omega arith)))
     (promised_short c.measure-extent.ensures.bytes 0 c.if-out-length.true)
 
-pub copy-requires : goal.copy-requires
-copy-requires c = (c.letter_table-letters.ensures, c.measure-extent.ensures.bytes, c.if-out-length.false)
-
 pub returns : goal.returns
 returns c =
     let n = c.measure-extent.ensures.bytes in

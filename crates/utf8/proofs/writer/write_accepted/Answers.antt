@@ -22,7 +22,7 @@ returns-then-out-n c = promised_short c.measure-n.ensures 0 (omega (arith, c.if-
 
 pub write_octets-length-requires : goal.write_octets-length-requires
 write_octets-length-requires c =
-    (c.sequence_table-sequences.ensures, accepted_rows _ c.requires, room (goal.at.write_octets-length-requires c).Joined-out-m)
+    (accepted_rows _ c.requires, room (goal.at.write_octets-length-requires c).Joined-out-m)
 
 pub returns : goal.returns
 returns c =
