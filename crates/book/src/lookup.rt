@@ -47,9 +47,9 @@ pub fn refuse(buffer: &[u8], used: usize) -> Refusal
     }
 }
 
-// Hands back the tape's own bytes, a part of the buffer. What a place holds afterwards that takes
-// the tape, and keeps what it had where there is none, is as its promise says, and where that
-// stands.
+// Hands back the tape's own bytes, a part of the buffer. The promise speaks of a place that takes
+// them: which bytes it holds then, and where in memory these stand; on a refusal it keeps what it
+// had.
 #[tactic(auto, using(crate::proofs::Told::standing), unfolding(spec::specs::Book::end_of))]
 pub fn find(listener: Listener, buffer: &[u8], used: usize, wanted: u16) -> Result<&[u8], Refusal>
     ensures find_promise { (old : List ℕ)

@@ -1,7 +1,8 @@
 -- What the C interface says of an answer: the paper's four numbers; of the editor's, the reader's
 -- and an addition's three, since no cut is live there; and of a lookup's five.
 -- Assumes nothing: these are definitions.
-use Rattle.std.specs.Prelude.{ℕ, ◌<◌, ◌≡◌, Bool, cond, List, [], ◌∷◌, eqb, take, drop, Option, Some, None, Ok, Err}
+use Rattle.std.specs.Prelude.{ℕ, ◌<◌, ◌≡◌, Bool, cond, List, [], ◌∷◌, eqb, take, drop}
+use Rattle.std.specs.Prelude.{Option, Some, None, Ok, Err}
 use Rattle.spec.specs.Answers.{number_of, place_of, length_of, live_of, checked_number}
 use Rattle.spec.specs.Answers.{checked_place}
 use Rattle.spec.specs.Answers.{checked_codes, checked_names, Promise, Carried}

@@ -73,7 +73,7 @@ pub struct GovorunFound {
 
 // The check's answer in four numbers, each of which fits. Not by From, which can ask for nothing.
 // Each of C's structs has fields of its own, so this and the conversions below stay apart.
-#[tactic(auto, unfolding(spec::specs::Answers::checked_number, spec::specs::Answers::checked_place, spec::specs::Answers::checked_codes, spec::specs::Answers::checked_names))]
+#[tactic(auto, unfolding(crate::proofs::Numbers::numbers))]
 fn count(a: Result<Counts, Refusal>) -> GovorunCounts
     requires { SmallCheck a }
     ensures { Counted a result }
@@ -101,8 +101,9 @@ pub extern "C" fn govorun_check(m: &[u8]) -> GovorunCounts
     count(check(m))
 }
 
-// The same of an operation's answer.
-#[tactic(auto, unfolding(spec::specs::Answers::number_of, spec::specs::Answers::place_of, spec::specs::Answers::length_of, spec::specs::Answers::live_of))]
+// An operation's answer in four numbers, each of which fits. Not by From, which can ask for
+// nothing.
+#[tactic(auto, unfolding(crate::proofs::Numbers::numbers))]
 fn say(a: Result<Written, Refusal>) -> GovorunAnswer
     requires { Small a }
     ensures { Said a result }
@@ -180,7 +181,7 @@ pub extern "C" fn govorun_speak_level(level: i32, out: &mut [u8]) -> GovorunAnsw
 impl From<Result<Written, Refusal>> for GovorunText {
     ghost from_gives = { Told };
 
-    #[tactic(auto, unfolding(spec::specs::Answers::number_of, spec::specs::Answers::place_of, spec::specs::Answers::length_of))]
+    #[tactic(auto, unfolding(crate::proofs::Numbers::numbers))]
     fn from(a: Result<Written, Refusal>) -> GovorunText {
         match a {
             Ok(written) => GovorunText {
@@ -226,7 +227,7 @@ impl From<Result<Written, Refusal>> for GovorunAdded {
 }
 
 // Whom a caller in C names. The listeners are numbered; no other number is a listener's. Not by
-// TryFrom, for the same reason.
+// TryFrom, which would stand beside the type, in the crate that has no function.
 fn named_by(number: u32) -> Option<Listener>
     ensures { result ≡ named number }
 {
@@ -274,7 +275,7 @@ pub extern "C" fn govorun_book_add(
 impl From<Result<Span, Refusal>> for GovorunFound {
     ghost from_gives = { SaidFound };
 
-    #[tactic(auto, unfolding(crate::specs::Said::number_found, crate::specs::Said::place_found, crate::specs::Said::is_found, crate::specs::Said::start_found, crate::specs::Said::length_found))]
+    #[tactic(auto, unfolding(crate::proofs::Numbers::numbers))]
     fn from(a: Result<Span, Refusal>) -> GovorunFound {
         match a {
             Ok(span) => GovorunFound {

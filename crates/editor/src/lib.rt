@@ -86,8 +86,8 @@ fn count_word(text: &[u8]) -> usize
     text.iter().take_while(|&&b| !is_break(b)).count()
 }
 
-// The same, and copies them. A break follows, so no end is asked for: as an iterator it took 10.7
-// instructions a byte of edited text where this takes 9.0.
+// Copies the first word, and answers how many bytes it has. A break follows, so no end is asked
+// for: as an iterator it took 10.7 instructions a byte of edited text where this takes 9.0.
 fn copy_word(text: &[u8], out: &mut [u8]) -> usize
     requires { (leading others text.now < length text.now)
         × (leading others text.now ≤ length out.old) }
@@ -137,7 +137,8 @@ fn pass_word(text: &[u8]) -> Stride
     }
 }
 
-// The same when it is written: two functions for the reason that stands at `measure`.
+// Writes a word and the break behind it: a function beside pass_word for the reason that stands at
+// `measure`.
 fn write_word(text: &[u8], out: &mut [u8]) -> Stride
     requires { (reads text.now < length text.now) × (leading others text.now < length out.old) }
     ensures { Goes text.now result × Put (piece text.now) out.old out.new result.put 0 }

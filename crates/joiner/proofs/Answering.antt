@@ -1,6 +1,6 @@
 -- What is answered where the check does not refuse: number 12, then 11, and else the tape and then the output's own bytes.
-use Rattle.laws.proofs.Kit.{ℕ, ◌<◌, ◌≤◌, ◌≡◌, refl, sym, ◌∙◌, Bool, true, false, cond, List, ◌++◌, eqb, eqb-true, length, take, drop, get_or}
-use Rattle.laws.proofs.Kit.{length-take-le}
+use Rattle.laws.proofs.Kit.{ℕ, ◌<◌, ◌≤◌, ◌≡◌, refl, sym, ◌∙◌, Bool, true, false, cond, List, ◌++◌, eqb, eqb-true, length, take, drop}
+use Rattle.laws.proofs.Kit.{get_or, length-take-le}
 use Rattle.spec.specs.Joints.{Rising, joined, live_count, bad_cut}
 use Rattle.spec.specs.Answers.{after_check, output_after, join_answer, JoinPromise}
 use Rattle.spec.specs.{Refusals.refusal, Refusals.check_of, declared.Counts.Counts, declared.Refusal.Refusal}
@@ -14,7 +14,8 @@ use Rattle.std.proofs.Common.{Ok, Err}
 use Rattle.spec.specs.Results.{Answer, Found, wrote}
 
 -- The list's test is the one that the joiner's answer asks: refused by it is refused, and passed by it the list is good.
-cut_refused : (t : Bool) (f : Refusal) {r : Refusal} (due : Answer) → ◌≡◌ {A = Found} (cond t (Ok tt) (Err f)) (Err r) → cond t due (Err f) ≡ Err r
+cut_refused : (t : Bool) (f : Refusal) {r : Refusal} (due : Answer) → ◌≡◌ {A = Found} (cond t (Ok tt) (Err f)) (Err r)
+    → cond t due (Err f) ≡ Err r
 cut_refused true f due h = cc
 cut_refused false f due h = cc
 

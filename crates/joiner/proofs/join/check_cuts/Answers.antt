@@ -1,5 +1,5 @@
-use Rattle.laws.proofs.Kit.{ℕ, ◌<◌, ◌≤◌, ◌≡◌, refl, sym, ◌∙◌, false, true≢false, ⊎_elim, List, add-one, arith, eq-eqb, ne_eqb, length, List·getD-eq-default}
-use Rattle.laws.proofs.Kit.{drop-cons, drop_of_length-le}
+use Rattle.laws.proofs.Kit.{ℕ, ◌<◌, ◌≤◌, ◌≡◌, refl, sym, ◌∙◌, false, true≢false, ⊎_elim, List, add-one, arith, eq-eqb, ne_eqb}
+use Rattle.laws.proofs.Kit.{length, List·getD-eq-default, drop-cons, drop_of_length-le}
 use Rattle.spec.specs.{Letters.is_break, Joints.row12, Joints.bad_cut_from, Joints.bad_cut}
 use Rattle.laws.proofs.Classes.{below_or}
 use Rattle.joiner.specs.Writing.{cuts_checked}

@@ -23,7 +23,8 @@ write_joined-counted-requires c = tape_due _ _ _ (accepted (goal.at.write_joined
 pub returns : goal.returns
 returns c =
     let j = c.write_joined-counted in
-    join_written _ _ _ (accepted (goal.at.returns c).After-check_cuts) (good (goal.at.returns c).In_ok-check_cuts) c.if-out-n.false _ j.new.out j.result j.ensures
+    join_written _ _ _ (accepted (goal.at.returns c).After-check_cuts) (good (goal.at.returns c).In_ok-check_cuts)
+    c.if-out-n.false _ j.new.out j.result j.ensures
 
 pub returns-in_default : goal.returns-in_default
 unfolding join_answer
@@ -32,7 +33,8 @@ returns-in_default c = rw (c.refused.ensures, c.check-checked.ensures.answer) (a
 pub returns-in_err-check_cuts : goal.returns-in_err-check_cuts
 returns-in_err-check_cuts c =
     let p = err_from_is_err_and c.from_residual.result c.from_residual.ensures.1 in
-    rw (p.1, p.2) (join_cut _ _ _ (accepted (goal.at.returns-in_err-check_cuts c).After-check_cuts) _ (sym c.check_cuts.ensures ∙ c.in_err-check_cuts.was))
+    let bad = sym c.check_cuts.ensures ∙ c.in_err-check_cuts.was in
+    rw (p.1, p.2) (join_cut _ _ _ (accepted (goal.at.returns-in_err-check_cuts c).After-check_cuts) _ bad)
 
 pub returns-then-out-n : goal.returns-then-out-n
 returns-then-out-n c = join_short _ _ _ (accepted (goal.at.returns-then-out-n c).After-check_cuts)

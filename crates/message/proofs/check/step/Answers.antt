@@ -24,7 +24,13 @@ pub returns : goal.returns
 returns c =
     let r = c.count_on-counted in
     let z = rw c.if-is_too_many.false at (fault (goal.at.returns c).After-is_too_many) in
-    (rw (add-one r.result.at, c.next_kind.ensures) (sees_more r.ensures.sees (byte (goal.at.returns c).After-class_of-c) c.class_of-c.ensures c.entry_at-e.ensures.0 _ z (omega (arith, c.silent_at.ensures.0, (here (goal.at.returns c).After-entry_at-e).enough))), omega (arith, r.ensures.place))
+    let b = byte (goal.at.returns c).After-class_of-c in
+    let k = c.class_of-c.ensures in
+    let few = (here (goal.at.returns c).After-entry_at-e).enough in (
+      rw (add-one r.result.at, c.next_kind.ensures)
+          (sees_more r.ensures.sees b k c.entry_at-e.ensures.0 _ z (omega (arith, c.silent_at.ensures.0, few))),
+      omega (arith, r.ensures.place),
+    )
 
 pub returns-then-e : goal.returns-then-e
 returns-then-e c =
@@ -33,7 +39,10 @@ returns-then-e c =
     rw (← r.place) (f.0, f.1, refl)
 
 pub returns-then-is_too_many : goal.returns-then-is_too_many
-returns-then-is_too_many c = (rw (← c.count_on-counted.ensures.place, fault (goal.at.returns-then-is_too_many c).After-is_too_many, c.if-is_too_many.true), search rules, c.count_on-counted.ensures.place)
+returns-then-is_too_many c =
+    let r = c.count_on-counted.ensures in
+    let f = fault (goal.at.returns-then-is_too_many c).After-is_too_many in
+    (rw (← r.place, f, c.if-is_too_many.true), search rules, r.place)
 
 pub next_kind-requires : goal.next_kind-requires
 next_kind-requires c = let r = c.count_on-counted in let b = by_class _ (r.ensures.sees.bytes r.result.at) in search rules

@@ -19,11 +19,15 @@ tested c t = record { ready = c.requires; class = c.class_of-c.ensures; kind = t
 pub put_break-requires : goal.put_break-requires
 unfolding is_mark
 put_break-requires c =
-    let t = break_class (byte (goal.at.put_break-requires c).After-class_of-c) c.class_of-c.ensures (c.requires.steady.named c.args.i c.requires.within) c.if-c-ge-HARD_SIGN.false (ne_eqb _ 42 c.if-b-eq-MARK.false) in
+    let b = byte (goal.at.put_break-requires c).After-class_of-c in
+    let named = c.requires.steady.named c.args.i c.requires.within in
+    let t = break_class b c.class_of-c.ensures named c.if-c-ge-HARD_SIGN.false (ne_eqb _ 42 c.if-b-eq-MARK.false) in
     record { ready = tested (goal.at.put_break-requires c).After-class_of-c t; passed = c.step-levels.ensures }
 
 pub put_vowel-requires : goal.put_vowel-requires
-put_vowel-requires c = tested (goal.at.put_vowel-requires c).After-class_of-c (vowel_class (byte (goal.at.put_vowel-requires c).After-class_of-c) c.class_of-c.ensures c.if-c-ge-PLAIN_VOWEL.true)
+put_vowel-requires c =
+    let k = (goal.at.put_vowel-requires c).After-class_of-c in
+    tested k (vowel_class (byte k) c.class_of-c.ensures c.if-c-ge-PLAIN_VOWEL.true)
 
 pub returns-then-c-ge-HARD_ONLY : goal.returns-then-c-ge-HARD_ONLY
 returns-then-c-ge-HARD_ONLY c = c.put_consonant.ensures c.args.e
@@ -33,8 +37,8 @@ step-levels-requires c = run_ready c.requires
 
 pub returns-then-c-ge-HARD_SIGN : goal.returns-then-c-ge-HARD_SIGN
 returns-then-c-ge-HARD_SIGN c =
-    sign_steps (tested (goal.at.returns-then-c-ge-HARD_SIGN c).After-class_of-c (between_true 4 5 _ c.if-c-ge-HARD_SIGN.true (omega (arith, c.if-c-ge-HARD_ONLY.false))))
-    c.seen_over.ensures c.step-levels.ensures c.args.e
+    let sign = between_true 4 5 _ c.if-c-ge-HARD_SIGN.true (omega (arith, c.if-c-ge-HARD_ONLY.false)) in
+    sign_steps (tested (goal.at.returns-then-c-ge-HARD_SIGN c).After-class_of-c sign) c.seen_over.ensures c.step-levels.ensures c.args.e
 
 pub returns-then-b-eq-MARK : goal.returns-then-b-eq-MARK
 unfolding is_mark
