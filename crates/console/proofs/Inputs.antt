@@ -6,10 +6,8 @@ use Rattle.laws.proofs.{Classes.below_or}
 use Rattle.std.specs.declared.option.Option.{Option}
 use Rattle.std.specs.declared.option.Option.TheVariants.{None, Some}
 use Rattle.std.specs.Io.KnownBytes.{Appends, Consumes, IsAtEnd}
-use Rattle.std.specs.Fn.{Once, FnOnceReturnsAt}
-use Rattle.std.specs.Borrow.{Bor}
-use Rattle.arrayvec.specs.ArrayVec.{ArrayVec}
-use Rattle.console.specs.Reading.{Takes, EndsOrFills, Makes}
+use Rattle.std.specs.Borrow.{Bor, MutBor}
+use Rattle.console.specs.Reading.{Takes, EndsOrFills, Maker, Makes}
 use Rattle.std.proofs.KnownBytes.{Consumes-trans}
 use Rattle.std.proofs.lemmas.List.{length-append, length-take-le, take-append-le}
 use Rattle.std.proofs.Math.Seq.{take-append-add}
@@ -40,7 +38,7 @@ takes_more n m text part old now new h k before read = (
   subst (Consumes old new) (sym (reaches n m text part h k)) (Consumes-trans old now new (take n text) (take m part) before read),
 )
 
--- What was read of a known input is all of it, or as much as the buffer has room for,
+-- What was read of a known input is all of it, or as much as the buffer has room for.
 pub heard : (n : ℕ) (buffer : List ℕ) (old now : Option (List ℕ)) → n ≤ length buffer
     → Takes n old now buffer → EndsOrFills n now buffer → IfSome old (λ t. take n buffer ≡ take (length buffer) t)
 heard n buffer None now h read end = tt
@@ -52,21 +50,15 @@ heard n buffer (Some t) (Some rest) h read end =
     (λ (full : length buffer ≤ n). sym (take_at (take n buffer) rest (length buffer) (omega arith)))
     (below_or n (length buffer)))
 
--- so the text that is made of what was read is made of that much of the input.
-pub text_made : {F : Type 0} (g : Once F (Bor (List ℕ) × Unit {0}) (ArrayVec ℕ)) (f : F) (P : List ℕ → Type 0) (size : ℕ)
-    (old : Option (List ℕ)) (p : Bor (List ℕ)) (text : ArrayVec ℕ) → g.post f (p, tt) text
-    → IfSome old (λ t. p.now ≡ take size t) → P text.items → IfSome old (λ t. Makes g f (take size t) P)
-text_made g f P size None p text r e h = tt
-text_made g f P size (Some t) p text r e h = record { text = text; made = (p, r, e); met = h }
-
 -- Where no more than so much of any input tells what is printed, the text is what is printed for the input.
-module _ {F : Type 0} (g : Once F (Bor (List ℕ) × Unit {0}) (ArrayVec ℕ)) (f : F) (size : ℕ) (print : List ℕ → List ℕ) (most : ℕ)
+module _ {F : Type 0} (g : Maker F) (f : F) (size : ℕ) (print : List ℕ → List ℕ) (most : ℕ)
     (kept : (n : ℕ) → most < n → (t : List ℕ) → print (take n t) ≡ print t) (more : most < size)
-    (prints : (t : List ℕ) (text : ArrayVec ℕ) → FnOnceReturnsAt g f t text → text.items ≡ print t) where
+    (prints : (p : Bor (List ℕ)) (lent left : MutBor (List ℕ)) (n : ℕ) → g.post f (p, (lent, tt)) (n, (left, tt))
+    → take n left.now ≡ print p.now) where
   pub prints_for : (P : List ℕ → Type 0) (old : Option (List ℕ))
       → IfSome old (λ t. Makes g f (take size t) P) → IfSome old (λ t. P (print t))
   prints_for P None h = tt
-  prints_for P (Some t) h = rw (← kept size more t, ← prints _ h.text h.made) h.met
+  prints_for P (Some t) h = rw (← kept size more t, ← h.shows, ← prints _ _ _ _ h.made) h.met
 
   pub answer_for : {T E : Type 0} (P : T → List ℕ → Type 0) (old : Option (List ℕ)) (r : Result T E)
       → IfOk r (λ v. IfSome old (λ t. Makes g f (take size t) (P v))) → IfOk r (λ v. IfSome old (λ t. P v (print t)))

@@ -1,31 +1,30 @@
--- What is put at the end of a text, number by number and code by code; how long a number, the codes and an answer are in it.
-use Rattle.laws.proofs.Kit.{ℕ, zero, suc, ◌+◌, ◌/◌, ◌%◌, ◌^◌, ◌<◌, ◌≤◌, arith, ◌≡◌, refl, sym, ap, ◌∙◌, List, [], ◌∷◌}
-use Rattle.laws.proofs.Kit.{◌++◌, append_assoc, append-nil, length, take, drop, get_or, length-append, length-drop, take_at}
-use Rattle.laws.proofs.Kit.{add-one, take-suc, length-take-le}
-use Rattle.laws.proofs.Kit.{le-leb, lt-leb, ⊎_elim}
+-- The text grows at its end: what is put after other bytes and those bytes together were put at the place of the latter. How long a
+-- number, the codes and an answer are in it.
+use Rattle.laws.proofs.Kit.{ℕ, zero, suc, ◌+◌, ◌-◌, ◌*◌, ◌/◌, ◌%◌, ◌^◌, ◌<◌, ◌≤◌, arith, ◌≡◌, refl, sym, ap, ◌∙◌, ⊎_elim, List, [], ◌∷◌}
+use Rattle.laws.proofs.Kit.{◌++◌, append_assoc, append-nil, length, take, drop, get_or, length-append, length-drop, take_at, drop-cons}
+use Rattle.laws.proofs.Kit.{drop-length, le-leb, lt-leb, lt-ltb, le-ltb}
 use Rattle.spec.specs.Printed.{last_digits, decimal, printed_codes, printed_answer}
 use Rattle.spec.specs.Answers.{number_of, place_of, length_of, output_after, tape_answer, Promise}
 use Rattle.spec.specs.{Tables.ascii, Tape.tape, Demands.CarriedOut, declared.Refusal.Refusal, Results.Answer}
 use Rattle.spec.specs.declared.Edition.TheVariants.{One}
 use Rattle.laws.proofs.{Bounds.tape_small, Classes.below_or}
+use Rattle.console.specs.Putting.{Appended, code_at}
 use native.Mathlib.Nat.{pow-suc}
 use Rattle.std.proofs.Common.{Err}
-use Rattle.std.specs.Fmt.{decimal as std_decimal}
-use Rattle.std.proofs.lemmas.Fmt.{AppendsLastDigit, decimal_from_appends, length-decimal-le_succ}
 use Rattle.spec.specs.Results.{wrote}
 
--- The digits of a number are those of a tenth of it, and the last one,
-appends : AppendsLastDigit last_digits
-unfolding last_digits
-appends = record {
-  one = λ k n h. rw (le-leb n 9 (omega arith)) (ap (λ d. (48 + d) ∷ []) (omega arith));
-  more = λ k n h. rw (lt-leb n 9 h) refl;
-}
+-- nothing put leaves the text as it is
+pub put_none : (text : List ℕ) (at : ℕ) → Appended [] text text at at
+put_none text at = record { place = omega arith; bytes = sym (append-nil (take at text)) }
 
--- so a number that a machine word holds is printed as std prints it.
-pub printed_decimal : (n : ℕ) → n < 2 ^ 64 → decimal n ≡ std_decimal n
-unfolding decimal
-printed_decimal n h = decimal_from_appends last_digits appends (suc n) n h (omega (arith, length-decimal-le_succ n h))
+-- bytes put after others
+pub put_over : {a b text text₁ text₂ : List ℕ} {at r s : ℕ} → Appended a text text₁ at r → Appended b text₁ text₂ r s
+    → Appended (a ++ b) text text₂ at s
+put_over {a} {b} {text} {text₁} {text₂} {at} p q =
+    record {
+      place = omega (arith, p.place, q.place, length-append a b);
+      bytes = q.bytes ∙ rw p.bytes (append_assoc (take at text) a b);
+    }
 
 -- A number has no more digits than it is large: how many above that are asked for is all one.
 enough : (k j n : ℕ) → n < k → n < j → last_digits k n ≡ last_digits j n
@@ -57,58 +56,49 @@ decimal_size (suc k) n h =
     ⊎_elim (λ g. omega (arith, decimal_longer n (omega arith), decimal_size k (n / 10) (omega arith)))
     (λ g. omega (arith, ap length (decimal_small n (omega arith)))) (below_or 9 n)
 
--- One code more: a space behind those before it, where there are any, and the code in decimal.
-printed_behind : (xs : List ℕ) (c : ℕ) → 0 < length xs → printed_codes (xs ++ (c ∷ [])) ≡ (printed_codes xs ++ (32 ∷ [])) ++ decimal c
+-- the codes from place i on are the code there and those after it
+codes_from_lem : (codes : List ℕ) (i : ℕ) → i < length codes
+    → printed_codes (drop i codes) ≡ code_at codes i ++ printed_codes (drop (suc i) codes)
 unfolding printed_codes ascii
-printed_behind [] c h = absurd (omega arith)
-printed_behind (x ∷ []) c h = sym (append_assoc (decimal x) (32 ∷ []) (decimal c))
-printed_behind (x ∷ (y ∷ xs)) c h = rw (printed_behind (y ∷ xs) c (omega arith)) (simp append_assoc)
+codes_from_lem codes i h = rw (drop-cons codes i 0 h) (by (drop (suc i) codes) (length-drop (suc i) codes))
+  where
+    by : (rest : List ℕ) → length rest ≡ length codes - suc i
+        → printed_codes (get_or codes i 0 ∷ rest) ≡ code_at codes i ++ printed_codes rest
+    by [] e = rw (le-ltb (i + 1) (length codes) (omega arith)) (simp append-nil)
+    by (d ∷ rest) e = rw (lt-ltb (i + 1) (length codes) (omega arith))
+        (sym (append_assoc (decimal (get_or codes i 0)) (32 ∷ []) (printed_codes (d ∷ rest))))
 
--- so the codes up to a place and the one there,
-pub put_first : (text codes : List ℕ) (i : ℕ) → i < length codes → i ≤ 0
-    → (text ++ printed_codes (take i codes)) ++ decimal (get_or codes i 0) ≡ text ++ printed_codes (take (i + 1) codes)
+-- the codes before place i
+abbrev pub printed_to : List ℕ → ℕ → List ℕ
+printed_to codes zero = []
+printed_to codes (suc i) = printed_to codes i ++ code_at codes i
+
+-- codes that are bytes have at most three digits each, and a space
+pub to_size : (codes : List ℕ) → ((i : ℕ) → get_or codes i 0 < 256) → (i : ℕ) → length (printed_to codes i) ≤ 4 * i
+to_size codes h zero = omega arith
+to_size codes h (suc i) =
+    let k = decimal_size 2 (get_or codes i 0) (omega (arith, h i)) in
+    let l : length (code_at codes i) ≤ 4 = rw length-append (⊎_elim (λ g. rw (lt-ltb (i + 1) (length codes) g) (omega arith))
+    (λ g. rw (le-ltb (i + 1) (length codes) g) (omega arith)) (below_or (i + 1) (length codes))) in
+    omega (arith, length-append (printed_to codes i) (code_at codes i), to_size codes h i)
+
+-- with those from there on they are all
+to_all : (codes : List ℕ) (i : ℕ) → i ≤ length codes → printed_to codes i ++ printed_codes (drop i codes) ≡ printed_codes codes
+to_all codes zero h = refl
+to_all codes (suc i) h = append_assoc (printed_to codes i) (code_at codes i) (printed_codes (drop (suc i) codes))
+    ∙ rw (← codes_from_lem codes i h) (to_all codes i (omega arith))
+
+-- so at the end
+pub printed_all : (codes : List ℕ) (i : ℕ) → i ≡ length codes → printed_to codes i ≡ printed_codes codes
 unfolding printed_codes
-put_first text [] i h z = absurd (omega arith)
-put_first text (c ∷ codes) zero h z = simp append-nil
-put_first text (c ∷ codes) (suc i) h z = absurd (omega arith)
-
-pub put_next : (text codes : List ℕ) (i : ℕ) → i < length codes → 0 < i
-    → ((text ++ printed_codes (take i codes)) ++ (32 ∷ [])) ++ decimal (get_or codes i 0) ≡ text ++ printed_codes (take (i + 1) codes)
-put_next text codes i h z =
-    let l = length-take-le i codes (omega arith) in
-    rw (add-one i, take-suc codes i 0 h, printed_behind (take i codes) (get_or codes i 0) (omega (arith, l))) (simp append_assoc)
-
-pub no_codes_put : (text : List ℕ) → text ≡ text ++ printed_codes []
-unfolding printed_codes
-no_codes_put text = sym (append-nil text)
-
--- and four bytes at most are put for it.
-pub code_size : (code : ℕ) → code < 256 → length (decimal code) ≤ 3
-code_size code h = decimal_size 2 code (omega arith)
-
-pub first_size : (text : List ℕ) (code : ℕ) → code < 256 → length (text ++ decimal code) ≤ length text + 4
-first_size text code h = rw length-append (omega (arith, code_size code h))
-
-pub next_size : (text : List ℕ) (code : ℕ) → code < 256 → length ((text ++ (32 ∷ [])) ++ decimal code) ≤ length text + 4
-next_size text code h = simp length-append (omega (arith, code_size code h))
-
--- what `put_codes` stands on
-pub ruleset codes_put = (no_codes_put, put_first, put_next, code_size, first_size, next_size)
+printed_all codes i e = rw e (sym (append-nil (printed_to codes (length codes)))
+    ∙ rw (drop-length codes) at (to_all codes (length codes) (omega arith)))
 
 -- how long a refusal's text is
 pub refusal_length : (r : Refusal) (codes : List ℕ)
     → length (printed_answer (Err r) codes) ≡ 8 + (length (decimal r.number) + (4 + length (decimal r.place)))
 unfolding printed_answer ascii
 refusal_length r codes = simp length-append (omega arith)
-
--- and its pieces, in a text
-pub put_refused : (text : List ℕ) (r : Refusal)
-    → (((text ++ ascii "refused ") ++ decimal r.number) ++ ascii " at ") ++ decimal r.place ≡ text ++ printed_answer (Err r) []
-unfolding printed_answer
-put_refused text r = simp append_assoc
-
--- what `put_refusal` stands on
-pub ruleset refusal_put = (refusal_length, put_refused)
 
 -- What the transcriber answered, lent as many codes as any tape has: a refusal, which is short,
 pub answer_refused : (m : List ℕ) (r : Refusal) → Err r ≡ tape_answer One m 8192
@@ -148,12 +138,7 @@ answer_written m {codes} {n = n} full p e same =
 -- a refusal with small numbers is short in print, whatever tape there might be
 pub refusal_short : (r : Refusal) → r.number ≤ 99 → r.place ≤ 65536 → length (printed_answer (Err r) []) ≤ 40
 refusal_short r n p =
-    omega (
-      arith,
-      refusal_length r [],
-      decimal_size 1 r.number (omega (arith, n)),
-      decimal_size 4 r.place (omega (arith, p)),
-    )
+    omega (arith, refusal_length r [], decimal_size 1 r.number (omega (arith, n)), decimal_size 4 r.place (omega (arith, p)))
 
 -- Where an operation was carried out, the first n bytes of its output are its text.
 pub record Part (text out : List ℕ) (n : ℕ) : Type 0 where

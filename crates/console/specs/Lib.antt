@@ -1,2 +1,3 @@
 pub mod Complaints
+pub mod Putting
 pub mod Reading

@@ -5,7 +5,7 @@ ghost use Rattle.std.specs.Io.KnownBytes.{Appends};
 ghost use Rattle.console.specs.Reading.{Takes, EndsOrFills, Makes};
 
 use crate::Failure;
-use crate::text::Text;
+use crate::text::TEXT;
 use std::io::{Read, Write};
 
 // Reads until the input ends or the buffer is full, and answers how many bytes there are. A read
@@ -30,8 +30,10 @@ pub fn read_input<R: Read>(input: &mut R, buffer: &mut [u8]) -> Result<usize, Fa
 
 // Reads the input as far as the buffer goes, and writes the text for it in one piece, where there
 // is any. Answers whether there is. Nothing is written for an input that could not be read.
+// `make_text` makes the text in an array that it is lent, and answers how long the text is; where it
+// says more than the array has, that is all of it.
 // The answer is a bool, since `some` says by it whether there was a text, and programs complain so.
-pub fn print_input<R: Read, W: Write, F: FnOnce(&[u8]) -> Text>(
+pub fn print_input<R: Read, W: Write, F: FnOnce(&[u8], &mut [u8; TEXT]) -> usize>(
     input: &mut R,
     output: &mut W,
     buffer: &mut [u8],
@@ -48,12 +50,13 @@ pub fn print_input<R: Read, W: Write, F: FnOnce(&[u8]) -> Text>(
         → W.contents output.new ≡ W.contents output.old }
 {
     let n = read_input(input, buffer)?;
-    let text = make_text(&buffer[..n]);
-    if text.is_empty() {
+    let mut text = [0u8; TEXT];
+    let end = make_text(&buffer[..n], &mut text).min(TEXT);
+    if end == 0 {
         return Ok(false);
     }
     output
-        .write_all(text.as_slice())
+        .write_all(&text[..end])
         .map_err(|_| Failure::Unwritten)?;
     Ok(true)
 }

@@ -1,11 +1,10 @@
-// The text that the programs print.
-ghost use Rattle.std.specs.Prelude.{◌≡◌, [], ◌++◌, ◌+◌, ◌*◌, ◌≤◌, length};
+// The text that the programs print, made in a lent buffer.
+ghost use Rattle.std.specs.Prelude.{◌≡◌, [], ◌∷◌, ◌+◌, ◌*◌, ◌<◌, ◌≤◌, length, take};
 ghost use Rattle.spec.specs.Tape.{tape};
 ghost use Rattle.spec.specs.Answers.{tape_answer};
 ghost use Rattle.spec.specs.Printed.{decimal, printed_codes, printed_answer, printed};
-ghost use Rattle.arrayvec.specs.ArrayVec.{array_vec_len};
+ghost use Rattle.console.specs.Putting.{Appended, IsPrefixLen, code_at};
 
-use arrayvec::ArrayVec;
 use spec::{Edition, Refusal};
 use transcriber::tape::transcribe;
 
@@ -18,61 +17,89 @@ pub const ANSWER: usize = 4 * CODES;
 // Behind the answer there is room for a newline.
 pub const TEXT: usize = ANSWER + 1;
 
-// What is printed. Its bytes lie in the value itself.
-pub type Text = ArrayVec<u8, TEXT>;
-
-// Puts a number in decimal. Like all that is put it asks for the room that it needs itself.
-#[tactic(auto, using(crate::proofs::Texts::printed_decimal))]
-fn put_decimal<const N: usize>(n: usize, text: &mut ArrayVec<u8, N>)
-    requires { array_vec_len text.old + length (decimal n) ≤ N }
-    ensures { text.new.items ≡ text.old.items ++ decimal n }
+// Puts a byte at place at, and answers the place after it.
+fn put(text: &mut [u8], at: usize, byte: u8) -> usize
+    requires { at < length text.old }
+    ensures { Appended (byte ∷ []) text.old text.new at result }
 {
-    put_bytes(itoa::Buffer::new().format(n).as_bytes(), text);
+    text[at] = byte;
+    at + 1
 }
 
-// Puts bytes as they stand.
-pub fn put_bytes<const N: usize>(bytes: &[u8], text: &mut ArrayVec<u8, N>)
-    requires { array_vec_len text.old + length bytes.now ≤ N }
-    ensures { text.new.items ≡ text.old.items ++ bytes.now }
+// Puts a number in decimal: the digits before the last one are those of a tenth of it.
+fn put_decimal(text: &mut [u8], at: usize, n: usize) -> usize
+    requires { at + length (decimal n) ≤ length text.old }
+    ensures { Appended (decimal n) text.old text.new at result }
 {
-    text.try_extend_from_slice(bytes).unwrap();
-}
-
-// Puts codes in decimal, with a space before each but the first.
-#[tactic(auto, using(crate::proofs::Texts::codes_put))]
-fn put_codes<const N: usize>(codes: &[u8], text: &mut ArrayVec<u8, N>)
-    requires { array_vec_len text.old + 4 * length codes.now ≤ N }
-    ensures appended { text.new.items ≡ text.old.items ++ printed_codes codes.now }
-    ensures upper_bound { array_vec_len text.new ≤ array_vec_len text.old + 4 * length codes.now }
-{
-    for (i, &code) in codes.iter().enumerate() {
-        if 0 < i {
-            text.push(b' ');
-        }
-        put_decimal(code as usize, text);
+    let digit = b'0' + (n % 10) as u8;
+    if n < 10 {
+        return put(text, at, digit);
     }
+    let end = put_decimal(text, at, n / 10);
+    put(text, end, digit)
 }
 
-// Puts a refusal. Not as its Display, which would stand beside the type, in the crate that has no
-// function.
-#[tactic(auto, using(crate::proofs::Texts::refusal_put), unfolding(spec::specs::Tables::ascii))]
-pub fn put_refusal<const N: usize>(r: Refusal, text: &mut ArrayVec<u8, N>)
-    requires { array_vec_len text.old + length (printed_answer (Err r) []) ≤ N }
-    ensures { text.new.items ≡ text.old.items ++ printed_answer (Err r) [] }
+// Puts a text as it stands.
+pub fn put_bytes(text: &mut [u8], at: usize, bytes: &[u8]) -> usize
+    requires { at + length bytes.now ≤ length text.old }
+    ensures { Appended bytes.now text.old text.new at result }
 {
-    put_bytes(b"refused ", text);
-    put_decimal(r.number as usize, text);
-    put_bytes(b" at ", text);
-    put_decimal(r.place, text);
+    let mut end = at;
+    for &byte in bytes {
+        end = put(text, end, byte);
+    }
+    end
+}
+
+// Puts one code, and a space where another follows.
+fn put_code(codes: &[u8], i: usize, text: &mut [u8], at: usize) -> usize
+    requires { (i < length codes.now) × (at + length (code_at codes.now i) ≤ length text.old) }
+    ensures { Appended (code_at codes.now i) text.old text.new at result }
+{
+    let end = put_decimal(text, at, codes[i] as usize);
+    if i + 1 < codes.len() {
+        return put(text, end, b' ');
+    }
+    end
+}
+
+// Puts the codes from the text's start on.
+fn put_codes(codes: &[u8], text: &mut [u8]) -> usize
+    requires { 4 * length codes.now ≤ length text.old }
+    ensures appended { Appended (printed_codes codes.now)
+        text.old text.new 0 result }
+    ensures upper_bound { result ≤ 4 * length codes.now }
+{
+    let mut at = 0;
+    for i in 0..codes.len() {
+        at = put_code(codes, i, text, at);
+    }
+    at
+}
+
+// Puts a refusal at the text's start. Not as its Display, which would stand beside the type, in the
+// crate that has no function.
+pub fn put_refusal(r: Refusal, text: &mut [u8]) -> usize
+    requires { length (printed_answer (Err r) []) ≤ length text.old }
+    ensures { Appended (printed_answer (Err r) [])
+        text.old text.new 0 result }
+{
+    let number = r.number as usize;
+    let place = r.place;
+    let mut end = put_bytes(text, 0, b"refused ");
+    end = put_decimal(text, end, number);
+    end = put_bytes(text, end, b" at ");
+    put_decimal(text, end, place)
 }
 
 // Puts what the transcriber answers, which is lent room for every tape. The programs keep edition 1
 // (paper 02, request 8).
-pub fn put_answer<const N: usize>(m: &[u8], text: &mut ArrayVec<u8, N>)
-    requires { array_vec_len text.old + ANSWER ≤ N }
-    ensures appended { text.new.items ≡ text.old.items ++ printed_answer
-        (tape_answer Edition.One m.now 8192) (tape Edition.One m.now) }
-    ensures upper_bound { array_vec_len text.new ≤ array_vec_len text.old + ANSWER }
+pub fn put_answer(m: &[u8], text: &mut [u8]) -> usize
+    requires { ANSWER ≤ length text.old }
+    ensures appended { Appended (printed_answer (tape_answer Edition.One m.now 8192)
+        (tape Edition.One m.now))
+        text.old text.new 0 result }
+    ensures upper_bound { result ≤ ANSWER }
 {
     let mut codes = [0u8; CODES];
     match transcribe(Edition::One, m, &mut codes) {
@@ -81,13 +108,11 @@ pub fn put_answer<const N: usize>(m: &[u8], text: &mut ArrayVec<u8, N>)
     }
 }
 
-// The whole text for a message.
-#[tactic(auto, unfolding(spec::specs::Printed::printed, spec::specs::Tables::ascii))]
-pub fn print_message(m: &[u8]) -> Text
-    ensures { result.items ≡ printed m.now }
+// Puts the whole text for a message, and answers how long it is.
+pub fn print_message(m: &[u8], text: &mut [u8; TEXT]) -> usize
+    ensures prefix_len { IsPrefixLen result text.new }
+    ensures text_after { take result text.new ≡ printed m.now }
 {
-    let mut text = Text::new();
-    put_answer(m, &mut text);
-    text.push(b'\n');
-    text
+    let end = put_answer(m, text);
+    put_bytes(text, end, b"\n")
 }

@@ -43,16 +43,6 @@ digits_step : (t : List ℕ) (i : ℕ) → i < length t
 unfolding are_digits
 digits_step t i h = rw (drop-cons t i 0 h, add-one i)
 
--- a clipped number with one digit more
-clip_more : (n v d : ℕ) → d ≤ 9 → Clipped n v → Clipped (min 10000 (10 * n + d)) (10 * v + d)
-clip_more n v d h c = record {
-  same = ⊎_elim
-      (λ e. ⊎_elim (λ (h : 10 * n + d < 10000). inl (omega (arith, e))) (λ (h : 10000 ≤ 10 * n + d). inr (omega arith, omega (arith, e)))
-      (below_or (10 * n + d) 10000))
-      (λ e. inr (omega (arith, e.0), omega (arith, e.1))) c.same;
-  small = omega arith;
-}
-
 -- Digits that are read up to place i, as n.
 pub record Reads (t : List ℕ) (i n : ℕ) : Type 0 where
   pub within : i ≤ length t
@@ -82,16 +72,30 @@ module _ {t : List ℕ} {i n : ℕ} (r : Reads t i n) (h : i < length t) where
   pub digit_at : (48 ≤ get_or t i 0) × (get_or t i 0 ≤ 57)
   digit_at = digits_at.0
 
-  -- with it the number is read one place further
-  pub reads_more : Reads t (i + 1) (min 10000 (10 * n + (get_or t i 0 - 48)))
+  -- a number that stays clipped with the digit behind it is read one place further
+  reads_to : (k : ℕ) → Clipped k (10 * r.said + (get_or t i 0 - 48)) → Reads t (i + 1) k
   unfolding digits_from
-  reads_more = record {
+  reads_to k c = record {
     within = omega arith;
     said = 10 * r.said + (get_or t i 0 - 48);
-    clipped = clip_more n r.said (get_or t i 0 - 48) (omega (arith, digit_at)) r.clipped;
+    clipped = c;
     rest = rw (add-one i) (rw (drop-cons t i 0 h) at r.rest);
     digits = digits_at.1;
   }
+
+  -- while it is in the range it takes the digit,
+  pub reads_more : n < 10000 → Reads t (i + 1) (10 * n + (get_or t i 0 - 48))
+  reads_more l = reads_to _ (record {
+    same = ⊎_elim (λ e. inl (omega (arith, e))) (λ e. absurd (omega (arith, e.0))) r.clipped.same;
+    small = omega (arith, digit_at);
+  })
+
+  -- from there on it makes no odds
+  pub reads_past : 10000 ≤ n → Reads t (i + 1) n
+  reads_past l = reads_to _ (record {
+    same = ⊎_elim (λ e. inr (omega arith, omega (arith, e))) (λ e. inr (e.0, omega (arith, e.1))) r.clipped.same;
+    small = r.clipped.small;
+  })
 
 pub reads_all : {t : List ℕ} {i n : ℕ} → Reads t i n → length t ≤ i → Clipped n (digits_from 0 t)
 unfolding digits_from
@@ -100,7 +104,7 @@ reads_all {t} {i} r h =
     rw (rw (e, drop-length t) at r.rest) at r.clipped
 
 -- what `read_digits` stands on
-pub ruleset reading = (reads_none, reads_more)
+pub ruleset reading = (reads_none, reads_more, reads_past)
 
 -- A text of more bytes than 4,096 is no number;
 pub no_number : (t : List ℕ) → 4096 < length t → is_decimal t ≡ false
@@ -143,20 +147,20 @@ module _ (t digits : List ℕ) (is : digits ≡ drop (sign_length t) t) where
 pub ruleset numbers = (no_number, no_digits, other_bytes, is_number)
 
 -- Signed: a number and its negation, as the machine holds them.
-held : (n : ℕ) → n ≤ 99999 → to_z w32 n ≡ pos n
+pub held : (n : ℕ) → n ≤ 99999 → to_z w32 n ≡ pos n
 held n h = to_z_pos w32 (omega arith)
 
 negated : (n : ℕ) → pos 0 -ℤ pos n ≡ neg_ℤ (pos n)
 negated n = +ℤ_idl (neg_ℤ (pos n))
 
-negated_fits : (n : ℕ) → n ≤ 99999 → SFits w32 (pos 0 -ℤ to_z w32 n)
+pub negated_fits : (n : ℕ) → n ≤ 99999 → SFits w32 (pos 0 -ℤ to_z w32 n)
 negated_fits n h = rw (held n h, negated n) (by n h)
   where
     by : (n : ℕ) → n ≤ 99999 → SFits w32 (neg_ℤ (pos n))
     by zero h = record { sfits = omega arith }
     by (suc n) h = record { sfits = omega arith }
 
-negated_held : (n : ℕ) → n ≤ 99999 → to_z w32 (of_z w32 (pos 0 -ℤ to_z w32 n)) ≡ neg_ℤ (pos n)
+pub negated_held : (n : ℕ) → n ≤ 99999 → to_z w32 (of_z w32 (pos 0 -ℤ to_z w32 n)) ≡ neg_ℤ (pos n)
 negated_held n h = to_z-of_z w32 (pos 0 -ℤ to_z w32 n) (negated_fits n h) ∙ rw (held n h, negated n)
 
 negated_size : (n : ℕ) → nat_abs (neg_ℤ (pos n)) ≡ n

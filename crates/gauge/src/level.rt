@@ -1,21 +1,21 @@
 // What is printed for a level in decimal: the level's refusal, or what the transcriber answers for
 // its words.
-ghost use Rattle.std.specs.Prelude.{◌≡◌, ◌↔◌, ◌+◌, ◌++◌, ◌≤◌, true, drop, IsSome, IfSome};
+ghost use Rattle.std.specs.Prelude.{◌≡◌, ◌↔◌, ◌≤◌, true, length, take, drop, IsSome, IfSome};
 ghost use Rattle.spec.specs.Tape.{tape};
 ghost use Rattle.spec.specs.SpokenLevels.{spoken};
 ghost use Rattle.spec.specs.Printed.{printed_answer, sign_length, are_digits, is_decimal};
 ghost use Rattle.spec.specs.Printed.{digits_from, level_in, spoken_answer, printed_level};
-ghost use Rattle.arrayvec.specs.ArrayVec.{array_vec_len};
+ghost use Rattle.console.specs.Putting.{Appended, IsPrefixLen};
 ghost use Rattle.gauge.specs.Reading.{Clipped, Like};
 
-use console::text::{ANSWER, TEXT, Text, put_answer, put_refusal};
+use console::text::{ANSWER, TEXT, put_answer, put_bytes, put_refusal};
 use levels::{LONGEST, speak_level};
 use spec::Edition;
 
 // The longest text that is read as a number.
 pub const TYPED_MAX: usize = 4096;
 
-// A number as large is outside the range, and so is a larger one.
+// A number as large is outside the range, whatever digits follow.
 const OUTSIDE: usize = 10000;
 
 // What stands behind the sign, which is a minus sign or none.
@@ -41,8 +41,9 @@ fn read_digits(t: &[u8]) -> usize
     let mut n = 0;
     // No `fold`: the bound of the sum would have to come from a `requires` of its closure.
     for &b in t {
-        let digit = (b - b'0') as usize;
-        n = OUTSIDE.min(10 * n + digit);
+        if n < OUTSIDE {
+            n = 10 * n + (b - b'0') as usize;
+        }
     }
     n
 }
@@ -61,13 +62,12 @@ fn read_level(t: &[u8]) -> Option<i32>
     Some(if digits.len() < t.len() { -n } else { n })
 }
 
-// Speaks the level, lent room for the words of any, and puts what the transcriber answers, as
-// `put_answer` puts a tape.
-fn put_level(level: i32, text: &mut Text)
-    requires { array_vec_len text.old + ANSWER ≤ TEXT }
-    ensures appended { text.new.items ≡ text.old.items ++ printed_answer
-        (spoken_answer level) (tape Edition.One (spoken level)) }
-    ensures upper_bound { array_vec_len text.new ≤ array_vec_len text.old + ANSWER }
+// Speaks the level, lent room for the words of any, and puts what the transcriber answers.
+fn put_level(level: i32, text: &mut [u8]) -> usize
+    requires { ANSWER ≤ length text.old }
+    ensures appended { Appended (printed_answer (spoken_answer level)
+        (tape Edition.One (spoken level))) text.old text.new 0 result }
+    ensures upper_bound { result ≤ ANSWER }
 {
     let mut words = [0u8; LONGEST];
     match speak_level(level, &mut words) {
@@ -76,15 +76,14 @@ fn put_level(level: i32, text: &mut Text)
     }
 }
 
-// The whole text for what was typed; empty where that is no number.
-pub fn print_level(t: &[u8]) -> Text
-    ensures { result.items ≡ printed_level t.now }
+// Puts the whole of what is printed, and answers how long it is: 0 where the text is no number.
+pub fn print_level(t: &[u8], text: &mut [u8; TEXT]) -> usize
+    ensures prefix_len { IsPrefixLen result text.new }
+    ensures text_after { take result text.new ≡ printed_level t.now }
 {
-    let mut text = Text::new();
     let Some(level) = read_level(t) else {
-        return text;
+        return 0;
     };
-    put_level(level, &mut text);
-    text.push(b'\n');
-    text
+    let end = put_level(level, text);
+    put_bytes(text, end, b"\n")
 }

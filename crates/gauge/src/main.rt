@@ -23,7 +23,8 @@ fn print_input<R: Read, W: Write>(input: &mut R, output: &mut W) -> Result<bool,
     ensures unread { IsErrOf result Failure.Unread
         → W.contents output.new ≡ W.contents output.old }
 {
-    standard::print_input(input, output, &mut [0u8; TYPED_MAX + 1], print_level)
+    let is_number = standard::print_input(input, output, &mut [0u8; TYPED_MAX + 1], print_level)?;
+    Ok(is_number)
 }
 
 fn main(rt: HostRuntime) {

@@ -1,13 +1,13 @@
 -- What is written for the bytes that were kept is what is printed for the whole text.
 use Rattle.std.proofs.Common.{arith, rules}
 use Rattle.spec.specs.Printed.{printed_level}
-use Rattle.console.proofs.{Inputs.answer_for, Kept.level_kept}
+use Rattle.console.proofs.{Inputs.prints_for, Kept.level_kept}
 use Rattle.gauge.proofs.print_input.Goals as goal
 
 pub returns-clause-text : goal.returns-clause-text
 returns-clause-text g c =
-    answer_for _ _ 4097 printed_level 4096 level_kept (omega arith) (λ t text r. search rules) _ _ _ c.print_input.ensures.text
+    prints_for _ _ 4097 printed_level 4096 level_kept (omega arith) (λ p lent left n r. search rules) _ _ c.in_ok-is_number.ensures.text
 
 pub returns-clause-some : goal.returns-clause-some
 returns-clause-some g c =
-    answer_for _ _ 4097 printed_level 4096 level_kept (omega arith) (λ t text r. search rules) _ _ _ c.print_input.ensures.some
+    prints_for _ _ 4097 printed_level 4096 level_kept (omega arith) (λ p lent left n r. search rules) _ _ c.in_ok-is_number.ensures.some

@@ -6,4 +6,4 @@ use Rattle.govorun.proofs.print_input.Goals as goal
 
 pub returns-clause-text : goal.returns-clause-text
 returns-clause-text g c =
-    prints_for _ _ 4097 printed 4096 printed_kept (omega arith) (λ t text r. search rules) _ _ c.in_ok-print_input.ensures.text
+    prints_for _ _ 4097 printed 4096 printed_kept (omega arith) (λ p lent left n r. search rules) _ _ c.in_ok-print_input.ensures.text

@@ -6,8 +6,8 @@ use Rattle.speak.proofs.print_input.Goals as goal
 
 pub returns-clause-text : goal.returns-clause-text
 returns-clause-text g c =
-    answer_for _ _ 65537 printed_text 65536 text_kept (omega arith) (λ t text r. search rules) _ _ _ c.print_input.ensures.text
+    answer_for _ _ 65537 printed_text 65536 text_kept (omega arith) (λ p lent left n r. search rules) _ _ _ c.print_input.ensures.text
 
 pub returns-clause-some : goal.returns-clause-some
 returns-clause-some g c =
-    answer_for _ _ 65537 printed_text 65536 text_kept (omega arith) (λ t text r. search rules) _ _ _ c.print_input.ensures.some
+    answer_for _ _ 65537 printed_text 65536 text_kept (omega arith) (λ p lent left n r. search rules) _ _ _ c.print_input.ensures.some

@@ -1,5 +1,5 @@
 -- The words are put, and the transcriber's answer for them; where the level is refused, its refusal.
-use Rattle.laws.proofs.Kit.{◌≤◌, ◌≡◌, arith, refl, [], length, length-append}
+use Rattle.laws.proofs.Kit.{◌≤◌, ◌≡◌, arith, refl, [], length}
 use lib.ListN.{replicate}
 use mir.Syntax.{w32}
 use mir.ValLaws.{to_z-of_z}
@@ -31,19 +31,17 @@ pub slice_bounds-put_answer-end : goal.slice_bounds-put_answer-end
 slice_bounds-put_answer-end c = (words (goal.at.slice_bounds-put_answer-end c).In-Ok).size
 
 pub put_refusal-requires : goal.put_refusal-requires
-put_refusal-requires c = omega (arith, (refused (goal.at.put_refusal-requires c).In-Err).1)
+put_refusal-requires c = omega (arith, (refused (goal.at.put_refusal-requires c).In-Err).1, c.requires)
 
 pub returns-in-Ok-clause-appended : goal.returns-in-Ok-clause-appended
 unfolding printed_answer
 returns-in-Ok-clause-appended c =
-    let w = (goal.at.returns-in-Ok-clause-appended c).In-Ok in
-    rw (level_spoken c.args.level (promise (goal.at.In-Ok w).After-speak_level) refl c.in-Ok.is)
-    (rw (words w).bytes at c.put_answer.ensures.appended)
+    let p = promise (goal.at.returns-in-Ok-clause-appended c).After-speak_level in
+    rw (level_spoken c.args.level p refl c.in-Ok.is)
+    (rw (words (goal.at.returns-in-Ok-clause-appended c).In-Ok).bytes at c.put_answer.ensures.appended)
 
-pub returns-in-Err-clause-appended : goal.returns-in-Err-clause-appended
+pub returns-in-Err : goal.returns-in-Err
 unfolding printed_answer
-returns-in-Err-clause-appended c = rw (refused (goal.at.returns-in-Err-clause-appended c).In-Err).0 c.put_refusal.ensures
-
-pub returns-in-Err-clause-upper_bound : goal.returns-in-Err-clause-upper_bound
-returns-in-Err-clause-upper_bound c =
-    rw (c.put_refusal.ensures, length-append) (omega (arith, (refused (goal.at.returns-in-Err-clause-upper_bound c).In-Err).1))
+returns-in-Err c =
+    let f = refused (goal.at.returns-in-Err c).In-Err in
+    record { appended = rw f.0 c.put_refusal.ensures; upper_bound = omega (arith, c.put_refusal.ensures.place, f.1) }

@@ -8,4 +8,4 @@ unwrap-requires c = rw (edit_written c.args.m.now c.edit.ensures c.requires)
 pub returns : goal.returns
 returns c =
     let p = edit_part c.args.m.now c.edit.ensures c.requires c.unwrap.ensures in
-    record { within = p.within; prefix_len = p.size; plain_after = p.bytes }
+    record { prefix_len = (p.within, p.size); plain_after = p.bytes }

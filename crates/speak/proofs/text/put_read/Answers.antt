@@ -1,5 +1,5 @@
 -- The reader puts what is read, which is edited and spoken; where it refuses, its refusal is put.
-use Rattle.laws.proofs.Kit.{◌≤◌, ◌≡◌, ap, ◌∙◌, [], arith, length, length-append}
+use Rattle.laws.proofs.Kit.{◌≤◌, ◌≡◌, ap, ◌∙◌, [], arith, length}
 use Rattle.spec.specs.Editing.{edited}
 use Rattle.spec.specs.Utf8.{decoded}
 use Rattle.spec.specs.Printed.{printed_answer, text_answer}
@@ -35,12 +35,11 @@ pub returns-in-Ok-clause-appended : goal.returns-in-Ok-clause-appended
 unfolding printed_answer
 returns-in-Ok-clause-appended c =
     let t = c.edit_read-n.ensures.plain_after ∙ ap edited (read (goal.at.returns-in-Ok-clause-appended c).In-Ok).bytes in
-    rw (text_spoken c.args.t.now c.read_utf8.ensures c.requires.0 c.in-Ok.is, ← t) c.put_answer.ensures.appended
+    rw (text_spoken c.args.t.now c.read_utf8.ensures c.requires.0 c.in-Ok.is)
+    (rw t at c.put_answer.ensures.appended)
 
-pub returns-in-Err-clause-appended : goal.returns-in-Err-clause-appended
+pub returns-in-Err : goal.returns-in-Err
 unfolding printed_answer
-returns-in-Err-clause-appended c = rw (refused (goal.at.returns-in-Err-clause-appended c).In-Err).0 c.put_refusal.ensures
-
-pub returns-in-Err-clause-upper_bound : goal.returns-in-Err-clause-upper_bound
-returns-in-Err-clause-upper_bound c =
-    rw (c.put_refusal.ensures, length-append) (omega (arith, (refused (goal.at.returns-in-Err-clause-upper_bound c).In-Err).1))
+returns-in-Err c =
+    let f = refused (goal.at.returns-in-Err c).In-Err in
+    record { appended = rw f.0 c.put_refusal.ensures; upper_bound = omega (arith, c.put_refusal.ensures.place, f.1) }

@@ -1,0 +1,5 @@
+-- A tenth of a number is smaller.
+use Rattle.console.proofs.text.+put_decimal.Given as goal
+
+abbrev pub decreases-put_decimal : goal.decreases-put_decimal
+decreases-put_decimal l = l.n
