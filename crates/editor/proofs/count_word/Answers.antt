@@ -1,17 +1,22 @@
-use Rattle.std.proofs.Common.{rules, tests}
-use Rattle.std.proofs.lemmas.Iterator.{YieldsList-from_slice}
-use Rattle.std.proofs.lemmas.Iterator.Consumers.{count_from_yields_List}
-use Rattle.std.proofs.lemmas.Iterator.Search.{YieldsList-from_take_while}
-use Rattle.std.proofs.lemmas.List.Folds.{length-prefix_len}
-use Rattle.laws.proofs.Kit.{◌∙◌, sym}
+use Rattle.laws.proofs.Kit.{◌<◌, sym, ap, ◌∙◌, not, length}
 use Rattle.editor.specs.Walk.{others}
-use Rattle.editor.proofs.Walking.{leading_prefix}
+use Rattle.editor.proofs.Walking.{counting_within, counting_more, counting_stop}
 use Rattle.editor.proofs.count_word.Goals as goal
+use Rattle.editor.proofs.count_word.Goals.{At-loop-k}
+
+-- there is a byte to read
+within : (c : At-loop-k) → c.loop-k.k < length c.args.text.now
+within c = counting_within others _ _ c.loop-k.invariant c.requires
+
+pub bounds-text-k : goal.bounds-text-k
+bounds-text-k c = within (goal.at.bounds-text-k c).At-loop-k
+
+pub loop-k-preserved : goal.loop-k-preserved
+loop-k-preserved c =
+    counting_more others _ _ c.loop-k.invariant (within (goal.at.loop-k-preserved c).At-loop-k)
+    (ap not (sym c.is_break.ensures ∙ c.loop-k-test.true))
 
 pub returns : goal.returns
 returns c =
-    let t = c.args.text.now in
-    count_from_yields_List c.take_while.result _ c.count.ensures.ran
-    (YieldsList-from_take_while _ others (YieldsList-from_slice t (cc)) c.take_while.ensures.closure c.take_while.ensures.done
-    (λ x b q k. search (rules, tests)))
-    ∙ length-prefix_len others t ∙ sym (leading_prefix others t)
+    counting_stop others _ _ c.loop-k.invariant (within (goal.at.returns c).At-loop-k)
+    (ap not (sym c.is_break.ensures ∙ c.loop-k-test.false))
