@@ -2,15 +2,13 @@
 -- paper's words: `proofs/` shows that they agree with them.
 -- Assumes nothing: these are definitions.
 use Rattle.std.specs.Prelude.{ℕ, ◌+◌, ◌<◌, ◌≤◌, ◌≡◌, cond, List, length, drop}
-use Rattle.std.specs.Prelude.{Option, None, Some, Result, Ok, Err}
-use Rattle.std.specs.Borrow.{Bor}
+use Rattle.std.specs.Prelude.{Option, None, Some, Ok, Err}
 use Rattle.spec.specs.Book.{head_size, set_in, length_in, NewPhrase}
 use Rattle.spec.specs.Listeners.{may_hear, withheld}
 use Rattle.spec.specs.Tape.{sounds}
 use Rattle.spec.specs.Refusals.{check_of}
 use Rattle.spec.specs.declared.Counts.{Counts}
 use Rattle.spec.specs.declared.Listener.{Listener}
-use Rattle.spec.specs.declared.Refusal.{Refusal}
 use Rattle.spec.specs.Results.{Answer, Found, Located, spanning}
 use Rattle.book.specs.declared.adding.Addition.{Addition}
 
@@ -45,17 +43,3 @@ pub record RecordDue (m out : List ℕ) (i n size : ℕ) : Type 0 where
   pub few : size < 65536
   pub number : n < 65536
   pub room : i + head_size + size ≤ length out
-
--- What a lookup hands back, a part of the buffer, or a refusal, as the answer of its promise; and
--- what a place holds that takes it, or keeps what it had, and where that stands.
-abbrev pub as_found : Result (Bor (List ℕ)) Refusal → Found
-as_found (Ok t) = Ok tt
-as_found (Err r) = Err r
-
-abbrev pub taken : Result (Bor (List ℕ)) Refusal → List ℕ → List ℕ
-taken (Ok t) old = t.now
-taken (Err r) old = old
-
-abbrev pub stands_at_last : Result (Bor (List ℕ)) Refusal → ℕ × ℕ → ℕ × ℕ
-stands_at_last (Ok t) old = t.ref_ptr
-stands_at_last (Err r) old = old

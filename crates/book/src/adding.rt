@@ -81,7 +81,12 @@ pub fn add(
     used: usize,
     addition: Addition,
 ) -> Result<Written, Refusal>
-    ensures { AddPromise book_storage listener buffer.old used (asked addition.entry)
+    ensures { AddPromise book_storage listener buffer.old used (record {
+      edition = addition.entry.edition;
+      number = addition.entry.number;
+      set = addition.entry.set;
+      message = addition.entry.message.now;
+    })
         buffer.new result }
 {
     match listener {

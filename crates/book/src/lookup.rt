@@ -1,8 +1,9 @@
 // Lookups (paper 02, requests 6 and 7).
 ghost use Rattle.std.specs.Prelude.{◌≡◌, ℕ, List};
 ghost use Rattle.spec.specs.Book.{book_storage, read_book, book_in, locate_answer, unheard};
-ghost use Rattle.spec.specs.Book.{stands_after, FindPromise, LocatePromise};
-ghost use Rattle.book.specs.Entries.{PlaceIn, told_at, as_found, taken, stands_at_last};
+ghost use Rattle.spec.specs.Book.{stands_after, as_found, taken, stands_at_last};
+ghost use Rattle.spec.specs.Book.{FindPromise, LocatePromise};
+ghost use Rattle.book.specs.Entries.{PlaceIn, told_at};
 
 use records::listeners::{may_hear, not_for_listener};
 use records::pair_at;

@@ -12,7 +12,7 @@ pub use lib.ListN.{get_or-append as List·getD-append, get_or-eq_default as List
 pub use lib.ListN.{length-append, length-drop, length-take, set, take, take-append-drop}
 pub use lib.Seq.{append_snoc, drop-append-add, drop_at, drop-cons, drop-drop, drop-length, get_or-append-add, get_or_at, get_or-drop}
 pub use lib.Seq.{get_or-take, length-take-le, set_split, take-add, take_all, take-append-le, take_at, take-length, take-suc}
-pub use lib.Seq.{take-take}
+pub use lib.Seq.{take-suc-set, take-take}
 pub use borrow.Author.Tests.{eq-eqb, eqb-false, eqb-true, le-leb, le-ltb, leb-false, leb-true, lt-leb, lt-ltb, ne_eqb, not-false, not-true}
 pub use borrow.Author.Rules.{rules}
 pub use Rattle.std.proofs.lemmas.Bool.{and_parts}

@@ -3,7 +3,8 @@
 -- Assumes nothing: these are definitions.
 use Rattle.std.specs.Prelude.{ℕ, zero, suc, ◌+◌, ◌-◌, ◌*◌, ◌/◌, ◌%◌, ◌<◌, ◌≤◌, ◌≡◌, Bool, cond}
 use Rattle.std.specs.Prelude.{◌&&◌, not, List, [], ◌∷◌, ◌++◌, eqb, leb, length, take, drop, get_or}
-use Rattle.std.specs.Prelude.{Ok, Err}
+use Rattle.std.specs.Prelude.{Result, Ok, Err}
+use Rattle.std.specs.Borrow.{Bor}
 use Rattle.spec.specs.Numbers.{broken_record, number_not_above}
 use Rattle.spec.specs.Tape.{tape}
 use Rattle.spec.specs.Tables.{same}
@@ -238,8 +239,8 @@ module _ (st : Storage) where
   tape_after l (holds fs) n old = handed (heard l (search fs n)) old
   tape_after l (unsound r) n old = old
 
-  -- The lookup of number n by a listener. The caller lends a place that refers to some bytes, old;
-  -- afterwards it refers to new.
+  -- The lookup of number n by a listener. A place that takes what is handed back refers to some
+  -- bytes before, old, and afterwards to new.
   pub record FindPromise (l : Listener) (buffer : List ℕ) (used n : ℕ) (old new : List ℕ)
       (r : Found) : Type 0 where
     pub answer : r ≡ find_answer l (read_book (book_in buffer used)) n
@@ -325,7 +326,21 @@ pub record LocatePromise (l : Listener) (buffer : List ℕ) (used n : ℕ) (r : 
   pub inside : end_of r ≤ length buffer
 
 -- What the lookup hands back are the tape's own bytes: in memory they stand in the buffer, from
--- that start on. Where there is none to hand back the lent place refers to what it did before.
+-- that start on. Where there is none to hand back a place that takes it refers to what it did before.
 unfoldable pub stands_after : Located → ℕ × ℕ → ℕ × ℕ → ℕ × ℕ
 stands_after (Ok s) buffer old = (buffer.0, s.start + buffer.1)
 stands_after (Err r) buffer old = old
+
+-- A lookup that hands back a part of the buffer, as the answer of its promise; which bytes a place
+-- holds that takes the part, and keeps what it had where there is a refusal; and where these stand.
+abbrev pub as_found : Result (Bor (List ℕ)) Refusal → Found
+as_found (Ok t) = Ok tt
+as_found (Err r) = Err r
+
+abbrev pub taken : Result (Bor (List ℕ)) Refusal → List ℕ → List ℕ
+taken (Ok t) old = t.now
+taken (Err r) old = old
+
+abbrev pub stands_at_last : Result (Bor (List ℕ)) Refusal → ℕ × ℕ → ℕ × ℕ
+stands_at_last (Ok t) old = t.ref_ptr
+stands_at_last (Err r) old = old

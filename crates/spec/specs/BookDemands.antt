@@ -49,8 +49,8 @@ abbrev pub last_used : ℕ → List Addition → ℕ
 last_used used [] = used
 last_used used (a ∷ more) = last_used (used_after a.answer used) more
 
--- One lookup: the number asked for and what the lent place referred to, what was answered, and what
--- the place refers to afterwards.
+-- One lookup: the number asked for and what the place that takes the tape referred to, what was
+-- answered, and what the place refers to afterwards.
 pub record Lookup : Type 0 where
   pub number : ℕ
   pub before : List ℕ
