@@ -8,7 +8,7 @@ ghost use Rattle.consonants.specs.Sounds.{Heard, code_before};
 
 use tables::SOUNDS;
 
-mod tables;
+pub mod tables;
 
 // What stands right of a letter is a number: the code of the next sound of the word, or one of two
 // more where it has none, and then the next word decides how an obstruent sounds. It is an index

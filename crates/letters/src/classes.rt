@@ -33,3 +33,6 @@ pub const VOWEL_I: usize = 13;
 pub const FIRST_LETTER: usize = HARD_SIGN;
 
 pub const FIRST_PALATALIZING: usize = IOTATED;
+
+// How many bytes there are, and so entries of a table by byte.
+pub const BYTES: usize = 256;

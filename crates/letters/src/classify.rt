@@ -3,8 +3,10 @@
 ghost use Rattle.std.specs.Prelude.{◌≡◌};
 ghost use Rattle.letters.specs.Classes.{class_of};
 
+use crate::classes::BYTES;
+
 // The class of each byte.
-static CLASSES: [u8; 256] = [
+static CLASSES: [u8; BYTES] = [
     0, // byte 00
     0, // byte 01
     0, // byte 02

@@ -9,10 +9,10 @@ mod pairs;
 // it, a place from which the letters of the word are still to be counted, another before which none
 // of them is a 65th, and the codes and names so far.
 #[derive(Clone, Copy)]
-struct Seen {
-    at: usize,
-    kind: usize,
-    from: usize,
-    limit: usize,
-    sum: usize,
+pub struct Seen {
+    pub at: usize,
+    pub kind: usize,
+    pub from: usize,
+    pub limit: usize,
+    pub sum: usize,
 }

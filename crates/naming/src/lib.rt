@@ -26,9 +26,9 @@ use stress::{LevelRun, levels};
 // far begin, and the run of the levels. The transcriber's walk puts other things at other bytes;
 // what both share is the step of the levels.
 #[derive(Clone, Copy)]
-struct NameState {
-    at: usize,
-    levels: LevelRun,
+pub struct NameState {
+    pub at: usize,
+    pub levels: LevelRun,
 }
 
 // The name of letters left after the last vowel.

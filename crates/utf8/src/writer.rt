@@ -76,6 +76,9 @@ fn write_accepted(m: &[u8], out: &mut [u8]) -> Result<Written, Refusal>
 pub fn write_utf8(m: &[u8], out: &mut [u8]) -> Result<Written, Refusal>
     ensures { WritePromise m.now out.old out.new result }
 {
-    check(m)?;
-    write_accepted(m, out)
+    // Not by `?`: a refusal has an arm of its own, so that a wrong arm is refused for what it says.
+    match check(m) {
+        Ok(_) => write_accepted(m, out),
+        Err(r) => Err(r),
+    }
 }
