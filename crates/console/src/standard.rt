@@ -30,8 +30,8 @@ pub fn read_input<R: Read>(input: &mut R, buffer: &mut [u8]) -> Result<usize, Fa
 
 // Reads the input as far as the buffer goes, and writes the text for it in one piece, where there
 // is any. Answers whether there is. Nothing is written for an input that could not be read.
-// `make_text` makes the text in an array that it is lent, and answers how long the text is; where it
-// says more than the array has, that is all of it.
+// `make_text` makes the text in an array that it is lent, and answers how long the text is; where
+// it says more than the array has, that is all of it.
 // The answer is a bool, since `some` says by it whether there was a text, and programs complain so.
 pub fn print_input<R: Read, W: Write, F: FnOnce(&[u8], &mut [u8; TEXT]) -> usize>(
     input: &mut R,

@@ -11,8 +11,7 @@ use Rattle.spec.specs.Printed.{sign_length, are_digits, is_decimal, digits_from,
 use Rattle.gauge.specs.Reading.{Clipped, Like}
 use Rattle.std.specs.List.{list_all}
 use Rattle.std.specs.Cmp.Lexicographic.{pointwise}
-use Rattle.laws.proofs.{Classes.below_or}
-use Rattle.std.proofs.Common.{Bool, min, take, Option, Some, None, MatchOption, unwrap_or, Bor}
+use Rattle.std.proofs.Common.{Bool, take, Option, Some, None, MatchOption, unwrap_or, Bor}
 
 -- What is behind the sign, which is the first byte where that is 45.
 signed_by : (x : Bool) (b : ℕ) (t : List ℕ) → drop (cond x 1 0) (b ∷ t) ≡ cond (x && true) t (b ∷ t)

@@ -326,7 +326,8 @@ pub record LocatePromise (l : Listener) (buffer : List ℕ) (used n : ℕ) (r : 
   pub inside : end_of r ≤ length buffer
 
 -- What the lookup hands back are the tape's own bytes: in memory they stand in the buffer, from
--- that start on. Where there is none to hand back a place that takes it refers to what it did before.
+-- that start on. Where there is none to hand back a place that takes it refers to what it did
+-- before.
 unfoldable pub stands_after : Located → ℕ × ℕ → ℕ × ℕ → ℕ × ℕ
 stands_after (Ok s) buffer old = (buffer.0, s.start + buffer.1)
 stands_after (Err r) buffer old = old
