@@ -1,5 +1,4 @@
--- The text grows at its end: what is put after other bytes and those bytes together were put at the place of the latter. How long a
--- number, the codes and an answer are in it.
+-- Bytes that are put behind one another in a text, number by number and code by code; how long a number, the codes and an answer are in it.
 use Rattle.laws.proofs.Kit.{ℕ, zero, suc, ◌+◌, ◌-◌, ◌*◌, ◌/◌, ◌%◌, ◌^◌, ◌<◌, ◌≤◌, arith, ◌≡◌, refl, sym, ap, ◌∙◌, ⊎_elim, List, [], ◌∷◌}
 use Rattle.laws.proofs.Kit.{◌++◌, append_assoc, append-nil, length, take, drop, get_or, length-append, length-drop, take_at, drop-cons}
 use Rattle.laws.proofs.Kit.{drop-length, le-leb, lt-leb, lt-ltb, le-ltb}
@@ -13,11 +12,11 @@ use native.Mathlib.Nat.{pow-suc}
 use Rattle.std.proofs.Common.{Err}
 use Rattle.spec.specs.Results.{wrote}
 
--- nothing put leaves the text as it is
+-- A text to which no byte was put is as it was.
 pub put_none : (text : List ℕ) (at : ℕ) → Appended [] text text at at
 put_none text at = record { place = omega arith; bytes = sym (append-nil (take at text)) }
 
--- bytes put after others
+-- Bytes that are put, and others behind them, were put together at the place of the first.
 pub put_over : {a b text text₁ text₂ : List ℕ} {at r s : ℕ} → Appended a text text₁ at r → Appended b text₁ text₂ r s
     → Appended (a ++ b) text text₂ at s
 put_over {a} {b} {text} {text₁} {text₂} {at} p q =
@@ -56,7 +55,7 @@ decimal_size (suc k) n h =
     ⊎_elim (λ g. omega (arith, decimal_longer n (omega arith), decimal_size k (n / 10) (omega arith)))
     (λ g. omega (arith, ap length (decimal_small n (omega arith)))) (below_or 9 n)
 
--- the codes from place i on are the code there and those after it
+-- The text of the codes from place i on is that of the code there and of those after it.
 codes_from_lem : (codes : List ℕ) (i : ℕ) → i < length codes
     → printed_codes (drop i codes) ≡ code_at codes i ++ printed_codes (drop (suc i) codes)
 unfolding printed_codes ascii
@@ -68,12 +67,12 @@ codes_from_lem codes i h = rw (drop-cons codes i 0 h) (by (drop (suc i) codes) (
     by (d ∷ rest) e = rw (lt-ltb (i + 1) (length codes) (omega arith))
         (sym (append_assoc (decimal (get_or codes i 0)) (32 ∷ []) (printed_codes (d ∷ rest))))
 
--- the codes before place i
+-- the text of the codes before place i
 abbrev pub printed_to : List ℕ → ℕ → List ℕ
 printed_to codes zero = []
 printed_to codes (suc i) = printed_to codes i ++ code_at codes i
 
--- codes that are bytes have at most three digits each, and a space
+-- Codes that are bytes have at most three digits each, and a space.
 pub to_size : (codes : List ℕ) → ((i : ℕ) → get_or codes i 0 < 256) → (i : ℕ) → length (printed_to codes i) ≤ 4 * i
 to_size codes h zero = omega arith
 to_size codes h (suc i) =
@@ -82,13 +81,13 @@ to_size codes h (suc i) =
     (λ g. rw (le-ltb (i + 1) (length codes) g) (omega arith)) (below_or (i + 1) (length codes))) in
     omega (arith, length-append (printed_to codes i) (code_at codes i), to_size codes h i)
 
--- with those from there on they are all
+-- The texts of the codes before place i and of those from there on are together that of all codes.
 to_all : (codes : List ℕ) (i : ℕ) → i ≤ length codes → printed_to codes i ++ printed_codes (drop i codes) ≡ printed_codes codes
 to_all codes zero h = refl
 to_all codes (suc i) h = append_assoc (printed_to codes i) (code_at codes i) (printed_codes (drop (suc i) codes))
     ∙ rw (← codes_from_lem codes i h) (to_all codes i (omega arith))
 
--- so at the end
+-- At the end of the codes the text of those before it is that of all.
 pub printed_all : (codes : List ℕ) (i : ℕ) → i ≡ length codes → printed_to codes i ≡ printed_codes codes
 unfolding printed_codes
 printed_all codes i e = rw e (sym (append-nil (printed_to codes (length codes)))

@@ -71,7 +71,7 @@ module _ {t : List ℕ} {i n : ℕ} (r : Reads t i n) (h : i < length t) where
   pub digit_at : (48 ≤ get_or t i 0) × (get_or t i 0 ≤ 57)
   digit_at = digits_at.0
 
-  -- a number that stays clipped with the digit behind it is read one place further
+  -- A number that is clipped with the digit at the place is read one place further.
   reads_to : (k : ℕ) → Clipped k (10 * r.said + (get_or t i 0 - 48)) → Reads t (i + 1) k
   unfolding digits_from
   reads_to k c = record {
@@ -82,14 +82,14 @@ module _ {t : List ℕ} {i n : ℕ} (r : Reads t i n) (h : i < length t) where
     digits = digits_at.1;
   }
 
-  -- while it is in the range it takes the digit,
+  -- A number in the range takes the digit at the place.
   pub reads_more : n < 10000 → Reads t (i + 1) (10 * n + (get_or t i 0 - 48))
   reads_more l = reads_to _ (record {
     same = ⊎_elim (λ e. inl (omega (arith, e))) (λ e. absurd (omega (arith, e.0))) r.clipped.same;
     small = omega (arith, digit_at);
   })
 
-  -- from there on it makes no odds
+  -- A number outside the range stays as it is past the digit.
   pub reads_past : 10000 ≤ n → Reads t (i + 1) n
   reads_past l = reads_to _ (record {
     same = ⊎_elim (λ e. inr (omega arith, omega (arith, e))) (λ e. inr (e.0, omega (arith, e.1))) r.clipped.same;

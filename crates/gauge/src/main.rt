@@ -23,6 +23,7 @@ fn print_input<R: Read, W: Write>(input: &mut R, output: &mut W) -> Result<bool,
     ensures unread { IsErrOf result Failure.Unread
         → W.contents output.new ≡ W.contents output.old }
 {
+    // Handed on by a name, so that the must-fail edit of it is refused for what it says.
     let is_number = standard::print_input(input, output, &mut [0u8; TYPED_MAX + 1], print_level)?;
     Ok(is_number)
 }
