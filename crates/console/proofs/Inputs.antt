@@ -50,6 +50,14 @@ heard n buffer (Some t) (Some rest) h read end =
     (λ (full : length buffer ≤ n). sym (take_at (take n buffer) rest (length buffer) (omega arith)))
     (below_or n (length buffer)))
 
+-- The text that is made in a lent array of what was read is made of that much of the input.
+pub text_made : {F : Type 0} (g : Maker F) (f : F) (P : List ℕ → Type 0) (size : ℕ) (old : Option (List ℕ)) (p : Bor (List ℕ))
+    (lent left : MutBor (List ℕ)) (n : ℕ) → g.post f (p, (lent, tt)) (n, (left, tt))
+    → IfSome old (λ t. p.now ≡ take size t) → P (take n left.now) → IfSome old (λ t. Makes g f (take size t) P)
+text_made g f P size None p lent left n r e h = tt
+text_made g f P size (Some t) p lent left n r e h =
+    record { shown = p; shows = e; lent = lent; left = left; size = n; made = r; met = h }
+
 -- Where no more than so much of any input tells what is printed, the text is what is printed for the input.
 module _ {F : Type 0} (g : Maker F) (f : F) (size : ℕ) (print : List ℕ → List ℕ) (most : ℕ)
     (kept : (n : ℕ) → most < n → (t : List ℕ) → print (take n t) ≡ print t) (more : most < size)
