@@ -1,4 +1,5 @@
--- Bytes that are put behind one another in a text, number by number and code by code; how long a number, the codes and an answer are in it.
+-- Bytes that are put behind one another in a text, number by number and code by code; a number as std prints it; how long a number, the
+-- codes and an answer are in it.
 use Rattle.laws.proofs.Kit.{ℕ, zero, suc, ◌+◌, ◌-◌, ◌*◌, ◌/◌, ◌%◌, ◌^◌, ◌<◌, ◌≤◌, arith, ◌≡◌, refl, sym, ap, ◌∙◌, ⊎_elim, List, [], ◌∷◌}
 use Rattle.laws.proofs.Kit.{◌++◌, append_assoc, append-nil, length, take, drop, get_or, length-append, length-drop, take_at, drop-cons}
 use Rattle.laws.proofs.Kit.{drop-length, le-leb, lt-leb, lt-ltb, le-ltb}
@@ -10,6 +11,8 @@ use Rattle.laws.proofs.{Bounds.tape_small, Classes.below_or}
 use Rattle.console.specs.Putting.{Appended, code_at}
 use native.Mathlib.Nat.{pow-suc}
 use Rattle.std.proofs.Common.{Err}
+use Rattle.std.specs.Fmt.{decimal as std_decimal}
+use Rattle.std.proofs.lemmas.Fmt.{AppendsLastDigit, decimal_from_appends, length-decimal-le_succ}
 use Rattle.spec.specs.Results.{wrote}
 
 -- A text to which no byte was put is as it was.
@@ -24,6 +27,19 @@ put_over {a} {b} {text} {text₁} {text₂} {at} p q =
       place = omega (arith, p.place, q.place, length-append a b);
       bytes = q.bytes ∙ rw p.bytes (append_assoc (take at text) a b);
     }
+
+-- The digits of a number are those of a tenth of it, and the last one,
+appends : AppendsLastDigit last_digits
+unfolding last_digits
+appends = record {
+  one = λ k n h. rw (le-leb n 9 (omega arith)) (ap (λ d. (48 + d) ∷ []) (omega arith));
+  more = λ k n h. rw (lt-leb n 9 h) refl;
+}
+
+-- so a number that a machine word holds is printed as std prints it.
+pub printed_decimal : (n : ℕ) → n < 2 ^ 64 → decimal n ≡ std_decimal n
+unfolding decimal
+printed_decimal n h = decimal_from_appends last_digits appends (suc n) n h (omega (arith, length-decimal-le_succ n h))
 
 -- A number has no more digits than it is large: how many above that are asked for is all one.
 enough : (k j n : ℕ) → n < k → n < j → last_digits k n ≡ last_digits j n
