@@ -50,7 +50,7 @@ heard n buffer (Some t) (Some rest) h read end =
     (λ (full : length buffer ≤ n). sym (take_at (take n buffer) rest (length buffer) (omega arith)))
     (below_or n (length buffer)))
 
--- The text that is made in a lent array of what was read is made of that much of the input.
+-- A text that is made in a lent array, of the first bytes of an input, is what is made of that much of the input.
 pub text_made : {F : Type 0} (g : Maker F) (f : F) (P : List ℕ → Type 0) (size : ℕ) (old : Option (List ℕ)) (p : Bor (List ℕ))
     (lent left : MutBor (List ℕ)) (n : ℕ) → g.post f (p, (lent, tt)) (n, (left, tt))
     → IfSome old (λ t. p.now ≡ take size t) → P (take n left.now) → IfSome old (λ t. Makes g f (take size t) P)

@@ -28,7 +28,7 @@ put_over {a} {b} {text} {text₁} {text₂} {at} p q =
       bytes = q.bytes ∙ rw p.bytes (append_assoc (take at text) a b);
     }
 
--- The digits of a number are those of a tenth of it, and the last one,
+-- The digits of a number are those of a tenth of it with the last digit behind them, as std's are.
 appends : AppendsLastDigit last_digits
 unfolding last_digits
 appends = record {
@@ -36,7 +36,7 @@ appends = record {
   more = λ k n h. rw (lt-leb n 9 h) refl;
 }
 
--- so a number that a machine word holds is printed as std prints it.
+-- A number that a machine word of 64 bits holds is printed as std prints it.
 pub printed_decimal : (n : ℕ) → n < 2 ^ 64 → decimal n ≡ std_decimal n
 unfolding decimal
 printed_decimal n h = decimal_from_appends last_digits appends (suc n) n h (omega (arith, length-decimal-le_succ n h))
